@@ -73,11 +73,15 @@ function stepsOf(turns) {
 
 // The names of a state's tree: of each its kind, node, size and path, and the bytes of a file or link as a text. A tree and its contents
 // are the same in many states.
+const treeOf = memo(tree => lines(tree).map(line => {
+  const [, kind, node, size, path] = /^LS    (\S) (\d+) (\d+) "(.*)"$/.exec(line);
+  return { kind, node: Number(node), size: Number(size), path };
+}));
 const namesOf = memo(key => {
   const [tree, contents] = key.split(' ').map(Number);
-  return lines(tree).map((line, at) => {
-    const [, kind, node, size, path] = /^LS    (\S) (\d+) (\d+) "(.*)"$/.exec(line), content = data.contents[contents][at];
-    return { kind, node: Number(node), size: Number(size), path, content, text: content < 0 ? null : data.texts[content] };
+  return treeOf(tree).map((name, at) => {
+    const content = data.contents[contents][at];
+    return { ...name, content, text: content < 0 ? null : data.texts[content] };
   });
 });
 const names = state => namesOf(rows[state][0] + ' ' + rows[state][1]);

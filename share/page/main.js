@@ -6,23 +6,30 @@ function sayStep() {
   if (!at) return say('The start. Choose the process that makes the first step.');
   const step = prefix[at - 1], { call, answer, bytes } = summary(step, programsAt(prefix, at - 1).get(step.process)), kind = kindOf(linesOf(step));
   const hidden = hiddenOn(step, lastOf(prefix.slice(0, at)));
+  const own = isPastOwn(step) ? `, by a descriptor: ${PAST_OWN}` : '';
   say(`Step ${at}, process ${step.process}: ${call} ${answer}${bytes ? '  ' + bytes : ''}${kind === 'refused' ? ', refused by the sandbox' : ''}`
-    + (hidden.length ? `, hidden from process ${hidden.join(', ')}` : ''));
+    + own + (hidden.length ? `, hidden from process ${hidden.join(', ')}` : ''));
+}
+
+// Draws, and gives the focus back to the element with the same key.
+function keepFocus(draw) {
+  const active = document.activeElement && document.activeElement.dataset ? document.activeElement.dataset.key : null;
+  draw();
+  if (!active || document.activeElement.dataset.key === active) return;
+  const again = document.querySelector(`[data-key="${CSS.escape(active)}"]`) || active.startsWith('next') && document.querySelector('#choices button');
+  if (again) again.focus({ preventScroll: true });
 }
 
 function show(move) {
-  const active = document.activeElement && document.activeElement.dataset ? document.activeElement.dataset.key : null;
-  for (const draw of [drawPrefix, drawKept, drawChoices, drawCards, drawPrograms, drawFiles, drawObservations, drawEnds]) draw();
-  if (move) reveal();
-  by('back').disabled = by('start').disabled = at === 0;
-  by('forward').disabled = at >= prefix.length;
-  for (const id of ['turn', 'play', 'all']) by(id).disabled = !schedule.length;
-  sayStep();
-  remember();
-  if (active && document.activeElement.dataset.key !== active) {
-    const again = document.querySelector(`[data-key="${active}"]`) || active.startsWith('next') && document.querySelector('#choices button');
-    if (again) again.focus({ preventScroll: true });
-  }
+  keepFocus(() => {
+    for (const draw of [drawPrefix, drawKept, drawChoices, drawCards, drawPrograms, drawAsked, drawFiles, drawObservations, drawEnds]) draw();
+    if (move) reveal();
+    by('back').disabled = by('start').disabled = at === 0;
+    by('forward').disabled = at >= prefix.length;
+    for (const id of ['turn', 'play', 'all']) by(id).disabled = !schedule.length;
+    sayStep();
+    remember();
+  });
 }
 
 function typed(event) {
@@ -31,7 +38,7 @@ function typed(event) {
   if (field) { if (event.key === 'Escape') event.target.blur(); return; }
   const digit = /^Digit([1-9])$/.exec(event.code);
   const actions = { ArrowLeft: () => go(at - 1), ArrowRight: () => go(at + 1), Backspace: () => go(at - 1), Home: () => go(0),
-    End: () => go(prefix.length), s: () => { stop(); scheduleStep(); }, p: play, e: scheduleAll, k: keep,
+    End: () => go(prefix.length), Escape: closeAsked, s: () => { stop(); scheduleStep(); }, p: play, e: scheduleAll, k: keep,
     '/': () => by('text').focus(), '?': () => by('keys').showModal() };
   if (digit && event.shiftKey) look(Number(digit[1]));
   else if (digit) makeStep(Number(digit[1]));
@@ -45,11 +52,11 @@ function typed(event) {
 
 function connect() {
   const press = { start: () => go(0), back: () => go(at - 1), forward: () => go(at + 1), turn: () => { stop(); scheduleStep(); }, play,
-    all: scheduleAll, keep, help: () => by('keys').showModal(), swap, drop: keep };
+    all: scheduleAll, keep, help: () => by('keys').showModal(), swap, drop: keep,
+    'asked-close': closeAsked };
   for (const [id, action] of Object.entries(press)) by(id).addEventListener('click', action);
   by('search').addEventListener('submit', search);
   by('filter').addEventListener('input', drawObservations);
-  by('programs').addEventListener('toggle', drawPrograms);
   by('observations').addEventListener('toggle', drawObservations);
   by('ends').addEventListener('toggle', drawEnds);
   document.addEventListener('keydown', typed);
@@ -63,7 +70,11 @@ async function begin() {
   schedule = [...turns()];
   link();
   findEnds();
+  findStays();
+  findTexts();
   findObservations();
+  hasLists = data.exposed.some(one => one.findings.some(({ word }) => word === 'EDIT'));
+  makePrograms();
   by('name').textContent = data.name;
   by('size').textContent = `${data.done}, ${count(ends.length, 'end')}`;
   by('size').classList.toggle('cut', !data.complete);

@@ -1,7 +1,8 @@
 // Observations: which process reads, writes, lists, runs, opens, looks at or names which file on some schedule.
 
 const VERBS = ['reads', 'writes', 'lists', 'runs', 'opens', 'looks at', 'changes the name'];
-let observations = [], observationSets, observedAt, unread = [];
+const WORDS = { reads: 'READ', runs: 'EXEC', writes: 'WRIT', 'changes the name': 'NAME', lists: 'TELL', 'looks at': 'TELL', opens: 'OPEN' };
+let observations = [], accessLines = [], observationSets, observedAt, unread = [], unreadNumbers = [];
 
 // A call that did not fail, or that read a file in vain: its name, its arguments, and what its lines say.
 const callOf = memo(block => {
@@ -60,13 +61,17 @@ function renames(step) {
 
 const place = (step, number, follow) => walk(step.state, directoryOf(step.one.is), step.paths[number] || '', follow);
 
+// The accesses of a step, in the order of `access`: of each also its file, in words. A name that is changed has its path there.
 function accesses(state, one) {
   const call = callOf(one.step);
   if (!call) return [];
-  return ACCESSES[call.name]({ ...call, state, one }).map(access => {
-    const name = access.node === undefined && access.path ? nameAt(state, access.path) : null;
-    return name ? { ...access, node: name.node } : access;
+  const found = ACCESSES[call.name]({ ...call, state, one }).map(access => {
+    const name = access.node === undefined && access.path ? nameAt(state, access.path) : null, node = name ? name.node : access.node;
+    const isName = access.verb === 'changes the name' || node === undefined;
+    return { ...access, node, file: isName ? `"${access.path}"` : brief(access.verb === 'opens' ? one.to : state, node) };
   });
+  const rank = ({ verb }) => Object.values(WORDS).indexOf(WORDS[verb]);
+  return found.length > 1 ? found.sort((one, other) => rank(one) - rank(other)) : found;
 }
 
 // ---- tables that hide a file
@@ -85,41 +90,66 @@ function hides(one, path) {
   return who === 'none' || facts(one.is).unveil.some(line => line.startsWith(`${who}, ----`));
 }
 
-// Those of these processes, of a state, whose tables hide each name of what is accessed.
-function hiddenFrom(state, access, others) {
+// The names of what is accessed, in a state.
+function pathsOf(state, access) {
   const paths = names(state).filter(name => name.node === access.node).map(name => name.path);
-  if (!paths.length && access.path) paths.push(access.path);
-  return paths.length ? others.filter(one => one.to !== -2 && paths.every(path => hides(one, path))).map(one => one.process) : [];
+  return !paths.length && access.path ? [access.path] : paths;
+}
+
+// Those of these processes, of a state, whose tables hide each name of what is accessed, and which have no descriptor of it.
+function hiddenFrom(state, access, others) {
+  const paths = pathsOf(state, access);
+  return paths.length ? others.filter(one => one.to !== -2 && !holds(one, access.node) && paths.every(path => hides(one, path)))
+    .map(one => one.process) : [];
+}
+
+// Whether a process makes an access by a descriptor, and its own table hides each name of the file.
+const BY_DESCRIPTOR = ['read', 'write', 'ftruncate', 'getdents', 'lseek', 'fchdir', 'fstat'];
+function pastOwnTable(state, one, access) {
+  const call = callOf(one.step), paths = pathsOf(state, access);
+  return Boolean(call && BY_DESCRIPTOR.includes(call.name) && paths.length && paths.every(path => hides(one, path)));
 }
 
 // ---- all observations, in the order of the search, each with its first step
 
 function findObservations() {
-  const numbers = new Map(), touched = new Set();
+  const numbers = new Map(), read = new Set(), readNumbers = new Set(), written = new Set(), init = nameAt(0, '/init');
   observedAt = new Map();
   rows.forEach((_, state) => {
     for (const one of live(state)) for (const access of accesses(state, one)) {
-      if (['reads', 'runs'].includes(access.verb)) touched.add(access.node);
+      if (['reads', 'runs'].includes(access.verb)) readNumbers.add(access.node);
+      if (['reads', 'runs'].includes(access.verb) && !isLater(state, access.node)) read.add(access.node);
       observe(numbers, state, one, access);
+      writeAccess(written, state, one, access);
     }
   });
   observationSets = new Sets(observations.length);
   for (const [key, found] of observedAt) for (const number of found) observationSets.add(Number(key.split(' ')[0]), number);
   observationSets.close();
-  const nodes = new Set();
-  const init = nameAt(0, '/init');
-  for (const { kind, node } of names(0)) if ('fx'.includes(kind) && !(init && node === init.node) && !touched.has(node)) nodes.add(node);
-  unread = [...nodes].map(node => nameOf(0, node));
+  const files = [...new Set(names(0).filter(({ kind }) => 'fx'.includes(kind)).map(({ node }) => node))].filter(node => !(init && node === init.node));
+  unread = files.filter(node => !read.has(node)).map(node => nameOf(0, node));
+  unreadNumbers = files.filter(node => !readNumbers.has(node));
+}
+
+// Adds the line that `access` writes for an access, if no earlier step had it.
+function writeAccess(written, state, one, access) {
+  const word = WORDS[access.verb], text = (access.verb === 'opens' ? access.detail + ' ' : '') + access.file, key = `${one.process} ${word} ${text}`;
+  if (written.has(key)) return;
+  written.add(key);
+  accessLines.push({ process: one.process, word, text, file: access.file, state });
 }
 
 function observe(numbers, state, one, access) {
-  const key = [one.process, access.verb, access.path, access.detail].join('\n'), step = `${state} ${one.process}`;
+  const node = access.verb === 'changes the name' ? undefined : access.node, at = access.verb === 'opens' ? one.to : state;
+  const label = fileLabel(access.file, node, node !== undefined && isLater(at, node)), step = `${state} ${one.process}`;
+  const key = [one.process, access.verb, label, access.detail].join('\n');
   if (!numbers.has(key)) {
     numbers.set(key, observations.length);
-    observations.push({ process: one.process, verb: access.verb, path: access.path, detail: access.detail, state, hidden: null });
+    observations.push({ process: one.process, verb: access.verb, label, node, path: access.path, detail: access.detail, state, own: null, hidden: null });
   }
   const number = numbers.get(key), found = observations[number];
   observedAt.set(step, [...observedAt.get(step) || [], number]);
+  if (!found.own && pastOwnTable(state, one, access)) found.own = { state };
   if (found.hidden) return;
   const from = hiddenFrom(state, access, processes(state).filter(other => other.process !== one.process));
   if (from.length) found.hidden = { from, state };
@@ -140,6 +170,6 @@ function ruledOut(step, made) {
 }
 
 const made = steps => new Set(steps.flatMap(observedBy));
-const fileOf = observation => observation.path || 'a file without a name';
+const fileOf = observation => observation.label;
 const observationText = one => `${one.process} ${one.verb} ${fileOf(one)}${one.detail ? ' ' + one.detail : ''}`;
 const witnessOf = (one, state = one.state) => [...prefixTo(state), stepOf(state, one.process)];

@@ -23,7 +23,15 @@ function drawFiles() {
   by('tree').replaceChildren(...names(state).map(name => fileRow(name, may, mayOld, !treeOld.has(nameKey(name)))));
   const paths = new Set(names(state).map(name => `"${name.path}"`));
   by('others').replaceChildren(...one ? lines(one.may).map(rest).filter(line => !paths.has((/^\S{4} (".*?"), (?!.*absent)/.exec(line) || [])[1]))
-    .map(line => make('li', {}, permissions(line.slice(0, 4)), line.slice(5))) : []);
+    .map(line => make('li', {}, permissions(line.slice(0, 4)), ...otherPlace(line.slice(5)))) : []);
+}
+
+// A place without a name in the tree. A file that is only held can be asked about.
+function otherPlace(place) {
+  const node = /^node (\d+)(?=, descriptor)/.exec(place);
+  if (!node) return [place];
+  const label = fileLabel(node[0], Number(node[1]));
+  return [fileButton(label, [Number(node[1])], 'name' + label), place.slice(node[0].length)];
 }
 
 const nameKey = name => `${name.kind} ${name.node} ${name.size} ${name.path} ${name.content}`;
@@ -34,10 +42,11 @@ function fileRow(name, may, mayOld, fresh) {
   const allowed = found ? found.allowed : '', who = found ? found.who : '';
   const changed = fresh || (old ? old.allowed : '') !== allowed;
   const shown = make('span', { class: 'name', title: `${path}, node ${name.node}` },
-    make('span', { class: 'heard' }, path.slice(0, path.lastIndexOf('/') + 1)), last,
+    make('span', { class: 'heard' }, path.slice(0, path.lastIndexOf('/') + 1)), fileButton(last, [name.node], 'name' + path, path),
     kind === 'x' || kind === 'd' ? '' : make('span', { class: 'content' }, ' ' + contentOf(name, 24, false)));
   shown.style.paddingLeft = depth * 14 + 'px';
-  return make('tr', { class: (allowed === '----' && !who.includes('descriptor') ? 'shut' : '') + (changed ? ' new' : '') },
+  return make('tr', { class: (allowed === '----' && !who.includes('descriptor') ? 'shut' : '') + (changed ? ' new' : '')
+    + (asked && asked.nodes.has(name.node) ? ' asked' : '') },
     make('td', {}, permissions(allowed)), make('th', { scope: 'row' }, shown, changed ? make('span', { class: 'heard' }, ', changed') : ''),
     make('td', { class: 'size quiet' }, String(name.size)), make('td', { class: 'by quiet' }, ...who.split(', ').map(part => make('div', {}, part))));
 }

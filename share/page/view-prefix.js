@@ -32,6 +32,13 @@ function hiddenOn(step, last) {
   return [...new Set(found.flatMap(access => hiddenFrom(step.from, access, others)))].sort((one, other) => one - other);
 }
 
+// Whether a step is an access by a descriptor at a place that the process's own table hides.
+function isPastOwn(step) {
+  const one = !step.gone && processes(step.from).find(one => one.process === step.process);
+  return Boolean(one) && accesses(step.from, one).some(access => pastOwnTable(step.from, one, access));
+}
+const PAST_OWN = 'its own table hides the file';
+
 // What a step decides: the ends that are left, and the observations that it rules out.
 function decided(step, before) {
   const notes = step.to >= 0 && !sameEnds(step.from, step.to) ? [text(endsText(step.to))] : [], ruled = ruledOut(step, before);
@@ -46,15 +53,17 @@ function ruledNote(ruled) {
 }
 
 function rowOf(step, k, { programs, before, last }, jump) {
-  const said = linesOf(step), { call, answer, bytes } = summary(step, programs.get(step.process)), hidden = hiddenOn(step, meet(last, step));
+  const said = linesOf(step), { call, answer, bytes } = summary(step, programs.get(step.process));
+  const hidden = hiddenOn(step, meet(last, step)), isOwn = isPastOwn(step);
   const why = said.filter(line => ['PLDG', 'UNVL', 'WHY'].includes(word(line)));
   const button = make('button', { onclick: () => jump(k + 1), 'data-key': 'row' + (k + 1), tabindex: -1 },
     make('span', { class: 'step' }, String(k + 1)),
     make('span', { class: 'call' }, make('span', { class: 'who' }, make('span', { class: 'heard' }, 'process '), String(step.process)),
       said.length && !step.gone ? call : make('span', { class: 'quiet' }, call), answer ? ' ' + answer : '',
       bytes ? make('span', { class: 'bytes' }, '  ' + bytes) : '',
+      isOwn ? make('span', { class: 'note tag' }, ` by a descriptor: ${PAST_OWN}`) : '',
       hidden.length ? make('span', { class: 'note tag' }, ` hidden from ${hidden.join(', ')}`) : '', decided(step, before)));
-  const row = make('li', { class: `lanes ${kindOf(said)}${hidden.length ? 'hidden' : ''}` }, button);
+  const row = make('li', { class: `lanes ${kindOf(said)}${hidden.length || isOwn ? 'hidden' : ''}` }, button);
   if (why.length) {
     row.append(make('ul', { class: 'why' }, ...why.map(line => make('li', {}, make('b', {}, word(line)), rest(line)))));
   }

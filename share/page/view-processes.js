@@ -1,4 +1,4 @@
-// The processes of the current state, and the programs with the lines at which processes are.
+// The processes of the current state.
 
 function permissions(allowed) {
   return make('span', { class: 'may' }, ...[...allowed].map(one => one === '-' ? make('i', {}, '-') : one));
@@ -38,22 +38,51 @@ function reachOf(may) {
       : paths.slice(0, 6).join(' ') + (paths.length > 6 ? ` and ${paths.length - 6} more` : '')));
 }
 
-// The files that a process of this program is not closed to at this line, under some schedule: of each its name, with a link to a witness
-// at the last such line, and the reason. Null if the lines of the program are not known.
-function exposedAt(program, line, process) {
-  const own = program && data.exposed.find(one => one.nodes.includes(program.node));
-  if (!own) return null;
-  return own.files.filter(({ lines }) => lines.some(([from, to]) => from <= line && line <= to)).map(({ file, lines, reason, turns }) => {
-    const last = Math.max(...lines.map(([, to]) => to));
-    return make('span', {}, linkTo(stepsOf(turns), file, `exposed${process} ${file}`),
-      make('span', { class: 'quiet' }, `, ${reason}${last === line ? '' : ` at line ${last}`}`));
-  });
+// ---- the files that a process can read or change by its own calls, or that another could hand it
+
+let hasLists = false;
+const exposedProgram = program => program && data.exposed.find(one => one.nodes.includes(program.node));
+const rangesOf = lines => lines.map(([from, to]) => from === to ? `${from}` : `${from}-${to}`).join(', ');
+const linesLabel = lines => (/\D/.test(rangesOf(lines)) ? 'lines ' : 'line ') + rangesOf(lines);
+
+// A finding of `exposure`, with a link to its witness. The key has the process of the card.
+const findingLink = (finding, label, process) => linkTo(stepsOf(finding.turns), label, `${finding.word} ${process} ${finding.file} witness`);
+
+// One file: the reason of this process at this line and, second, that of a later line.
+function findingRow(process, word, text, reason, finding, line) {
+  const last = finding ? Math.max(...finding.lines.map(([, to]) => to)) : line, link = () => findingLink(finding, `at line ${last}`, process);
+  const later = !finding ? [] : reason === null ? [', on another schedule; ', link(), `: ${finding.reason}`]
+    : last === line ? [] : ['; ', link(), finding.reason === reason ? ' too' : `: ${finding.reason}`];
+  return make('span', {}, fileButton(textLabel(text), nodesOf(text), `${word} ${process} ${text}`),
+    make('span', { class: 'quiet' }, reason === null ? '' : `, ${reason}`, ...later));
 }
 
-function exposedField(program, line, process) {
-  const found = exposedAt(program, line, process);
-  if (!found) return [];
-  return field('exposed', found.length ? found : [data.complete ? 'no file, under any schedule' : 'no file in the visited states']);
+// The rows of one list of a process at its line: the files of this state, then those of other schedules.
+function findingRows(state, one, word, own, line) {
+  const found = new Map();
+  for (const node of filesOf(state)) {
+    const reason = FINDINGS[word](state, one, node), text = brief(state, node);
+    if (reason && !found.has(text)) found.set(text, reason);
+  }
+  const listed = own.findings.filter(finding => finding.word === word), at = text => listed.find(finding => finding.file === text);
+  const other = listed.filter(({ file, lines }) => !found.has(file) && lines.some(([from, to]) => from <= line && line <= to));
+  return [...[...found].map(([text, reason]) => findingRow(one.process, word, text, reason, at(text), line)),
+    ...other.map(finding => findingRow(one.process, word, finding.file, null, finding, line))];
+}
+
+// What `exposure` says of a process: nothing, if its program is not known.
+function exposureFields(state, one, program) {
+  const own = exposedProgram(program), { line } = facts(one.is);
+  if (!own) return [];
+  const none = data.complete ? 'no file, under any schedule' : 'no file in the visited states';
+  const list = (name, word) => field(name, (rows => rows.length || word === 'PEER' ? rows : [none])(findingRows(state, one, word, own, line)));
+  const file = (word, text, ...more) => make('span', {}, fileButton(textLabel(text), nodesOf(text), `${word} ${one.process} ${text}`),
+    make('span', { class: 'quiet' }, ' ', ...more));
+  const reads = own.findings.filter(({ word }) => word === 'READ')
+    .map(finding => file('READ', finding.file, findingLink(finding, `at ${linesLabel(finding.lines)}`, one.process)));
+  const safe = own.safe.map(text => file('SAFE', text, 'at each line'));
+  return [...list('could read', 'LEAK'), ...hasLists ? [...list('peer could', 'PEER'), ...list('could change', 'EDIT'), ...field('reads', reads)] : [],
+    ...field('safe', safe)];
 }
 
 // An ended process that waits to be waited for.
@@ -63,7 +92,7 @@ function endedCard(one, fact, old) {
     make('span', { class: 'quiet' }, `${fact.PROC}${status % 256 ? ', SIGABRT' : `, exit ${status >> 8}`}`)));
 }
 
-function cardOf(one, previous, programs) {
+function cardOf(state, one, previous, programs) {
   const fact = facts(one.is), old = previous ? facts(previous.is) : null, program = programs.get(one.process);
   if (one.to === -2) return endedCard(one, fact, old);
   const title = make('h3', {}, make('b', {}, `Process ${one.process}`), make('code', {}, pathOf(program)),
@@ -74,14 +103,15 @@ function cardOf(one, previous, programs) {
     make('span', { class: 'heard' }, 'Step process '), make('span', { class: 'number' }, String(one.process)),
     make('span', {}, nextOf(fact, program)));
   return make('article', { 'aria-label': `Process ${one.process}` }, title, button, make('dl', {},
-    ...single('promises', 'PLDG', fact.PLDG.replace(/"/g, '') || '(empty)'),
+    ...single('promises', 'PLDG', fact.PLDG === 'none' ? 'not pledged' : fact.PLDG.replace(/"/g, '') || '(empty)'),
     ...fact.EXPR === 'none' && fact.PLDG === 'none' && !fresh('EXPR') ? [] : single('execpromises', 'EXPR', fact.EXPR.replace(/"/g, '') || '(empty)'),
-    ...single('unveil', 'UNVL'), ...fact.unveil.length ? field('', fact.unveil.map(entryOf), fact.unveil.map(value => fresh('unveil', value))) : [],
+    ...single('unveil', 'UNVL', fact.UNVL.replace('none', 'no table')),
+    ...fact.unveil.length ? field('', fact.unveil.map(entryOf), fact.unveil.map(value => fresh('unveil', value))) : [],
     ...field('descriptors', fact.descriptors.map(descriptorLine), fact.descriptors.map(value => fresh('descriptors', value))),
     ...single('directory', 'CWD', plain(fact.CWD)),
+    ...single('registers', 'REGS'), ...fact.BUF === '0' && !fresh('BUF') ? [] : single('buffer', 'BUF', bytesOf(fact.BUF)),
     ...field('can reach', reachOf(one.may)),
-    ...exposedField(program, fact.line, one.process),
-    ...single('registers', 'REGS'), ...fact.BUF === '0' && !fresh('BUF') ? [] : single('buffer', 'BUF', bytesOf(fact.BUF))));
+    ...exposureFields(state, one, program)));
 }
 
 function drawCards() {
@@ -89,21 +119,6 @@ function drawCards() {
   by('state').textContent = state < 0 ? '' : `state ${state} of ${data.rows.length}`;
   if (state < 0) return box.replaceChildren(make('p', { class: 'cut' }, 'This state was left out of the graph.'));
   const old = at && stateAt(prefix, at - 1) >= 0 ? processes(stateAt(prefix, at - 1)) : null, programs = programsAt(prefix, at);
-  box.replaceChildren(...processes(state).map(one => cardOf(one, old && old.find(other => other.process === one.process), programs)));
+  box.replaceChildren(...processes(state).map(one => cardOf(state, one, old && old.find(other => other.process === one.process), programs)));
   if (!processes(state).length) box.replaceChildren(make('p', { class: 'quiet' }, 'No process is left.'));
-}
-
-function drawPrograms() {
-  if (!by('programs').open) return;
-  const state = now(), programs = programsAt(prefix, at), positions = new Map();
-  if (state >= 0) for (const one of live(state)) {
-    const program = programs.get(one.process), key = (program && program.node) + ' ' + facts(one.is).line;
-    positions.set(key, [...positions.get(key) || [], one.process]);
-  }
-  by('programs-text').replaceChildren(...Object.entries(data.programs).flatMap(([node, own]) => [make('p', { class: 'mono' }, own.path),
-    make('pre', { tabindex: 0, 'aria-label': own.path }, ...own.lines.map((line, k) => {
-      const who = positions.get(`${node} ${k + 1}`) || [];
-      return make('span', { class: who.length ? 'line position' : 'line' }, make('span', { class: 'who' }, who.join(' ').padStart(4)),
-        `${String(k + 1).padStart(4)}  ${line}`);
-    }))]));
 }

@@ -1,16 +1,18 @@
 // What every schedule can lead to: the observations and the ends, each with a link to a witness.
 
-// The observations of a process, a verb and a file together, those first that a table hides.
+// The observations of a process, a verb and a file together: those first whose file the process's own table hides, then those whose file
+// another table hides.
 function groups() {
   const found = new Map();
   observations.forEach((one, number) => {
-    const key = [one.process, one.verb, one.path].join('\n');
+    const key = [one.process, one.verb, one.label].join('\n');
     if (!found.has(key)) found.set(key, []);
     found.get(key).push(number);
   });
   const rank = numbers => {
     const one = observations[numbers[0]];
-    return [numbers.some(number => observations[number].hidden) ? 0 : 1, one.process, VERBS.indexOf(one.verb)];
+    return [numbers.some(number => observations[number].own) ? 0 : numbers.some(number => observations[number].hidden) ? 1 : 2, one.process,
+      VERBS.indexOf(one.verb)];
   };
   return [...found.values()].sort((one, other) => {
     const [left, right] = [rank(one), rank(other)], at = left.findIndex((value, k) => value !== right[k]);
@@ -27,7 +29,14 @@ function statusOf(number, seen) {
 function witnessLink(number, seen) {
   const one = observations[number], steps = witnessOf(one), status = statusOf(number, seen);
   return make('li', { class: status === 'ruled out' ? 'shut' : '' }, linkTo(steps, one.detail || 'witness', 'seen' + number),
-    make('span', { class: 'quiet' }, ` ${count(steps.length, 'step')}${status ? ', ' + status : ''}`), one.hidden ? hiddenTag(number) : null);
+    make('span', { class: 'quiet' }, ` ${count(steps.length, 'step')}${status ? ', ' + status : ''}`), one.own ? ownTag(number) : null,
+    one.hidden ? hiddenTag(number) : null);
+}
+
+// That the process's own table hides the file, with a link if the shortest witness of that is another one.
+function ownTag(number) {
+  const one = observations[number], { state } = one.own, said = `by a descriptor: ${PAST_OWN}`;
+  return make('span', { class: 'tag' }, ' ', state === one.state ? said : linkTo(witnessOf(one, state), said, 'own' + number));
 }
 
 // From which processes the file is hidden, with a link if the shortest witness of that is another one.
@@ -38,11 +47,15 @@ function hiddenTag(number) {
 
 function groupOf(numbers, seen) {
   const one = observations[numbers[0]], shown = numbers.slice(0, 12);
-  return make('li', { class: numbers.some(number => observations[number].hidden) ? 'hidden' : '' },
-    make('span', { class: 'who' }, make('span', { class: 'heard' }, 'process '), String(one.process)), ` ${one.verb} `, make('code', {}, fileOf(one)),
+  return make('li', { class: numbers.some(number => observations[number].own || observations[number].hidden) ? 'hidden' : '' },
+    make('span', { class: 'who' }, make('span', { class: 'heard' }, 'process '), String(one.process)), ` ${one.verb} `,
+    make('code', {}, fileButton(fileOf(one), one.node === undefined ? nodesAt(one.path) : [one.node], 'file' + numbers[0])),
     make('ul', {}, ...shown.map(number => witnessLink(number, seen)),
       ...numbers.length > shown.length ? [make('li', { class: 'quiet' }, `and ${numbers.length - shown.length} more`)] : []));
 }
+
+// A file of the first tree. If another file had its path, that is said, too.
+const unreadName = ({ path, node }) => sharedPaths.has(path) ? `the first tree's ${path} (node ${node})` : path;
 
 // What is said in place of the list, or below it.
 function observationsNote(shown, filter) {
@@ -50,7 +63,8 @@ function observationsNote(shown, filter) {
     : 'No visited state has a step that accesses a file. The graph is not complete.';
   if (!shown.length) return `No observation has ‘${filter}’.`;
   if (!data.complete) return 'The graph is not complete: there may be further observations.';
-  return unread.length ? `No schedule reads or runs ${unread.map(name => name.path).join(', ')}.` : 'Some schedule reads or runs each file of the first tree.';
+  if (!unread.length) return 'Some schedule reads or runs each file of the first tree.';
+  return `No schedule ${unread.some(name => name.kind === 'x') ? 'reads or runs' : 'reads'} ${unread.map(unreadName).join(', ')}.`;
 }
 
 function drawObservations() {

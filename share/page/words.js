@@ -15,9 +15,10 @@ const traceOf = steps => steps.flatMap(step => linesOf(step)
   .filter(line => !['TEXT', 'WHY', 'STEP'].includes(word(line)))
   .map(line => `${String(step.process).padStart(5)} ${line}`)).map(line => line + '\n').join('');
 
-// The program of each process after the first steps of a prefix: /init, and after an execve the path and node of the new program.
+// The program of each process after the first steps of a prefix: /init, and after an execve the path and node of the new program. Node 0 is no file:
+// without /init process 1 has an empty program.
 function programsAt(steps, number) {
-  const found = new Map([[1, { path: '/init', node: (nameAt(0, '/init') || {}).node }]]);
+  const found = new Map([[1, { path: '/init', node: (nameAt(0, '/init') || { node: 0 }).node }]]);
   for (const step of steps.slice(0, number)) follow(found, step);
   return found;
 }
@@ -33,10 +34,10 @@ function follow(programs, step) {
 
 const pathOf = program => program ? program.path : '';
 
-// The next instruction of a process: that of the bundle, if it has it, or the call that the state has.
+// The next instruction of a process: that of its source, if it is known, or the call that the state has.
 function nextOf(fact, program) {
   const own = program && data.programs[program.node];
-  return fact.NEXT === 'registers' && own && own.lines.length === fact.of ? own.lines[fact.line - 1] : fact.NEXT;
+  return fact.NEXT === 'registers' && own && own.instructions.length === fact.of ? own.instructions[fact.line - 1] : fact.NEXT;
 }
 
 function bytesOf(value) {

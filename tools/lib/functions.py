@@ -85,6 +85,7 @@ def whole_name(function, kinds):
 
 def leave_out(folder, crate, texts, functions):
     """Leaves out the body and the proof of each function in a copy of the crate."""
+    os.makedirs(f"{folder}/proofs", exist_ok=True)
     for function, whole in functions.items():
         lines = texts[function.path]
         lines[function.opens : function.last - 1] = ["loop {}", *[""] * (function.last - function.opens - 2)]

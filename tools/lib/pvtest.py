@@ -84,7 +84,10 @@ class Checks:
             print(f"{name} FAILED: {fault}", flush=True)
 
     def each(self, check, items):
-        """Runs `check` on every item, in parallel, and counts the pairs of a name and a fault that it yields; an error is a fault too."""
+        """Runs `check` on every item, in parallel, and counts the pairs of a name and a fault that it yields; an error is a fault too. So is an empty list."""
+        items = list(items)
+        if not items:
+            self.expect("a list of cases", "it is empty")
 
         def pairs_of(item):
             pairs = []

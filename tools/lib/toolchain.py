@@ -1,17 +1,23 @@
-"""What `tools/prove` and `tools/mutants` share: the toolchain's `rt`, copies of the crates, and the time that each part takes.
+"""What `tools/prove`, `tools/mutants` and `tools/goals` share: the toolchain's `rt`, copies of the crates, proved libraries, and the time that each part takes.
 
-Both run the toolchain's merge check, `rt ci`, in a copy of the crates without their mutants. `rt ci` keeps what it has proved on this machine, outside the
-checkouts, under a checksum of the toolchain, the crate's sources and the libraries below it, and does not prove it again.
+`tools/prove` runs the toolchain's merge check, `rt ci`, in a copy of the crates, and leaves each proved library under a checksum of what it was made from.
+The two other tools take a library only if it was made from the very sources that they read, by this toolchain.
 """
 import collections
+import contextlib
+import hashlib
 import importlib.machinery
 import importlib.util
 import os
+import re
 import shutil
 import subprocess
+import tarfile
 import threading
 
 TOP = os.path.dirname(os.path.dirname(os.path.dirname(os.path.realpath(__file__))))
+# Where `make test` leaves the proved libraries.
+LIBRARIES = f"{TOP}/bin/libraries"
 # What `rt ci` reads of a crate; tools/mutants adds the folders with mutants.
 PARTS = ("src", "specs", "proofs", "stdin", "stdout", "args", "status", "data")
 
@@ -47,7 +53,12 @@ class Timed(subprocess.Popen):
 
 
 class Watch(threading.Thread):
-    """Samples the processor time of the prover's processes that run in a folder, by crate, and by whether they check its tests."""
+    """Samples the processor time of the prover's processes that run in a folder, by crate, and by whether they check its tests.
+
+    The prover forks copies of itself, which keep its command line. The time of a copy that has ended is in that of its parent. So each second is counted once
+    if the times of the processes that are alive at one moment are added, each with the time of its children that have ended. The sum belongs to the process
+    that no process of the prover started.
+    """
 
     EVERY, TICKS = 0.5, os.sysconf("SC_CLK_TCK")
 
@@ -57,29 +68,43 @@ class Watch(threading.Thread):
 
     def run(self):
         while not self.ended.wait(self.EVERY):
-            for pid in filter(str.isdigit, os.listdir("/proc")):
-                self.sample(pid)
+            self.sample()
 
-    def sample(self, pid):
-        """Notes the time of a process, if it is the prover at work in the folder."""
+    def sample(self):
+        """Notes the time of each process that the prover was started as, with that of its copies."""
+        # (a parent is read before its copies, so that the time of a copy that ends meanwhile is not counted twice)
+        found = {pid: it for pid in sorted(map(int, filter(str.isdigit, os.listdir("/proc")))) if (it := self.process(pid))}
+        total = collections.Counter()
+        for pid, (_, _, _, seconds) in found.items():
+            first = pid
+            while found[first][0] in found:
+                first = found[first][0]
+            total[first] += seconds
+        for pid, seconds in total.items():
+            _, start, of, _ = found[pid]
+            self.last[pid, start] = of, max(seconds, self.last.get((pid, start), (of, 0))[1])
+
+    def process(self, pid):
+        """Returns the parent of a process, the time of its start, its crate with whether it checks the tests, and its seconds; None if it is not the prover at
+        work in the folder."""
         try:
             with open(f"/proc/{pid}/cmdline", "rb") as it:
                 words = it.read().split(b"\0")
             if b"--crate-name" not in words or not os.readlink(f"/proc/{pid}/cwd").startswith(self.folder):
-                return
+                return None
             with open(f"/proc/{pid}/stat", encoding="utf-8") as it:
                 fields = it.read().rpartition(")")[2].split()
         except OSError:
-            return
+            return None
         name = words[words.index(b"--crate-name") + 1].decode()
         # (fields 11 to 14: in user and system mode, of the process and of its children that have ended)
-        self.last[pid, fields[19]] = name, b"--test" in words, sum(map(int, fields[11:15])) / self.TICKS
+        return int(fields[1]), fields[19], (name, b"--test" in words), sum(map(int, fields[11:15])) / self.TICKS
 
     def seconds(self):
         """Returns the seconds of each crate, and of the tests of each."""
         total = collections.Counter()
-        for name, is_tests, used in [*self.last.values()]:
-            total[name, is_tests] += used
+        for of, used in [*self.last.values()]:
+            total[of] += used
         return total
 
 
@@ -136,14 +161,66 @@ def name_build(file):
             it.write(text.replace('const BUILD: &str = "";', f'const BUILD: &str = "commit {commit}{" with changes" * bool(changed)}, proved";'))
 
 
-def add_stamps(crates):
-    """Says beside each library that it was built of these sources, so that the toolchain's other commands take it as it is."""
+def crates_in(folder):
+    """Returns the crates of a repository by their names, the lowest first. The stamp of each is computed once, while the toolchain computes it again for each
+    path to the crate; so nobody may change the sources meanwhile."""
+    crates = rt.rtlib.crates_below(folder)
     for it in crates:
-        with open(f"{os.path.dirname(it.rlib)}/stamp", "w", encoding="utf-8") as stamp:
-            stamp.write(it.stamp())
+        it.stamp = lambda stamp=it.stamp(): stamp
+    return {it.name: it for it in crates}
+
+
+def checksum(crate):
+    """Returns a checksum of what a proof of a crate rests on: the toolchain, the handles, and by the toolchain's stamp the crate's sources and row, and those of
+    the crates below it."""
+    made = hashlib.sha256(crate.stamp().encode())
+    for file in (f"{rt.KIT}/KIT-ID", f"{TOP}/HANDLES"):
+        with open(file, "rb") as it:
+            made.update(repr(it.read()).encode())
+    return made.hexdigest()
+
+
+def library_file(crate, folder):
+    return f"{folder}/{crate.name}-{checksum(crate)}.tar.gz"
+
+
+def put_library(crate, folder):
+    """Leaves a proved library in a folder, in one file, since the toolchain takes no source outside a crate, and packed, since all are some gigabytes. The file
+    appears whole or not at all."""
+    os.makedirs(folder, exist_ok=True)
+    part = f"{folder}/{crate.name}.{os.getpid()}.part"
+    with tarfile.open(part, "w:gz", compresslevel=1) as made:
+        made.add(crate.rlib, os.path.basename(crate.rlib))
+    os.replace(part, library_file(crate, folder))
+
+
+def take_library(crate, folder):
+    """Gives a crate its proved library from a folder, if the library was made from these very sources. Returns whether the crate has it."""
+    out = os.path.dirname(crate.rlib)
+    try:
+        with tarfile.open(library_file(crate, folder)) as made:
+            shutil.rmtree(out, ignore_errors=True)
+            made.extractall(out)
+    except FileNotFoundError:
+        return False
+    # (so the toolchain's other commands take it as it is)
+    with open(f"{out}/stamp", "w", encoding="utf-8") as it:
+        it.write(crate.stamp())
+    return True
+
+
+def remove_libraries(folder, names):
+    """Removes from a folder the libraries of some crates, and of those that are no longer in crates.txt."""
+    known = rows()
+    for it in os.listdir(folder) if os.path.isdir(folder) else []:
+        found = re.fullmatch(r"(\w+)(-[0-9a-f]{64}\.tar\.gz|\.\d+\.part)", it)
+        if found and (found[1] in names or found[1] not in known):
+            with contextlib.suppress(FileNotFoundError):
+                os.remove(f"{folder}/{it}")
 
 
 def must_fail(crate, edit, flags):
     """Returns whether a check of the whole crate refuses an edit, and a line that says so."""
     result, text = rt.must_fail(crate, edit, flags)
-    return result in (rt.REFUSED, rt.AT_LIMIT), text
+    # (newer kits have names for the results in place of a Boolean)
+    return result is True or result in [getattr(rt, it) for it in ("REFUSED", "AT_LIMIT") if hasattr(rt, it)], text

@@ -13,12 +13,8 @@ use Rattle.pv_model.specs.declared.outcome.Taken.{Taken}
 use Rattle.pv_model.specs.declared.promise.Promise.{Promise}
 use Rattle.pv_model.specs.declared.outcome.Outcome.TheVariants.{Value, Text, Failed, Killed, Exited, Blocked, Gone}
 use Rattle.pv_model.specs.declared.place.Place.{Place}
-use Rattle.pv_model.specs.Answers.Access.{Access, reads, executes, writes, changes_name, reports, accesses, accesses_by_open, if_truncated, node_of_descriptor, nodes_executed, nodes_of_places, nodes_read, nodes_reported, nodes_written, places_changed}
-use Rattle.pv_model.specs.Bytes.{Bytes}
-use Rattle.pv_model.specs.Effect.{name_of, node_of}
-use Rattle.pv_model.specs.State.{Process, State}
-use Rattle.pv_model.specs.Step.{Stepped}
-use Rattle.pv_model.specs.Touch.{flags_of, has_succeeded, places}
+use Rattle.pv_model.specs.Machine.{Access, executes, changes_name, accesses, node_of_descriptor, Bytes, name_of, node_of, Process, State, Stepped, flags_of, has_succeeded, places}
+use Rattle.pv_model.specs.Answers.Access.{reads, writes, reports, accesses_by_open, if_truncated, nodes_executed, nodes_of_places, nodes_read, nodes_reported, nodes_written, places_changed}
 use Rattle.pv_access.specs.declared.condition.Condition.{Condition}
 use Rattle.pv_access.specs.declared.condition.Condition.TheVariants.{NoProgram, AnyValue, SomeCount, SomeBytes, Success}
 use Rattle.pv_access.specs.Candidates.{Candidate, accesses_with, candidates_at, candidates_by, holds, name_candidates, node_candidates, open_candidates}

@@ -1,35 +1,11 @@
 -- The files that the texts of a search have no note of.
-use Rattle.std.proofs.Common.{◌≡◌, ◌≢◌, ◌∙◌, ◌⊎◌, inl, inr, sym, ap, ap₂, ℕ, ◌/◌, ◌%◌, Bool, true, false, not, ◌&&◌, ◌||◌, cond, ◌==◌, bytes_eq, List, [], ◌∷◌, ◌++◌, map, filter, codes, Option, refl, arith}
+use Rattle.std.proofs.Common.{◌≡◌, ◌≢◌, ◌∙◌, sym, ap, ap₂, ℕ, Bool, true, false, not, ◌&&◌, cond, ◌==◌, bytes_eq, List, [], ◌∷◌, ◌++◌, filter, codes, Option, refl}
 use Rattle.std.specs.List.{list_any}
-use Rattle.std.proofs.lemmas.Bool.{cases_eq, eq-eqb, ne_eqb}
-use Rattle.pv_explore.specs.Observing.{is_shown}
-use Rattle.pv_laws_trees.proofs.Entries.{bytes_eq-itself, bytes_eq-other}
-use Rattle.pv_model.specs.Bytes.{Bytes}
-use Rattle.pv_model.specs.Calls.Paths.{same_node}
-use Rattle.pv_model.specs.Tree.{Tree, root, find_entry}
-use Rattle.pv_access.specs.Texts.{note}
+use Rattle.pv_reduced.specs.OfExplore.Observing.{is_shown}
+use Rattle.pv_laws_trees.proofs.Entries.{bytes_eq-other}
+use Rattle.pv_model.specs.Machine.{Bytes, same_node, Tree, root, find_entry}
+use Rattle.pv_named_files.specs.Notes.{note}
 use Rattle.pv_access.specs.Unread.{is_without_note, one_if}
-
-abbrev second : Bytes → ℕ
-second (a ∷ b ∷ bs) = b
-second _ = 0
-
-abbrev third : Bytes → ℕ
-third (a ∷ b ∷ c ∷ bs) = c
-third _ = 0
-
-note-same : (n m : ℕ) → note n ≡ note m → m ≡ n
-note-same n m is =
-    let high : n / 256 ≡ m / 256 = ap second is in
-    let low : n % 256 ≡ m % 256 = ap third is in omega (arith, high, low)
-
--- notes are equal exactly if their files are
-pub note-tested : (n m : ℕ) → bytes_eq (note n) (note m) ≡ (m == n)
-note-tested n m = by (cases_eq m n)
-  where
-    by : (m ≡ n) ⊎ (m ≢ n) → bytes_eq (note n) (note m) ≡ (m == n)
-    by (inl same) = ap (λ k. bytes_eq (note n) (note k)) same ∙ bytes_eq-itself (note n) ∙ sym (eq-eqb m n same)
-    by (inr other) = bytes_eq-other (note n) (note m) (λ e. other (note-same n m e)) ∙ sym (ne_eqb m n other)
 
 -- no text that is shown is a note
 shown-other : (n : ℕ) (bs : Bytes) → is_shown bs ≡ true → bs ≢ note n
@@ -40,10 +16,6 @@ note-hidden n bs shown = bytes_eq-other (note n) bs (λ e. shown-other n bs show
 
 pub shown-differs : (n : ℕ) (bs : Bytes) → is_shown bs ≡ true → bytes_eq bs (note n) ≡ false
 shown-differs n bs shown = bytes_eq-other bs (note n) (shown-other n bs shown)
-
-pub notes-any : (n : ℕ) (files : List ℕ) → list_any (bytes_eq (note n)) (map note files) ≡ list_any (λ m. m == n) files
-notes-any n [] = refl
-notes-any n (m ∷ files) = ap₂ (λ a b. a || b) (note-tested n m) (notes-any n files)
 
 -- the first element that passes a test, and the later ones
 pub filter-first : (test : ℕ → Bool) (n : ℕ) (ns : List ℕ) → one_if (test n) n ++ filter test ns ≡ filter test (n ∷ ns)

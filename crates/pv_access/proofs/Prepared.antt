@@ -9,18 +9,8 @@ use Rattle.pv_model.specs.declared.call.Call.TheVariants.{Execve, Open, OpenAt, 
 use Rattle.pv_model.specs.declared.open_flags.OpenFlags.{OpenFlags}
 use Rattle.pv_model.specs.declared.outcome.Outcome.{Outcome}
 use Rattle.pv_model.specs.declared.place.Place.{Place}
-use Rattle.pv_model.specs.Answer.{Answered, answer}
-use Rattle.pv_model.specs.Answers.Access.{Access, reads, executes, writes, changes_name, reports, opens, access_line, accesses, accesses_by_open, node_of_descriptor, node_opened}
-use Rattle.pv_model.specs.Answers.Lines.{AnswerLine}
-use Rattle.pv_model.specs.Answers.Observed.{of_next, of_process}
-use Rattle.pv_model.specs.Bytes.{Bytes}
-use Rattle.pv_model.specs.Effect.{name_of, node_of}
-use Rattle.pv_model.specs.Grammar.Programs.{program_of}
-use Rattle.pv_model.specs.Program.{calls_for, inside, next}
-use Rattle.pv_model.specs.State.{Process, State, process_at}
-use Rattle.pv_model.specs.Step.{Stepped}
-use Rattle.pv_model.specs.Touch.{flags_of, places}
-use Rattle.pv_model.specs.Tree.{Tree}
+use Rattle.pv_model.specs.Machine.{Answered, answer, Access, executes, changes_name, accesses, node_of_descriptor, AnswerLine, of_next, of_process, Bytes, name_of, node_of, program_of, calls_for, inside, next, Process, State, process_at, Stepped, flags_of, places, Tree}
+use Rattle.pv_model.specs.Answers.Access.{reads, writes, reports, opens, access_line, accesses_by_open, node_opened}
 use Rattle.pv_access.specs.declared.condition.Condition.{Condition}
 use Rattle.pv_access.specs.declared.condition.Condition.TheVariants.{NoProgram, AnyValue, SomeCount, SomeBytes, Success}
 use Rattle.pv_access.specs.Candidates.{Candidate, accesses_with, candidates, candidates_at, candidates_by, holds, list_of_two, name_candidates, node_candidates, open_candidates, places_named}

@@ -12,20 +12,13 @@ use Rattle.pv_model.specs.declared.open_flags.OpenFlags.{OpenFlags}
 use Rattle.pv_model.specs.declared.outcome.Outcome.{Outcome}
 use Rattle.pv_model.specs.declared.outcome.Outcome.TheVariants.{Value, Text}
 use Rattle.pv_model.specs.declared.place.Place.{Place}
-use Rattle.pv_model.specs.Answer.{answer, answer_by_attempt, at_next_line, effect}
-use Rattle.pv_model.specs.Answers.Access.{Access, node_of_descriptor, writes, changes_name}
-use Rattle.pv_model.specs.Attempt.{Attempt, done, refused, after_walks, give, demand, refuse_if, ◌>>=◌, ◌>>◌}
-use Rattle.pv_model.specs.Bytes.{Bytes}
-use Rattle.pv_model.specs.Calls.Descriptors.{check_start, contradicts, open_at}
-use Rattle.pv_model.specs.Effect.{Effect, end_of, name_of, node_of}
-use Rattle.pv_model.specs.State.{Process, Program, State, process_at, with_process}
-use Rattle.pv_model.specs.Touch.{has_succeeded, place_found, places}
-use Rattle.pv_model.specs.Walks.{Walk, open_walk, walks_of}
+use Rattle.pv_model.specs.Machine.{answer, answer_by_attempt, at_next_line, effect, Access, node_of_descriptor, changes_name, Attempt, done, refused, after_walks, give, demand, refuse_if, ◌>>=◌, ◌>>◌, Bytes, check_start, contradicts, open_at, Effect, end_of, name_of, node_of, Process, Program, State, process_at, with_process, has_succeeded, place_found, places, Walk, open_walk, walks_of}
+use Rattle.pv_model.specs.Answers.Access.{writes}
 use Rattle.pv_laws_states.proofs.Outcomes.{by_answer}
 use Rattle.pv_access.specs.declared.condition.Condition.{Condition}
 use Rattle.pv_access.specs.declared.condition.Condition.TheVariants.{AnyValue, Success}
 use Rattle.pv_access.specs.Candidates.{accesses_with, candidates, candidates_at, candidates_by, holds, open_candidates, name_candidates, node_candidates, places_begun}
-use Rattle.pv_calls_path.specs.Ends.{end_begun, if_given}
+use Rattle.pv_reduced.specs.OfCallsPath.Ends.{end_begun, if_given}
 use Rattle.pv_access.proofs.Accessed.{with-append, with-by}
 
 abbrev is_done : {A : Type 0} → Attempt A → Bool

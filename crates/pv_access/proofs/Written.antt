@@ -4,31 +4,26 @@ use Rattle.std.specs.Prelude.{filter_map}
 use Rattle.std.specs.List.{cons_option, list_any}
 use Rattle.std.proofs.lemmas.Grind.{flat_map-append}
 use Rattle.std.proofs.lemmas.List.{map-append}
-use Rattle.pv_explore.specs.Observing
-use Rattle.pv_explore.specs.Observing.{is_shown, observation_bytes}
-use Rattle.pv_explore.proofs.Reported.{line-shown}
-use Rattle.pv_laws_classes.specs.Reduced.{reduced_moves_of}
-use Rattle.pv_laws_classes.specs.ReducedAnswers.{reduced_access_lines}
+use Rattle.pv_reduced.specs.OfExplore.Observing
+use Rattle.pv_reduced.specs.OfExplore.Observing.{is_shown, observation_bytes}
+use Rattle.pv_reduced.proofs.OfExplore.Reported.{line-shown}
+use Rattle.pv_reduced.specs.OfLawsClasses.Reduced.{reduced_moves_of}
+use Rattle.pv_reduced.specs.OfLawsClasses.ReducedAnswers.{reduced_access_lines}
 use Rattle.pv_laws_trees.proofs.Entries.{bytes_eq-same}
 use Rattle.pv_model.specs.declared.call.Call.{Call}
-use Rattle.pv_model.specs.Answers.Access.{Access, access_line, access_lines, accesses, file_read, is_unread, lines_of_accesses, unread_line}
-use Rattle.pv_model.specs.Answers.Explore.{Found, Move, by_line, moves_of, new_ones}
-use Rattle.pv_model.specs.Answers.Files.{named_files}
-use Rattle.pv_model.specs.Answers.Lines.{AnswerLine, answer_bytes, answer_line_bytes}
-use Rattle.pv_model.specs.Answers.Observed.{CallObserver, Observation, Observer, observation_lines, observed, of_calls, of_next, of_process}
-use Rattle.pv_model.specs.Bytes.{Bytes}
-use Rattle.pv_model.specs.Grammar.Programs.{program_of}
-use Rattle.pv_model.specs.Program.{Next, inside, calls_for, next}
-use Rattle.pv_model.specs.State.{Process, State, process_at}
-use Rattle.pv_model.specs.Step.{Stepped}
-use Rattle.pv_model.specs.Tree.{Tree}
+use Rattle.pv_model.specs.Machine.{Access, accesses, lines_of_accesses, Found, Move, moves_of, new_ones, named_files, AnswerLine, answer_bytes, answer_line_bytes, Observation, Observer, observed, of_calls, of_next, of_process, Bytes, program_of, Next, inside, calls_for, next, Process, State, process_at, Stepped, Tree}
+use Rattle.pv_model.specs.Answers.Access.{access_line, access_lines, file_read, is_unread, unread_line}
+use Rattle.pv_model.specs.Answers.Explore.{by_line}
+use Rattle.pv_model.specs.Answers.Observed.{CallObserver, observation_lines}
 use Rattle.pv_reduced.specs.declared.kind.SearchKind.{SearchKind}
 use Rattle.pv_reduced.specs.declared.kind.SearchKind.TheVariants.{Full, Reduced}
 use Rattle.pv_reduced.specs.Kinds.{IsSearchedBy, access_lines_by, count_line, found_by_kind, is_complete_by, observed_by}
 use Rattle.pv_reduced.specs.Lines
-use Rattle.pv_access.specs.Texts.{access_texts, note, note_texts, texts_by, texts_of_call}
+use Rattle.pv_named_files.specs.Notes.{note}
+use Rattle.pv_named_files.proofs.Notes.{note-tested}
+use Rattle.pv_access.specs.Texts.{access_texts, note_texts, texts_by, texts_of_call}
 use Rattle.pv_access.specs.Unread.{last_lines, unread_file_line, unread_lines}
-use Rattle.pv_access.proofs.Notes.{note-hidden, note-tested, shown-differs, unread-alike}
+use Rattle.pv_access.proofs.Notes.{note-hidden, shown-differs, unread-alike}
 
 -- ---- the steps of a search
 

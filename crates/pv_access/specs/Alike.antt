@@ -5,21 +5,12 @@ use Rattle.pv_model.specs.declared.call.Call.{Call}
 use Rattle.pv_model.specs.declared.open_flags.OpenFlags.{OpenFlags}
 use Rattle.pv_model.specs.declared.outcome.Outcome.{Outcome}
 use Rattle.pv_model.specs.declared.outcome.Outcome.TheVariants.{Value}
-use Rattle.pv_model.specs.Answers.Access.{Access, accesses, accesses_by_open, node_opened, access_line, reads, executes, writes, changes_name, reports, nodes_read, nodes_executed, nodes_written, nodes_reported, places_changed, opens}
-use Rattle.pv_model.specs.Answers.Observed.{of_process, of_next}
-use Rattle.pv_model.specs.Effect.{name_of, open_file}
-use Rattle.pv_model.specs.Numbered.{Numbered}
-use Rattle.pv_model.specs.Program.{Next, inside, calls_for, next}
-use Rattle.pv_model.specs.State.{OpenFile, Process, State, process_at}
-use Rattle.pv_model.specs.Step.{Stepped, step}
-use Rattle.pv_model.specs.Touch.{flags_of, has_succeeded}
-use Rattle.pv_model.specs.Tree.{Tree}
-use Rattle.pv_model.specs.Trace.{Line}
+use Rattle.pv_model.specs.Machine.{Access, accesses, executes, changes_name, of_process, of_next, name_of, open_file, Numbered, Next, inside, calls_for, next, OpenFile, Process, State, process_at, Stepped, step, flags_of, has_succeeded, Tree, Line, program_of}
+use Rattle.pv_model.specs.Answers.Access.{accesses_by_open, node_opened, access_line, reads, writes, reports, nodes_read, nodes_executed, nodes_written, nodes_reported, places_changed, opens}
 use Rattle.pv_laws_steps.proofs.SeenSteps.{steps-by_seen}
-use Rattle.pv_laws_steps.specs.Seen.{seen, with_insides, StepsBesideAll}
-use Rattle.pv_model.specs.Grammar.Programs.{program_of}
-use Rattle.pv_explore.proofs.SeenProcess.{found-inside, process-seen}
-use Rattle.pv_step_cache.specs.Cached.{DependsOnSeen}
+use Rattle.pv_reduced.specs.OfLawsSteps.Seen.{seen, with_insides, StepsBesideAll}
+use Rattle.pv_reduced.specs.SeenProcess.{found-inside, process-seen}
+use Rattle.pv_named_files.specs.OfStepCache.Cached.{DependsOnSeen}
 use Rattle.pv_access.specs.Texts.{access_texts, texts_by, texts_of_call}
 
 -- ---- the accesses

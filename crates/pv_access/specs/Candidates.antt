@@ -8,12 +8,9 @@ use Rattle.pv_model.specs.declared.open_flags.OpenFlags.{OpenFlags}
 use Rattle.pv_model.specs.declared.outcome.Outcome.{Outcome}
 use Rattle.pv_model.specs.declared.outcome.Outcome.TheVariants.{Value, Text, Failed}
 use Rattle.pv_model.specs.declared.place.Place.{Place}
-use Rattle.pv_model.specs.Answers.Access.{Access, reads, executes, writes, changes_name, reports, node_of_descriptor}
-use Rattle.pv_model.specs.Effect.{node_of, name_of}
-use Rattle.pv_model.specs.State.{Process, State}
-use Rattle.pv_model.specs.Touch.{has_succeeded}
-use Rattle.pv_model.specs.Walks.{walks_of}
-use Rattle.pv_calls_path.specs.Ends.{end_begun}
+use Rattle.pv_model.specs.Machine.{Access, executes, changes_name, node_of_descriptor, node_of, name_of, Process, State, has_succeeded, walks_of}
+use Rattle.pv_model.specs.Answers.Access.{reads, writes, reports}
+use Rattle.pv_reduced.specs.OfCallsPath.Ends.{end_begun}
 use Rattle.pv_access.specs.declared.condition.Condition.{Condition}
 use Rattle.pv_access.specs.declared.condition.Condition.TheVariants.{NoProgram, AnyValue, SomeCount, SomeBytes, Success}
 

@@ -1,28 +1,17 @@
 -- The accesses of a step as texts: the line of each, and before the line of a READ or EXEC a note of the file.
-use Rattle.std.specs.Prelude.{ℕ, ◌/◌, ◌%◌, ◌==◌, Bool, true, false, not, List, [], ◌∷◌, ◌++◌, map, filter, flat_map, codes, Option, None, Some, is_some}
+use Rattle.std.specs.Prelude.{ℕ, ◌==◌, Bool, false, List, [], ◌∷◌, ◌++◌, map, filter, flat_map, codes, Option, None, Some}
 use Rattle.std.specs.Global.{Vec}
-use Rattle.pv_model.specs.declared.call.Call.{Call}
-use Rattle.pv_model.specs.declared.open_flags.Mode.{Mode}
 use Rattle.pv_model.specs.declared.outcome.Outcome.{Outcome}
-use Rattle.pv_model.specs.Answers.Access.{Access, reads, executes, writes, changes_name, reports, opens, accesses, access_line, file_read}
-use Rattle.pv_model.specs.Answers.Files.{node_brief}
-use Rattle.pv_model.specs.Answers.Lines.{AnswerLine, answer_line, answer_line_bytes}
+use Rattle.pv_model.specs.Machine.{Access, executes, changes_name, accesses, node_brief, AnswerLine, answer_line, answer_line_bytes, Observer, of_calls, Bytes, mode_text, Tree}
+use Rattle.pv_model.specs.Answers.Access.{reads, writes, reports, opens, access_line, file_read}
 use Rattle.pv_model.specs.Answers.Nodes.{name_words}
-use Rattle.pv_model.specs.Answers.Observed.{CallObserver, Observer, of_calls}
-use Rattle.pv_model.specs.Bytes.{Bytes}
-use Rattle.pv_model.specs.State.{Process, State}
-use Rattle.pv_model.specs.Step.{Stepped}
-use Rattle.pv_model.specs.Trace.{mode_text}
-use Rattle.pv_model.specs.Tree.{Tree}
+use Rattle.pv_model.specs.Answers.Observed.{CallObserver}
+use Rattle.pv_named_files.specs.Notes.{note}
 use Rattle.pv_access.specs.declared.condition.Condition.{Condition}
 use Rattle.pv_access.specs.declared.word.NodeWord.{NodeWord}
 use Rattle.pv_access.specs.declared.word.NodeWord.TheVariants.{Read, Execute, Write, Report}
 use Rattle.pv_access.specs.declared.candidate.Candidate.{Candidate as Prepared}
 use Rattle.pv_access.specs.Candidates.{Candidate, holds}
-
--- a note of a file that was read or executed; no line begins with byte 0
-abbrev pub note : ℕ → Bytes
-note n = 0 ∷ n / 256 ∷ n % 256 ∷ []
 
 abbrev pub is_note : Bytes → Bool
 is_note [] = false

@@ -1,37 +1,16 @@
 -- The files of a tree whose bytes no step of a search depends on, and the last lines of `access`.
-use Rattle.std.specs.Prelude.{ℕ, zero, suc, Bool, not, ◌&&◌, ◌==◌, if◌then◌else◌, List, [], ◌∷◌, ◌++◌, length, map, flat_map, filter, bytes_eq, codes}
+use Rattle.std.specs.Prelude.{ℕ, Bool, not, ◌&&◌, if◌then◌else◌, List, [], ◌∷◌, ◌++◌, map, filter, bytes_eq, codes}
 use Rattle.std.specs.List.{list_any}
-use Rattle.pv_model.specs.Answers.Files.{is_file_at, named_files, node_brief}
-use Rattle.pv_model.specs.Answers.Lines.{AnswerLine, answer_line}
-use Rattle.pv_model.specs.Bytes.{Bytes}
-use Rattle.pv_model.specs.Calls.Paths.{same_node}
-use Rattle.pv_model.specs.Tree.{Tree, root, entries_at, find_entry}
+use Rattle.pv_model.specs.Machine.{named_files, node_brief, AnswerLine, answer_line, Bytes, same_node, Tree, root, find_entry}
 use Rattle.pv_reduced.specs.declared.kind.SearchKind.{SearchKind}
 use Rattle.pv_reduced.specs.Kinds.{count_line}
-use Rattle.pv_access.specs.Texts.{note}
+use Rattle.pv_named_files.specs.Notes.{note}
 
 -- a list with the number if the condition holds, and the empty list otherwise
 abbrev pub one_if : Bool → ℕ → List ℕ
 one_if b n = if b then n ∷ [] else []
 
 module _ (t : Tree) where
-  -- the nodes of the names from a node downwards, to a depth, in the order of the listing
-  abbrev pub nodes_within : ℕ → ℕ → List ℕ
-  nodes_within zero n = []
-  nodes_within (suc depth) n = n ∷ flat_map (λ e. nodes_within depth e.1) (entries_at t n)
-
-  -- the nodes of all names
-  abbrev pub listed_nodes : List ℕ
-  listed_nodes = nodes_within (length t.nodes) root
-
-  -- the files with a node appended, if it is a file and new
-  abbrev pub with_file : List ℕ → ℕ → List ℕ
-  with_file files n = if is_file_at t n && not (list_any (λ m. m == n) files) then files ++ n ∷ [] else files
-
-  abbrev pub with_files : List ℕ → List ℕ → List ℕ
-  with_files files [] = files
-  with_files files (n ∷ ns) = with_files (with_file files n) ns
-
   -- whether a file is not the one at `/init`, and the texts have no note of it
   abbrev pub is_without_note : List Bytes → ℕ → Bool
   is_without_note texts n = not (same_node (find_entry t root (codes "init")) n) && not (list_any (bytes_eq (note n)) texts)

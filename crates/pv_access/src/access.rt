@@ -1,16 +1,16 @@
 //! The accesses of all schedules.
 ghost use Rattle.std.specs.Prelude.{◌≡◌, ◌≤◌, IfOk};
 ghost use Rattle.pv_access.specs.Unread.{last_lines};
-ghost use Rattle.pv_model.specs.Answers.Lines.{answer_bytes};
+ghost use Rattle.pv_model.specs.Machine.{answer_bytes};
 ghost use Rattle.pv_reduced.specs.Kinds.{access_lines_by, is_complete_by};
-ghost use Rattle.pv_session.specs.Running.{FailsBy};
+ghost use Rattle.pv_reduced.specs.OfSession.Running.{FailsBy};
 ghost use Rattle.pv_streams.specs.Sinks.{Writes, WritesOr};
 
 use crate::observer::AccessObserver;
 use crate::unread::write_unread;
-use pv_explore::{FirstMachine, Progress, Searched};
 use pv_reduced::SearchKind;
-use pv_session::Stop;
+use pv_reduced::explore_crate::{FirstMachine, Progress, Searched};
+use pv_reduced::session::Stop;
 use pv_streams::Sink;
 use pv_tree::Tree;
 use std::alloc::Global;

@@ -1,16 +1,15 @@
 //! An access that a call may have, prepared before the call.
 ghost use Rattle.std.specs.Prelude.{◌≡◌, ◌++◌, ◌∷◌, [], codes, IfOk, OnOk};
-ghost use Rattle.pv_model.specs.Answers.Access.{changes_name};
-ghost use Rattle.pv_model.specs.Answers.Lines.{answer_line, answer_line_bytes};
-ghost use Rattle.pv_model.specs.Answers.Files.{node_brief};
+ghost use Rattle.pv_model.specs.Machine.{changes_name, answer_line, answer_line_bytes, node_brief};
 ghost use Rattle.pv_model.specs.Answers.Nodes.{name_words};
-ghost use Rattle.pv_access.specs.Texts.{access_at, all_prepared, line_in, note, prepared, texts_by, texts_in, texts_with, word_letters};
+ghost use Rattle.pv_access.specs.Texts.{access_at, all_prepared, line_in, prepared, texts_by, texts_in, texts_with, word_letters};
 ghost use Rattle.pv_access.specs.declared.condition.Condition.TheVariants.{Success};
 
 use crate::condition::Condition;
 use crate::word::NodeWord;
-use pv_answers::{Line, NameWords, NodeBrief, text_of};
 use pv_model::Outcome;
+use pv_named_files::note_of;
+use pv_reduced::answers::{Line, NameWords, NodeBrief, text_of};
 use pv_tree::Tree;
 use std::alloc::{AllocError, Global};
 
@@ -23,21 +22,6 @@ pub(crate) struct Candidate {
     pub(crate) noted: Option<u16>,
     /// The line of the access.
     pub(crate) line: Vec<u8>,
-}
-
-/// Returns the note of a file.
-///
-/// # Errors
-///
-/// `AllocError`, if there is no memory.
-pub(crate) fn note_of(alloc: Global, node: u16) -> Result<Vec<u8>, AllocError>
-    ensures { IfOk result (λ bytes. bytes.items ≡ note node) }
-{
-    let mut bytes = Vec::new(alloc);
-    bytes.push(0)?;
-    bytes.push((node / 256) as u8)?;
-    bytes.push((node % 256) as u8)?;
-    Ok(bytes)
 }
 
 // Returns the line of an access to a node.

@@ -1,10 +1,8 @@
 //! The accesses that a call may have.
 ghost use Rattle.std.specs.Prelude.{◌≡◌, ◌++◌, IfOk, IsSome, OnOk, Some, option_and_then, option_to_list};
 ghost use Rattle.pv_laws_states.specs.States.{IsValid};
-ghost use Rattle.pv_model.specs.Answers.Access.{executes, reads};
-ghost use Rattle.pv_model.specs.CallRef.{call_of};
-ghost use Rattle.pv_model.specs.Effect.{node_of};
-ghost use Rattle.pv_model.specs.State.{Process, process_at};
+ghost use Rattle.pv_model.specs.Machine.{executes, call_of, node_of, Process, process_at};
+ghost use Rattle.pv_model.specs.Answers.Access.{reads};
 ghost use Rattle.pv_access.specs.Candidates.{candidates, candidates_at, candidates_by, list_of_two, name_candidates, node_candidates, open_candidates};
 ghost use Rattle.pv_access.specs.Texts.{access_at, all_prepared, with_texts};
 ghost use Rattle.pv_access.specs.declared.condition.Condition.TheVariants.{AnyValue, NoProgram};
@@ -13,8 +11,8 @@ use crate::candidate::{Candidate, push_name, push_node};
 use crate::condition::Condition;
 use crate::ends::{Ends, ends_of, file_of};
 use crate::word::NodeWord;
-use pv_calls_state::Parts;
 use pv_model::{CallRef, OpenFlags, Place};
+use pv_reduced::calls_state::Parts;
 use pv_tree::Tree;
 use std::alloc::{AllocError, Global};
 

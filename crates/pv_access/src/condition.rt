@@ -5,7 +5,7 @@ ghost use Rattle.pv_access.specs.Candidates.{holds};
 use pv_model::{Errno, Outcome};
 
 /// A condition on the outcome of a call, under which the call has an access.
-#[derive(Clone, Copy, Debug, PartialEq, Eq)]
+#[derive(Clone, Copy)]
 pub(crate) enum Condition {
     /// An execve(2) found a file that is not a program.
     NoProgram,

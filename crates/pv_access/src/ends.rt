@@ -1,16 +1,13 @@
 //! The file of a call's descriptor, and the places that its walks find.
 ghost use Rattle.std.specs.Prelude.{◌≡◌, IsSome, Some, option_map, option_to_list};
 ghost use Rattle.pv_laws_states.specs.States.{IsValid};
-ghost use Rattle.pv_model.specs.Answers.Access.{node_of_descriptor};
-ghost use Rattle.pv_model.specs.CallRef.{call_of};
-ghost use Rattle.pv_model.specs.Effect.{open_file};
-ghost use Rattle.pv_model.specs.State.{Process, process_at};
+ghost use Rattle.pv_model.specs.Machine.{node_of_descriptor, call_of, open_file, Process, process_at};
 ghost use Rattle.pv_access.specs.Candidates.{list_of_two, places_begun};
 
-use pv_calls_path::ends::end_of;
-use pv_calls_plain::descriptors::open_file;
-use pv_calls_state::Parts;
 use pv_model::{CallRef, Place, Walks};
+use pv_reduced::calls_path::ends::end_of;
+use pv_reduced::calls_plain::descriptors::open_file;
+use pv_reduced::calls_state::Parts;
 
 /// Returns the node of a descriptor of a live process, if the descriptor is open.
 pub(crate) fn node_at_descriptor(parts: &Parts, pid: u32, d: i32) -> Option<u16>

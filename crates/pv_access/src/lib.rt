@@ -5,7 +5,7 @@
 //! finds the nodes and places of a call, `candidate` has a prepared access, and `word` has the words of lines.
 //!
 //! `access` writes the accesses of all schedules, which the search of `pv_explore` observes (`observer`). It then writes
-//! the files of the first tree (`files`) that no step reads or executes (`unread`).
+//! the files of the first tree that no step reads or executes (`unread`).
 #![tactic(auto)]
 
 mod access;
@@ -13,12 +13,10 @@ mod candidate;
 mod candidates;
 mod condition;
 mod ends;
-mod files;
 mod observer;
 mod step;
 mod unread;
 mod word;
 
 pub use access::write_access;
-pub use files::{is_file, named_files};
 pub use step::step_with_accesses;

@@ -2,9 +2,9 @@
 ghost use Rattle.std.specs.Prelude.{◌≡◌, IfOk, OnOk};
 
 use crate::step::step_with_accesses;
-use pv_explore::Observer;
 use pv_model::StepFault;
-use pv_session::Session;
+use pv_reduced::explore_crate::Observer;
+use pv_reduced::session::Session;
 use std::alloc::Global;
 
 /// An observer of the accesses of each step: the line of each access, and a note of each file that is read or executed.

@@ -2,24 +2,20 @@
 ghost use Rattle.std.specs.Prelude.{◌≡◌, ◌++◌, flat_map, IfOk, IsSome, IsTrue, OnOk, Some, option_map, option_to_list, pos};
 ghost use Rattle.pv_laws_states.specs.States.{IsValid, is_call};
 ghost use Rattle.pv_model.specs.Answers.Access.{accesses_by_open, node_opened, opens};
-ghost use Rattle.pv_model.specs.Answers.Lines.{answer_line_bytes};
-ghost use Rattle.pv_model.specs.CallRef.{call_of};
-ghost use Rattle.pv_model.specs.Effect.{open_file};
-ghost use Rattle.pv_model.specs.State.{Process, process_at};
-ghost use Rattle.pv_model.specs.Touch.{flags_of};
-ghost use Rattle.pv_procs.specs.Turns.{CallsNext};
-ghost use Rattle.pv_session.specs.Running.{stepped};
+ghost use Rattle.pv_model.specs.Machine.{answer_line_bytes, call_of, open_file, Process, process_at, flags_of};
+ghost use Rattle.pv_reduced.specs.OfProcs.Turns.{CallsNext};
+ghost use Rattle.pv_reduced.specs.OfSession.Running.{stepped};
 ghost use Rattle.pv_access.specs.Texts.{access_texts, line_in, texts_by, texts_in};
 
 use crate::candidate::texts_of;
 use crate::candidates::candidates_of;
 use crate::ends::node_at_descriptor;
-use pv_answers::{Line, ModeLetters, NodeBrief, Plain, text_of};
-use pv_calls_state::Parts;
 use pv_model::{CallRef, Mode, Outcome, StepFault};
-use pv_procs::Fetched;
+use pv_reduced::answers::{Line, ModeLetters, NodeBrief, Plain, text_of};
+use pv_reduced::calls_state::Parts;
+use pv_reduced::procs::Fetched;
+use pv_reduced::session::Session;
 use pv_script::CallTexts;
-use pv_session::Session;
 use pv_tree::Tree;
 use std::alloc::{AllocError, Global};
 

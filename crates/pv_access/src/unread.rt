@@ -1,19 +1,16 @@
 //! The files that no step of a search reads or executes.
 ghost use Rattle.std.specs.Prelude.{◌≡◌, ◌++◌, ◌∷◌, [], codes, filter, map, IfOk, OnOk};
 ghost use Rattle.pv_access.specs.Unread.{files_without_note, is_without_note, one_if, unread_file_line, unread_lines};
-ghost use Rattle.pv_model.specs.Answers.Files.{named_files};
-ghost use Rattle.pv_model.specs.Answers.Lines.{answer_bytes, answer_line_bytes};
-ghost use Rattle.pv_model.specs.Tree.{find_entry, root};
-ghost use Rattle.pv_session.specs.Running.{FailsBy};
+ghost use Rattle.pv_model.specs.Machine.{named_files, answer_bytes, answer_line_bytes, find_entry, root};
+ghost use Rattle.pv_reduced.specs.OfSession.Running.{FailsBy};
 ghost use Rattle.pv_streams.specs.Sinks.{Writes, WritesOr};
 
-use crate::candidate::note_of;
-use crate::files::named_files;
 use crate::word::NodeBrief;
-use pv_answers::{Fragment, Line};
-use pv_explore::Searched;
 use pv_model::limits::ROOT;
-use pv_session::Stop;
+use pv_named_files::{named_files, note_of};
+use pv_reduced::answers::{Fragment, Line};
+use pv_reduced::explore_crate::Searched;
+use pv_reduced::session::Stop;
 use pv_streams::{Failed, Sink};
 use pv_tree::Tree;
 use std::alloc::{AllocError, Global};

@@ -2,10 +2,10 @@
 ghost use Rattle.std.specs.Prelude.{◌≡◌};
 ghost use Rattle.pv_access.specs.Texts.{note_if, word_letters};
 
-pub(crate) use pv_answers::NodeBrief;
+pub(crate) use pv_reduced::answers::NodeBrief;
 
 /// The word of an access to a node.
-#[derive(Clone, Copy, Debug, PartialEq, Eq)]
+#[derive(Clone, Copy)]
 pub(crate) enum NodeWord {
     /// READ: the bytes of the file are read.
     Read,

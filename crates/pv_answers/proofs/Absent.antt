@@ -13,17 +13,13 @@ use Rattle.pv_model.specs.declared.perms.Perms.{Perms}
 use Rattle.pv_model.specs.declared.target.Target.{Target}
 use Rattle.pv_model.specs.declared.target.Target.TheVariants.{Directory, Name}
 use Rattle.pv_model.specs.declared.place.Place.TheVariants.{At}
-use Rattle.pv_model.specs.Answers.Lines.{counted_from, permissions_in_places}
+use Rattle.pv_model.specs.Machine.{counted_from, permissions_in_places, Bytes, entries_of_table, Tree, Table, directory_rights, entry_for, governing_entry, same_target}
 use Rattle.pv_model.specs.Answers.Nodes.{name_words}
 use Rattle.pv_model.specs.Answers.Reach.{absent_text, entry_texts, is_absent}
-use Rattle.pv_model.specs.Bytes.{Bytes}
-use Rattle.pv_model.specs.Calls.Restraints.{entries_of_table}
-use Rattle.pv_model.specs.Tree.{Tree}
-use Rattle.pv_model.specs.Unveil.{Table, directory_rights, entry_for, governing_entry, same_target}
 use Rattle.pv_answers.specs.declared.reach.reacher.Reacher.{Reacher}
 use Rattle.pv_answers.specs.Reaching.{absent_line, absent_words, is_absent_in, may_line, may_lines, permitted_by, process_of, state_of, table_of}
 use Rattle.pv_answers.proofs.Permitted.{letters-are}
-use Rattle.pv_laws_trees.proofs.Targets.{same_target-itself}
+use Rattle.pv_calls_state.proofs.OfLawsTrees.Targets.{same_target-itself}
 
 -- ---- one entry at a time
 

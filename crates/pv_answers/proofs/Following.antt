@@ -6,9 +6,9 @@ use Rattle.std.specs.FinMap.Entries.{find, is_sorted, below_all}
 use Rattle.std.specs.List.{list_all}
 use Rattle.std.specs.Ordering.{nat_cmp, is_lt}
 use Rattle.std.proofs.lemmas.Bool.{and_parts, eq-eqb, ne_eqb, le-ltb, lt-ltb, ltb-true, ltb-false, leb-true}
-use Rattle.pv_model.specs.State.{ProcessRecord}
-use Rattle.pv_procs.specs.ProcessTable.{number_after}
-use Rattle.pv_procs.proofs.Forks.{number-less}
+use Rattle.pv_model.specs.Machine.{ProcessRecord}
+use Rattle.pv_calls_state.specs.OfProcs.ProcessTable.{number_after}
+use Rattle.pv_calls_state.proofs.OfProcs.Forks.{number-less}
 
 abbrev pub Recorded : Type 0
 Recorded = ℕ × ProcessRecord

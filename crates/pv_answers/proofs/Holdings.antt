@@ -3,17 +3,12 @@ use Rattle.std.proofs.Common.{◌≡◌, ℕ, zero, suc, ◌+◌, ◌<◌, ◌�
 use Rattle.std.specs.List.{cons_option}
 use Rattle.std.proofs.lemmas.Grind.{flat_map-append}
 use Rattle.std.proofs.lemmas.List.{drop_all}
-use Rattle.pv_model.specs.Answers.Lines.{AnswerLine, answer_bytes, answer_line, answer_line_bytes, counted_from}
+use Rattle.pv_model.specs.Machine.{AnswerLine, answer_bytes, answer_line, answer_line_bytes, counted_from, Bytes, entries_of_table, Numbered, at_number, numbered_from, Descriptor, Process, ProcessRecord as Record, live, ended_record, live_process, State, Table}
 use Rattle.pv_model.specs.Answers.ProcessRecord.{OpenDescriptor, descriptor_text, entry_text, holding_lines, open_descriptor}
-use Rattle.pv_model.specs.Bytes.{Bytes}
-use Rattle.pv_model.specs.Calls.Restraints.{entries_of_table}
-use Rattle.pv_model.specs.Numbered.{Numbered, at_number, numbered_from}
-use Rattle.pv_model.specs.State.{Descriptor, Process, ProcessRecord as Record, live, ended_record, live_process, State}
-use Rattle.pv_model.specs.Unveil.{Table}
 use Rattle.pv_listing.proofs.Rests.{LeavesRest, written_text}
 use Rattle.pv_streams.specs.Sinks.{and_all}
-use Rattle.pv_procs.specs.declared.record.ProcessRecord.{ProcessRecord}
-use Rattle.pv_procs.specs.Parts.{record_of}
+use Rattle.pv_calls_state.specs.OfProcs.declared.record.ProcessRecord.{ProcessRecord}
+use Rattle.pv_calls_state.specs.OfProcs.Parts.{record_of}
 use Rattle.pv_answers.specs.Holdings.{descriptor_line, descriptor_line_of, descriptor_lines, entry_line, entry_line_of, entry_lines, held_of, memory_bytes, open_line_of, restraint_bytes}
 
 module _ (s : State) (pid : ℕ) where

@@ -6,11 +6,7 @@ use Rattle.std.proofs.lemmas.Grind.{flat_map-append}
 use Rattle.std.proofs.lemmas.List.{drop_all, drop_more}
 use Rattle.pv_model.specs.declared.promise.Promise.{Promise}
 use Rattle.pv_model.specs.declared.promise.Promise.TheVariants.{Stdio, Rpath, Wpath, Cpath, Proc, Exec, Unveil, Error, Dpath, Fattr, Chown, Flock, Unix, Inet, Mcast, Dns, Getpw, Sendfd, Recvfd, Tape, Tty, ProtExec, Settime, Ps, Vminfo, Id, Pf, Route, Wroute, Audio, Video, Bpf}
-use Rattle.pv_model.specs.Answers.Lines.{spaced}
-use Rattle.pv_model.specs.Bytes.{Bytes}
-use Rattle.pv_model.specs.Promise.{promise_name}
-use Rattle.pv_model.specs.Promises.{Promises, contains}
-use Rattle.pv_model.specs.Trace.{quote_byte}
+use Rattle.pv_model.specs.Machine.{spaced, Bytes, promise_name, Promises, contains, quote_byte}
 use Rattle.pv_streams.specs.Sinks.{and_all, WritesPrefix}
 use Rattle.pv_listing.proofs.Rests.{LeavesRest, written_text}
 use Rattle.pv_answers.specs.Texts.{keyword_after, keywords_in, words_after}

@@ -22,3 +22,6 @@ pub mod Absent
 pub mod Opened
 pub mod Removed
 pub mod Reached
+pub use Rattle.pv_listing.proofs as OfListing
+pub use Rattle.pv_calls_state.proofs.OfProcs
+pub use Rattle.pv_calls_state.proofs.OfUnveil

@@ -6,18 +6,10 @@ use Rattle.std.proofs.lemmas.Grind.{flat_map-append}
 use Rattle.pv_model.specs.declared.perms.Perms.{Perms}
 use Rattle.pv_model.specs.declared.place.Place.{Place}
 use Rattle.pv_model.specs.declared.place.Place.TheVariants.{At}
-use Rattle.pv_model.specs.Answers.Lines.{permissions_in_places}
-use Rattle.pv_model.specs.Answers.Nodes.{with_name}
-use Rattle.pv_model.specs.Answers.Reach.{ListedName, names_within}
-use Rattle.pv_model.specs.Bytes.{Bytes}
-use Rattle.pv_model.specs.Calls.Descriptors.{next_name}
-use Rattle.pv_model.specs.Calls.Restraints.{entries_of_table}
-use Rattle.pv_model.specs.Listing.{listed_path}
-use Rattle.pv_model.specs.Trace.{quote, quote_byte}
-use Rattle.pv_model.specs.Tree.{Entries, Tree, entries_at, find_entry, IsWellFormed}
-use Rattle.pv_model.specs.Unveil.{governing_entry}
-use Rattle.pv_laws_trees.proofs.Entries.{by_name}
-use Rattle.pv_laws_trees.proofs.Trees.{ordered}
+use Rattle.pv_model.specs.Machine.{permissions_in_places, with_name, ListedName, Bytes, next_name, entries_of_table, listed_path, quote, quote_byte, Entries, Tree, entries_at, find_entry, IsWellFormed, governing_entry}
+use Rattle.pv_model.specs.Answers.Reach.{names_within}
+use Rattle.pv_calls_state.proofs.OfLawsTrees.Entries.{by_name}
+use Rattle.pv_calls_state.proofs.OfLawsTrees.Trees.{ordered}
 use Rattle.pv_listing.specs.Lines.{entries_after}
 use Rattle.pv_listing.proofs.Children.{next-first, next-none}
 use Rattle.pv_listing.proofs.Rests.{LeavesRest, rest_all, rest_after}

@@ -1,16 +1,11 @@
 -- The lines of the location of a process.
 use Rattle.std.proofs.Common.{◌≡◌, ℕ, [], ◌∷◌, ◌++◌, append_assoc, append-nil, length, codes, decimal, Option, None, Some, option_map, IsSome, refl, ap, ap₂, sym, ◌∙◌}
 use Rattle.std.specs.Option.{unwrap_or}
-use Rattle.pv_model.specs.Answers.Lines.{answer_bytes, answer_line, answer_line_bytes}
+use Rattle.pv_model.specs.Machine.{answer_bytes, answer_line, answer_line_bytes, Bytes, parent_of, next, Program, Process, ProcessRecord as Record, live, ended_record, live_process, text_line}
 use Rattle.pv_model.specs.Answers.ProcessRecord.{ended_text, live_text, next_text}
-use Rattle.pv_model.specs.Bytes.{Bytes}
-use Rattle.pv_model.specs.Calls.Processes.{parent_of}
-use Rattle.pv_model.specs.Program.{next}
-use Rattle.pv_model.specs.State.{Program, Process, ProcessRecord as Record, live, ended_record, live_process}
-use Rattle.pv_model.specs.Trace.{text_line}
-use Rattle.pv_procs.specs.declared.record.ProcessRecord.{ProcessRecord}
-use Rattle.pv_procs.specs.Parts.{record_of}
-use Rattle.pv_procs.specs.ProcessTable.{ended_process}
+use Rattle.pv_calls_state.specs.OfProcs.declared.record.ProcessRecord.{ProcessRecord}
+use Rattle.pv_calls_state.specs.OfProcs.Parts.{record_of}
+use Rattle.pv_calls_state.specs.OfProcs.ProcessTable.{ended_process}
 use Rattle.pv_answers.specs.Holdings.{live_words, location_of}
 use Rattle.pv_answers.specs.Texts.{line_front, next_words}
 

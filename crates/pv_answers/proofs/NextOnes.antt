@@ -3,10 +3,9 @@ use Rattle.std.proofs.Common.{◌≡◌, ◌-◌, true, [], codes, Option, None,
 use Rattle.pv_model.specs.declared.instruction.Instruction.{Instruction}
 use Rattle.pv_model.specs.declared.instruction.Instruction.TheVariants.{Set, Add, Put, Peek, Jump, JumpIfZero, JumpIfNotZero, JumpIfNegative}
 use Rattle.pv_model.specs.Answers.ProcessRecord.{next_text}
-use Rattle.pv_model.specs.Program.{inside, next, next_by, perform}
-use Rattle.pv_model.specs.State.{Process}
-use Rattle.pv_script.specs.Context.{is_some_on_registers}
-use Rattle.pv_procs.specs.Turns.{RegisterNext}
+use Rattle.pv_model.specs.Machine.{inside, next, next_by, perform, Process}
+use Rattle.pv_calls_state.specs.OfScript.Context.{is_some_on_registers}
+use Rattle.pv_calls_state.specs.OfProcs.Turns.{RegisterNext}
 use Rattle.pv_answers.specs.Texts.{next_words}
 
 pub gone-words : (lives : Option Process) → lives ≡ None → next_words lives ≡ []

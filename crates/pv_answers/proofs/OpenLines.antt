@@ -1,14 +1,11 @@
 -- The line of a descriptor, from its parts.
 use Rattle.std.proofs.Common.{◌≡◌, ℕ, Bool, [], ◌∷◌, ◌++◌, codes, decimal, Option, None, Some, option_map, refl, ap, sym, ◌∙◌}
 use Rattle.pv_model.specs.declared.open_flags.Mode.{Mode}
-use Rattle.pv_model.specs.Answers.Lines.{answer_line, answer_line_bytes}
+use Rattle.pv_model.specs.Machine.{answer_line, answer_line_bytes, Bytes, Numbered, at_number, Descriptor, OpenFile, State, mode_text, text_line}
 use Rattle.pv_model.specs.Answers.Nodes.{node_words}
 use Rattle.pv_model.specs.Answers.ProcessRecord.{OpenDescriptor, descriptor_text, listed_text, open_descriptor}
-use Rattle.pv_model.specs.Bytes.{Bytes}
-use Rattle.pv_model.specs.Numbered.{Numbered, at_number}
-use Rattle.pv_model.specs.State.{Descriptor, OpenFile, State}
-use Rattle.pv_model.specs.Trace.{flag_text, mode_text, text_line}
-use Rattle.pv_files.specs.Descriptors.{is_marked}
+use Rattle.pv_model.specs.Trace.{flag_text}
+use Rattle.pv_calls_state.specs.OfFiles.Descriptors.{is_marked}
 use Rattle.pv_answers.specs.Holdings.{descriptor_line, descriptor_line_of, open_line_of}
 use Rattle.pv_answers.specs.Texts.{line_front}
 

@@ -5,12 +5,9 @@ use Rattle.std.specs.Option.{option_and_then}
 use Rattle.std.specs.List.{cons_option}
 use Rattle.std.proofs.lemmas.List.{drop_all}
 use Rattle.pv_model.specs.declared.open_flags.Mode.{Mode}
-use Rattle.pv_model.specs.Answers.Nodes.{node_path}
+use Rattle.pv_model.specs.Machine.{node_path, Bytes, Numbered, at_number, numbered_from, Descriptor, OpenFile, Process, State}
 use Rattle.pv_model.specs.Answers.ProcessRecord.{OpenDescriptor, open_descriptor}
 use Rattle.pv_model.specs.Answers.Reach.{descriptor_part, descriptor_texts}
-use Rattle.pv_model.specs.Bytes.{Bytes}
-use Rattle.pv_model.specs.Numbered.{Numbered, at_number, numbered_from}
-use Rattle.pv_model.specs.State.{Descriptor, OpenFile, Process, State}
 use Rattle.pv_answers.specs.declared.reach.reacher.Reacher.{Reacher}
 use Rattle.pv_answers.specs.Reaching.{all_on, descriptor_words, may_line, may_lines, opened_at, process_of, state_of, unnamed_line, unnamed_words, words_on}
 

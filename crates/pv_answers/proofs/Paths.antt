@@ -1,16 +1,14 @@
 -- The paths of nodes: the directory of the least name is the parent, from which the climb leads to the root.
-use Rattle.std.proofs.Common.{◌≡◌, ◌≢◌, ℕ, zero, suc, ◌-◌, ◌<◌, ◌==◌, ◌||◌, Bool, true, false, cond, List, [], ◌∷◌, ◌++◌, append_assoc, length, map, filter, flat_map, codes, Option, None, Some, is_some, option_map, IsSome, refl, ap, sym, subst, ◌∙◌, arith}
+use Rattle.std.proofs.Common.{◌≡◌, ◌≢◌, ℕ, zero, suc, ◌+◌, ◌-◌, ◌<◌, ◌==◌, ◌||◌, Bool, true, false, cond, List, [], ◌∷◌, ◌++◌, append_assoc, length, map, filter, flat_map, codes, Option, None, Some, is_some, option_map, IsSome, refl, ap, sym, subst, ◌∙◌, arith}
 use Rattle.std.specs.Prelude.{IsTrue}
 use Rattle.std.proofs.lemmas.Bool.{cases_eq, eq-eqb, ne_eqb}
 use Rattle.std.proofs.lemmas.Grind.{flat_map-append}
-use Rattle.pv_model.specs.Answers.Nodes.{first_of, least_name, node_path, path_by, path_within, with_name}
-use Rattle.pv_model.specs.Bytes.{Bytes}
-use Rattle.pv_model.specs.Numbered.{numbered}
-use Rattle.pv_model.specs.Trace.{quote_byte}
-use Rattle.pv_model.specs.Tree.{Entries, Node, Tree, root, node_at, entries_of, first_parent, is_directory_at, names_in, names_node, names_of, parent, IsWellFormed}
-use Rattle.pv_laws_trees.proofs.Above.{IsBelow, at_root, one_below, depth-below, entry-reached, reached-below}
-use Rattle.pv_laws_trees.proofs.Changes.{has_entry-directory}
-use Rattle.pv_laws_trees.proofs.Trees.{ordered, sound, parent-entry}
+use Rattle.pv_model.specs.Machine.{first_of, node_path, with_name, Bytes, numbered, quote_byte, Entries, Node, Tree, root, node_at, entries_of, is_directory_at, names_in, names_of, parent, IsWellFormed}
+use Rattle.pv_model.specs.Answers.Nodes.{least_name, path_by, path_within}
+use Rattle.pv_model.specs.Tree.{first_parent, names_node}
+use Rattle.pv_calls_state.proofs.OfLawsTrees.Ancestors.{IsBelow, at_root, one_below, depth-below, entry-reached, reached-below}
+use Rattle.pv_calls_state.proofs.OfLawsTrees.Changes.{has_entry-directory}
+use Rattle.pv_calls_state.proofs.OfLawsTrees.Trees.{ordered, sound, parent-entry}
 use Rattle.pv_answers.specs.Texts.{own_step, path_bytes, path_text}
 
 abbrev Named : Type 0
@@ -155,7 +153,7 @@ module _ (t : Tree) where
 -- ---- the nodes that have a path
 
 module _ (t : Tree) (w : IsWellFormed t) where
-  abbrev s : Rattle.pv_laws_trees.specs.Tree.IsSound t
+  abbrev s : Rattle.pv_calls_state.specs.OfLawsTrees.Tree.IsSoundTree t
   s = sound t w
 
   pub named-path : (n d : ℕ) (name : Bytes) → n ≢ root → least_name t n ≡ Some (d, name) → IsSome (node_path t n)
@@ -228,6 +226,10 @@ module _ (t : Tree) (w : IsWellFormed t) where
         bytes =
             sym (ap (λ (o : Option Named). path_bytes (path_within t (k - 1) d) ++ flat_map quote_byte (own_step o)) least) ∙ sym step.bytes ∙ ap path_bytes within;
       }
+
+-- the nodes of a tree are numbered from 0 to the number of its inodes
+pub node-count : (t : Tree) (inodes : ℕ) → IsWellFormed t → inodes ≡ t.inodes → inodes + 1 ≡ length t.nodes
+node-count t inodes w is = omega (arith, is, w.numbers)
 
 pub unused-by : (t : Tree) (n : ℕ) (used : Bool) → used ≡ false → (IsSome (node_at t n) → IsTrue used) → is_some (node_at t n) ≡ false
 unused-by t n used is holds = by (is_some (node_at t n)) refl

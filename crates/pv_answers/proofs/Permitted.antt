@@ -4,18 +4,13 @@ use Rattle.pv_model.specs.declared.judgement.Judgement.TheVariants.{Allowed, Den
 use Rattle.pv_model.specs.declared.perms.Perms.{Perms}
 use Rattle.pv_model.specs.declared.place.Place.{Place}
 use Rattle.pv_model.specs.declared.promise.Promise.TheVariants.{Rpath, Wpath, Cpath, Exec}
-use Rattle.pv_model.specs.Answers.Lines.{permissions_in_places}
-use Rattle.pv_model.specs.Answers.Reach.{governed_text, governor_text, is_allowed, reached_permissions, who}
-use Rattle.pv_model.specs.Bytes.{Bytes}
-use Rattle.pv_model.specs.Calls.Restraints.{entries_of_table}
-use Rattle.pv_model.specs.Perms.{covers, no_permissions, permission_r, permission_w, permission_x, permission_c}
+use Rattle.pv_model.specs.Machine.{permissions_in_places, is_allowed, Bytes, entries_of_table, covers, no_permissions, permission_r, permission_x, permission_c, Process, State, Tree, Table, governing_entry, judge_entry, judgement, permissions_at}
+use Rattle.pv_model.specs.Answers.Reach.{governed_text, governor_text, reached_permissions, who}
+use Rattle.pv_model.specs.Perms.{permission_w}
 use Rattle.pv_model.specs.Promises.{holds}
-use Rattle.pv_model.specs.State.{Process, State}
-use Rattle.pv_model.specs.Tree.{Tree}
-use Rattle.pv_model.specs.Unveil.{Table, governing_entry, judge_entry, judgement, permissions_at}
 use Rattle.pv_answers.specs.declared.reach.reacher.Reacher.{Reacher}
 use Rattle.pv_answers.specs.Reaching.{given_by, governed_words, process_of, promised, state_of, table_of, who_by}
-use Rattle.pv_laws_trees.proofs.Targets.{covers-r, covers-w, covers-x, covers-c}
+use Rattle.pv_calls_state.proofs.OfLawsTrees.Targets.{covers-r, covers-w, covers-x, covers-c}
 
 -- ---- the decision
 

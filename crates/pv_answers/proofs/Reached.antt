@@ -3,16 +3,12 @@ use Rattle.std.proofs.Common.{◌≡◌, ℕ, [], ◌∷◌, ◌++◌, ◌∙◌
 use Rattle.std.specs.Prelude.{option_map, unwrap_or}
 use Rattle.std.proofs.lemmas.Grind.{flat_map-append}
 use Rattle.std.proofs.lemmas.List.Folds.{flat_map-map}
-use Rattle.pv_model.specs.Answers.Lines.{AnswerLine, answer_bytes, answer_line, answer_line_bytes, counted}
+use Rattle.pv_model.specs.Machine.{AnswerLine, answer_bytes, answer_line, answer_line_bytes, ListedName, reach_lines, Bytes, entries_of_table, live_processes, Process, ProcessRecord, live, ended_record, State, live_process, process_at, text_line}
+use Rattle.pv_model.specs.Answers.Lines.{counted}
 use Rattle.pv_model.specs.Answers.ProcessRecord.{open_descriptors}
-use Rattle.pv_model.specs.Answers.Reach.{ListedName, descriptor_texts, directory_texts, entry_texts, listed_names, name_text, reach_lines, reach_of, reach_texts, reached_permissions}
-use Rattle.pv_model.specs.Bytes.{Bytes}
-use Rattle.pv_model.specs.Calls.Restraints.{entries_of_table}
-use Rattle.pv_model.specs.Held.{live_processes}
-use Rattle.pv_model.specs.State.{Process, ProcessRecord, live, ended_record, State, live_process, process_at}
-use Rattle.pv_model.specs.Trace.{text_line}
-use Rattle.pv_procs.specs.declared.record.ProcessRecord.{ProcessRecord as Owned}
-use Rattle.pv_procs.specs.Parts.{record_of}
+use Rattle.pv_model.specs.Answers.Reach.{descriptor_texts, directory_texts, entry_texts, listed_names, name_text, reach_of, reach_texts, reached_permissions}
+use Rattle.pv_calls_state.specs.OfProcs.declared.record.ProcessRecord.{ProcessRecord as Owned}
+use Rattle.pv_calls_state.specs.OfProcs.Parts.{record_of}
 use Rattle.pv_answers.specs.declared.reach.reacher.Reacher.{Reacher}
 use Rattle.pv_answers.specs.Reaching.{absent_lines, directory_lines, listed_lines, may_line, may_lines, owner, process_lines, process_of, reached_by, state_of, unnamed_lines}
 use Rattle.pv_answers.proofs.Following.{Recorded, IsNextRecord, records_after}

@@ -7,11 +7,10 @@ use Rattle.std.proofs.lemmas.List.{append-nil}
 use Rattle.pv_model.specs.declared.open_flags.Mode.{Mode}
 use Rattle.pv_model.specs.declared.place.Place.TheVariants.{Node as Unnamed}
 use Rattle.pv_model.specs.declared.target.Target.TheVariants.{Directory}
-use Rattle.pv_model.specs.Answers.Nodes.{node_path, node_words}
+use Rattle.pv_model.specs.Machine.{node_path, entries_of_table, Tree, root, is_directory_at, is_removed, parent, IsWellFormed, Table, directory_rights, entry_for, governing_entry}
+use Rattle.pv_model.specs.Answers.Nodes.{node_words}
 use Rattle.pv_model.specs.Answers.Reach.{removed_text}
-use Rattle.pv_model.specs.Calls.Restraints.{entries_of_table}
-use Rattle.pv_model.specs.Tree.{Tree, root, is_directory_at, is_removed, parent, IsWellFormed}
-use Rattle.pv_model.specs.Unveil.{Table, climb, directory_rights, entry_for, governing_entry, rights_above}
+use Rattle.pv_model.specs.Unveil.{climb, rights_above}
 use Rattle.pv_answers.specs.declared.reach.reacher.Reacher.{Reacher}
 use Rattle.pv_answers.specs.Reaching.{descriptor_words, directory_lines, governed_words, may_line, may_lines, process_of, removed_words, state_of, table_of, unnamed_words}
 use Rattle.pv_answers.proofs.Paths.{least-above, least-none, path-named, root-path}

@@ -1,7 +1,7 @@
 -- The output of a sink for a text, as the output for an equal text.
 use Rattle.std.proofs.Common.{◌≡◌, ◌++◌, ◌∙◌, Option, ap, subst}
 use Rattle.std.specs.Prelude.{OnOk, OnErr, Result}
-use Rattle.pv_model.specs.Bytes.{Bytes}
+use Rattle.pv_model.specs.Machine.{Bytes}
 use Rattle.std.proofs.lemmas.Result.{on_err_weaker, on_ok_weaker}
 use Rattle.pv_streams.specs.Sinks.{and_all, WritesPrefix}
 use Rattle.pv_streams.proofs.Reporting.{begins_then, written_both}

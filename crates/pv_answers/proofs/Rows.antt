@@ -4,7 +4,7 @@ use Rattle.std.proofs.Math.ListN.{get_or}
 use Rattle.std.proofs.lemmas.Bool.{ne_eqb}
 use Rattle.std.proofs.lemmas.List.{drop_more}
 use Rattle.pv_model.specs.Answers.ProcessRecord.{buffer_front, without_zero}
-use Rattle.pv_model.specs.Bytes.{Bytes}
+use Rattle.pv_model.specs.Machine.{Bytes}
 
 -- the part at an index, and those after it
 pub part-next : {X : Type 0} (part : X → Bytes) (xs : List X) (k : ℕ) (d : X) → k < length xs → flat_map part (drop k xs) ≡ part (get_or xs k d) ++ flat_map part (drop (k + 1) xs)

@@ -3,12 +3,10 @@ use Rattle.std.proofs.Common.{◌≡◌, ℕ, List, [], ◌++◌, flat_map, Opti
 use Rattle.std.specs.FinMap.Entries.{find}
 use Rattle.std.specs.Ordering.{nat_cmp}
 use Rattle.std.proofs.lemmas.Grind.{flat_map-append}
-use Rattle.pv_model.specs.Answers.Lines.{AnswerLine, answer_bytes, answer_line_bytes}
-use Rattle.pv_model.specs.Answers.ProcessRecord.{held_lines, location_lines, locations, state_lines}
-use Rattle.pv_model.specs.Bytes.{Bytes}
-use Rattle.pv_model.specs.State.{ProcessRecord, State}
+use Rattle.pv_model.specs.Machine.{AnswerLine, answer_bytes, answer_line_bytes, locations, state_lines, Bytes, ProcessRecord, State}
+use Rattle.pv_model.specs.Answers.ProcessRecord.{held_lines, location_lines}
 use Rattle.pv_calls_state.specs.Counts.{processes_of}
-use Rattle.pv_procs.specs.ProcessTable.{IsProcessTable, number_after}
+use Rattle.pv_calls_state.specs.OfProcs.ProcessTable.{IsProcessTable, number_after}
 use Rattle.pv_answers.specs.Holdings.{held_of, held_by, location_of}
 use Rattle.pv_answers.proofs.Following.{Recorded, IsNextRecord, all-after, none-after, records_after}
 

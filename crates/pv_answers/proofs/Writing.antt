@@ -6,8 +6,7 @@ use Rattle.std.proofs.lemmas.Bool.{false≢true}
 use Rattle.std.proofs.lemmas.List.{append-nil}
 use Rattle.std.proofs.lemmas.Result.{on_err_weaker, on_ok_weaker}
 use Rattle.pv_model.specs.declared.stream.Sink.{Ghosts as Writing}
-use Rattle.pv_model.specs.Bytes.{Bytes}
-use Rattle.pv_model.specs.Stream.{Rose}
+use Rattle.pv_model.specs.Machine.{Bytes, Rose}
 use Rattle.pv_streams.specs.Sinks.{Writes, WritesOr}
 use Rattle.pv_streams.proofs.Reporting.{begins_first, begins_then, written_both, written_none}
 

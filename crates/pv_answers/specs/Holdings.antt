@@ -5,14 +5,11 @@ use Rattle.std.specs.Fmt.{signed_decimal}
 use Rattle.std.specs.Ordering.{nat_cmp}
 use Rattle.pv_model.specs.declared.perms.Perms.{Perms}
 use Rattle.pv_model.specs.declared.target.Target.{Target}
-use Rattle.pv_model.specs.Answers.Lines.{AnswerLine, answer_line, answer_line_bytes, counted, pledged_text, spaced}
+use Rattle.pv_model.specs.Machine.{AnswerLine, answer_line, answer_line_bytes, spaced, Bytes, Numbered, at_number, numbered, Descriptor, Process, ProcessRecord as Record, State, Table}
+use Rattle.pv_model.specs.Answers.Lines.{counted, pledged_text}
 use Rattle.pv_model.specs.Answers.Nodes.{node_words}
 use Rattle.pv_model.specs.Answers.ProcessRecord.{OpenDescriptor, buffer_front, descriptor_text, entry_text, front_text, held_lines, live_text, open_descriptor, location_lines, table_text}
-use Rattle.pv_model.specs.Bytes.{Bytes}
-use Rattle.pv_model.specs.Numbered.{Numbered, at_number, numbered}
-use Rattle.pv_model.specs.State.{Descriptor, Process, ProcessRecord as Record, State}
-use Rattle.pv_model.specs.Unveil.{Table}
-use Rattle.pv_procs.specs.declared.record.ProcessRecord.{ProcessRecord}
+use Rattle.pv_calls_state.specs.OfProcs.declared.record.ProcessRecord.{ProcessRecord}
 
 -- the identity and location of a process; no lines if there is no such process
 abbrev pub location_of : ℕ → Option Record → List AnswerLine

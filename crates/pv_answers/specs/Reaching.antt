@@ -11,22 +11,14 @@ use Rattle.pv_model.specs.declared.place.Place.{Place}
 use Rattle.pv_model.specs.declared.place.Place.TheVariants.{At}
 use Rattle.pv_model.specs.declared.promise.Promise.TheVariants.{Rpath, Wpath, Cpath, Exec}
 use Rattle.pv_model.specs.declared.target.Target.TheVariants.{Directory}
-use Rattle.pv_model.specs.Answers.Lines.{AnswerLine, counted, permissions_in_places}
-use Rattle.pv_model.specs.Answers.Nodes.{name_words, node_path, node_words, with_name}
+use Rattle.pv_model.specs.Machine.{AnswerLine, permissions_in_places, node_path, with_name, ListedName, Bytes, entries_of_table, listed_path, at_number, no_permissions, Promises, Process, State, first_process, mode_text, quote, Entries, Tree, find_entry, is_removed, Table, entry_for, permissions_at}
+use Rattle.pv_model.specs.Answers.Lines.{counted}
+use Rattle.pv_model.specs.Answers.Nodes.{name_words, node_words}
 use Rattle.pv_model.specs.Answers.ProcessRecord.{open_descriptors}
-use Rattle.pv_model.specs.Answers.Reach.{ListedName, descriptor_part, descriptor_texts, descriptors_of_node, directory_texts, entry_texts, listed_names, name_text, names_within, reach_of_one, unnamed_text}
-use Rattle.pv_model.specs.Bytes.{Bytes}
-use Rattle.pv_model.specs.Calls.Restraints.{entries_of_table}
-use Rattle.pv_model.specs.Listing.{listed_path}
-use Rattle.pv_model.specs.Numbered.{at_number}
-use Rattle.pv_model.specs.Perms.{no_permissions}
-use Rattle.pv_model.specs.Promises.{Promises, holds}
-use Rattle.pv_model.specs.State.{Process, State, first_process}
-use Rattle.pv_model.specs.Trace.{mode_text, quote}
-use Rattle.pv_model.specs.Tree.{Entries, Tree, find_entry, is_removed}
-use Rattle.pv_model.specs.Unveil.{Table, entry_for, permissions_at}
-use Rattle.pv_procs.specs.declared.record.ProcessRecord.{ProcessRecord}
-use Rattle.pv_procs.specs.Parts.{with_record}
+use Rattle.pv_model.specs.Answers.Reach.{descriptor_part, descriptor_texts, descriptors_of_node, directory_texts, entry_texts, listed_names, name_text, names_within, reach_of_one, unnamed_text}
+use Rattle.pv_model.specs.Promises.{holds}
+use Rattle.pv_calls_state.specs.OfProcs.declared.record.ProcessRecord.{ProcessRecord}
+use Rattle.pv_calls_state.specs.OfProcs.Parts.{with_record}
 
 -- the lines of a process's permissions; none if the process is not live
 abbrev pub reached_by : State → ℕ → List AnswerLine

@@ -2,15 +2,9 @@
 use Rattle.std.specs.Prelude.{ℕ, Bool, true, false, List, [], ◌++◌, map, filter, flat_map, codes, Option, None, Some}
 use Rattle.std.specs.Fmt.{decimal}
 use Rattle.pv_model.specs.declared.promise.Promise.{Promise}
-use Rattle.pv_model.specs.Answers.Lines.{spaced}
+use Rattle.pv_model.specs.Machine.{spaced, Bytes, listed_path, next, promise_name, Promises, contains, Process, quote, quote_byte}
 use Rattle.pv_model.specs.Answers.ProcessRecord.{next_text}
-use Rattle.pv_model.specs.Bytes.{Bytes}
-use Rattle.pv_model.specs.Listing.{listed_path}
-use Rattle.pv_model.specs.Program.{next}
-use Rattle.pv_model.specs.Promise.{promise_name}
-use Rattle.pv_model.specs.Promises.{Promises, contains}
-use Rattle.pv_model.specs.State.{Process}
-use Rattle.pv_model.specs.Trace.{pad_left, pad_right, quote, quote_byte}
+use Rattle.pv_model.specs.Trace.{pad_left, pad_right}
 
 -- the front of a line
 abbrev pub line_front : ℕ → Bytes → Bytes

@@ -1,17 +1,16 @@
 //! The next call of a process, and the calls that change its restraints.
 ghost use Rattle.std.specs.Prelude.{◌≡◌};
 ghost use Rattle.pv_answers.specs.Texts.{next_words};
-ghost use Rattle.pv_model.specs.Answers.Observed.{is_pledge, is_unveil};
-ghost use Rattle.pv_model.specs.CallRef.{call_of};
-ghost use Rattle.pv_model.specs.State.{process_at};
+ghost use Rattle.pv_model.specs.Machine.{is_unveil, call_of, process_at};
+ghost use Rattle.pv_model.specs.Answers.Observed.{is_pledge};
 ghost use Rattle.pv_streams.specs.Sinks.{Writes};
 
 use pv_calls_state::Parts;
+use pv_calls_state::procs::Fetched;
+use pv_calls_state::script::CallTexts;
+use pv_listing::trace::{LineBuffer, write_call};
 use pv_model::CallRef;
-use pv_procs::Fetched;
-use pv_script::CallTexts;
 use pv_streams::{Failed, Sink, write_whole};
-use pv_trace::{LineBuffer, write_call};
 
 /// Returns whether a call is a pledge(2).
 pub fn is_pledge(call: CallRef<'_>) -> bool

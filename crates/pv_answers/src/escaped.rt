@@ -1,12 +1,12 @@
 //! Bytes in the escaped form that texts have between their quotation marks.
 ghost use Rattle.std.specs.Prelude.{◌≡◌, ◌+◌, ◌*◌, ◌++◌, ◌≤◌, length, flat_map};
 ghost use Rattle.pv_answers.specs.declared.escaped.TheConstants.{PART, PART_ESCAPED};
-ghost use Rattle.pv_model.specs.Trace.{quote_byte};
+ghost use Rattle.pv_model.specs.Machine.{quote_byte};
 ghost use Rattle.pv_streams.specs.Sinks.{Writes};
 
+use pv_listing::trace::{FixedBuffer, plain_count};
 use pv_model::{hex_digit, is_plain};
 use pv_streams::{Failed, Sink, write_whole};
-use pv_trace::{FixedBuffer, plain_count};
 
 /// The number of bytes that are written at once.
 const PART: usize = 64;

@@ -1,10 +1,8 @@
 //! The restraints, descriptors and memory of a live process.
 ghost use Rattle.std.specs.Prelude.{◌≡◌, ◌<◌, length, option_copied, option_map, IsSome, Some};
 ghost use Rattle.pv_answers.specs.Holdings.{descriptor_line, descriptor_lines, entry_line, entry_lines, held_by, memory_bytes, restraint_bytes};
-ghost use Rattle.pv_model.specs.Answers.Lines.{answer_bytes};
+ghost use Rattle.pv_model.specs.Machine.{answer_bytes, entries_of_table, at_number};
 ghost use Rattle.pv_model.specs.Answers.ProcessRecord.{listed_text, table_text};
-ghost use Rattle.pv_model.specs.Calls.Restraints.{entries_of_table};
-ghost use Rattle.pv_model.specs.Numbered.{at_number};
 ghost use Rattle.pv_model.specs.Trace.{flag_text};
 ghost use Rattle.pv_streams.specs.Sinks.{Writes};
 
@@ -13,11 +11,11 @@ use crate::lines::{Count, Decimal, Letters, Line, ModeLetters, Pledged, Quoted};
 use crate::nodes::{NodeWords, TargetWords};
 use crate::numbers::{BufferFront, Spaced};
 use pv_calls_state::Parts;
+use pv_calls_state::procs::ProcessRecord;
+use pv_calls_state::unveil::Table;
 use pv_model::Name;
 use pv_model::limits::DESCRIPTORS;
-use pv_procs::ProcessRecord;
 use pv_streams::{Failed, Sink};
-use pv_unveil::Table;
 
 // Returns whether a table is in force and whether it is locked, in words.
 fn table_words(table: &Table) -> &'static [u8]

@@ -32,5 +32,8 @@ pub use nodes::{
     NameWords, NodeBrief, NodeWords, PathOf, TargetWords, has_path, write_name, write_node,
     write_path_of, write_target,
 };
+pub use pv_calls_state as calls_state;
+pub use pv_calls_state::{files, procs, script, tree, unveil};
+pub use pv_listing as listing;
 pub use reach::{write_reach, write_reach_of};
 pub use state::{write_locations, write_state};

@@ -1,18 +1,18 @@
 //! Lines, their fronts, and the words of their texts.
 ghost use Rattle.std.specs.Prelude.{◌≡◌, ◌++◌, ◌<◌, ◌≤◌, [], ◌∷◌, flat_map, length, replicate, decimal};
 ghost use Rattle.pv_answers.specs.Texts.{keyword_after, keywords_in, line_front};
-ghost use Rattle.pv_model.specs.Answers.Lines.{permissions_in_places, promises_text, pledged_text, spaced};
-ghost use Rattle.pv_model.specs.Promise.{all_promises};
-ghost use Rattle.pv_model.specs.Trace.{mode_text, pad_left, quote, quote_byte};
-ghost use Rattle.pv_promises.specs.Pledge.{bits_of};
+ghost use Rattle.pv_model.specs.Machine.{permissions_in_places, spaced, all_promises, mode_text, quote, quote_byte};
+ghost use Rattle.pv_model.specs.Answers.Lines.{promises_text, pledged_text};
+ghost use Rattle.pv_model.specs.Trace.{pad_left};
+ghost use Rattle.pv_calls_state.specs.OfPromises.Pledge.{bits_of};
 ghost use Rattle.pv_streams.specs.Sinks.{Writes};
 
 use crate::escaped::write_escaped;
 use crate::fragments::{Fragment, Plain};
 use crate::short::ShortLine;
 use itoa::Buffer;
+use pv_calls_state::promises::{ALL, has};
 use pv_model::{Mode, Perms, Promise, Promises};
-use pv_promises::{ALL, has};
 use pv_streams::{Failed, Sink, write_whole};
 
 /// Writes a number in decimal digits.

@@ -3,8 +3,7 @@ ghost use Rattle.std.specs.Prelude.{◌≡◌, ◌++◌, IsSome};
 ghost use Rattle.std.specs.FinMap.Entries.{find};
 ghost use Rattle.std.specs.Ordering.{nat_cmp};
 ghost use Rattle.pv_answers.specs.Holdings.{live_words, location_of};
-ghost use Rattle.pv_model.specs.Answers.Lines.{answer_bytes};
-ghost use Rattle.pv_model.specs.State.{process_at};
+ghost use Rattle.pv_model.specs.Machine.{answer_bytes, process_at};
 ghost use Rattle.pv_streams.specs.Sinks.{Writes};
 
 use crate::calls::{CallRoom, write_next};

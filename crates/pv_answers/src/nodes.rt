@@ -1,17 +1,16 @@
 //! Nodes, names and targets in words.
-ghost use Rattle.std.specs.Prelude.{◌≡◌, ◌++◌, codes, flat_map, is_some, IsSome, IsTrue};
+ghost use Rattle.std.specs.Prelude.{◌≡◌, ◌++◌, codes, false, flat_map, is_some, IsSome, IsTrue};
 ghost use Rattle.pv_answers.specs.Texts.{own_step, path_bytes, path_text};
-ghost use Rattle.pv_model.specs.Answers.Nodes.{least_name, name_words, node_path, node_words, path_within, target_words};
-ghost use Rattle.pv_model.specs.Trace.{quote_byte};
-ghost use Rattle.pv_model.specs.Tree.{is_directory_at};
+ghost use Rattle.pv_model.specs.Machine.{node_path, target_words, quote_byte, is_directory_at};
+ghost use Rattle.pv_model.specs.Answers.Nodes.{least_name, name_words, node_words, path_within};
 ghost use Rattle.pv_streams.specs.Sinks.{Writes};
 
 use crate::fragments::{Fragment, Plain};
 use crate::lines::{Decimal, Escaped, Quoted};
+use pv_calls_state::tree::Tree;
 use pv_model::Target;
 use pv_model::limits::ROOT;
 use pv_streams::{Failed, Sink, write_whole};
-use pv_tree::Tree;
 
 /// Returns whether a node has a path: a directory that is not removed, or a file or link with a name.
 pub fn has_path(tree: &Tree, node: u16) -> bool
@@ -80,6 +79,20 @@ impl<'a> Fragment for Steps<'a> {
     }
 }
 
+// Writes the path of a file or link that has a name in escaped form.
+fn write_file_steps<W: Sink>(out: &mut W, tree: &Tree, node: u16) -> Result<(), Failed>
+    requires file { is_directory_at tree.now.tree node ≡ false }
+    requires path { IsSome (node_path tree.now.tree node) }
+    ensures { Writes W.Sink (path_bytes (node_path tree.now.tree node)) out.old out.new result }
+{
+    let depth = tree.sizes().inodes + 1;
+    let Some((directory, name)) = tree.least_name(node) else {
+        unreachable!()
+    };
+    write_above(out, tree, depth - 1, directory)?;
+    Step(name.as_slice()).write(out)
+}
+
 // Writes the path of a node in escaped form. Writes nothing for the root, and for a node without a path.
 fn write_steps<W: Sink>(out: &mut W, tree: &Tree, node: u16) -> Result<(), Failed>
     ensures { Writes W.Sink (path_bytes (node_path tree.now.tree node)) out.old out.new result }
@@ -87,15 +100,11 @@ fn write_steps<W: Sink>(out: &mut W, tree: &Tree, node: u16) -> Result<(), Faile
     if !has_path(tree, node) {
         return Ok(());
     }
-    let depth = tree.sizes().inodes + 1;
     if tree.is_directory(node) {
+        let depth = tree.sizes().inodes + 1;
         return write_above(out, tree, depth, node);
     }
-    let Some((directory, name)) = tree.least_name(node) else {
-        unreachable!()
-    };
-    write_above(out, tree, depth - 1, directory)?;
-    Step(name.as_slice()).write(out)
+    write_file_steps(out, tree, node)
 }
 
 /// Writes the path of a node as a quoted text. The path of the root is a slash. Writes nothing for a node without a

@@ -1,7 +1,7 @@
 //! Lists of numbers and of bytes.
 ghost use Rattle.std.specs.Prelude.{◌≡◌, ◌++◌, codes, map};
 ghost use Rattle.std.specs.Fmt.{signed_decimal};
-ghost use Rattle.pv_model.specs.Answers.Lines.{spaced};
+ghost use Rattle.pv_model.specs.Machine.{spaced};
 ghost use Rattle.pv_model.specs.Answers.ProcessRecord.{buffer_front, front_text};
 ghost use Rattle.pv_model.specs.Trace.{hex};
 ghost use Rattle.pv_streams.specs.Sinks.{Writes};

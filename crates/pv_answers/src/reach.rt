@@ -4,8 +4,7 @@
 //! `unnamed` the other places that the process can reach.
 ghost use Rattle.std.specs.Prelude.{◌≡◌};
 ghost use Rattle.pv_answers.specs.Reaching.{process_lines, reached_by};
-ghost use Rattle.pv_model.specs.Answers.Lines.{answer_bytes};
-ghost use Rattle.pv_model.specs.Answers.Reach.{reach_lines};
+ghost use Rattle.pv_model.specs.Machine.{answer_bytes, reach_lines};
 ghost use Rattle.pv_streams.specs.Sinks.{Writes};
 
 mod names;

@@ -3,8 +3,7 @@ ghost use Rattle.std.specs.Prelude.{◌≡◌, ◌++◌};
 ghost use Rattle.std.specs.FinMap.Entries.{find};
 ghost use Rattle.std.specs.Ordering.{nat_cmp};
 ghost use Rattle.pv_answers.specs.Holdings.{held_by, location_of};
-ghost use Rattle.pv_model.specs.Answers.Lines.{answer_bytes};
-ghost use Rattle.pv_model.specs.Answers.ProcessRecord.{locations, state_lines};
+ghost use Rattle.pv_model.specs.Machine.{answer_bytes, locations, state_lines};
 ghost use Rattle.pv_streams.specs.Sinks.{Writes};
 
 use crate::calls::CallRoom;

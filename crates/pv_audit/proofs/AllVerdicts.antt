@@ -9,10 +9,8 @@ use Rattle.pv_model.specs.declared.verdict.Leak.{Leak}
 use Rattle.pv_model.specs.declared.verdict.Verdict.{Verdict}
 use Rattle.pv_model.specs.declared.verdict.Verdict.TheVariants.{Sealed as SealedVerdict, Frozen, Exposed}
 use Rattle.pv_model.specs.declared.verdict.Why.{Why}
-use Rattle.pv_model.specs.Held.{live_processes}
+use Rattle.pv_model.specs.Machine.{live_processes, State, process_at, names_of}
 use Rattle.pv_model.specs.Sealed
-use Rattle.pv_model.specs.State.{State, process_at}
-use Rattle.pv_model.specs.Tree.{names_of}
 use Rattle.pv_laws_trees.proofs.Members.{In}
 use Rattle.pv_laws_access.proofs.Verdicts.{verdicts-exact}
 use Rattle.pv_audit.specs.declared.suspects.Suspect.{Suspect}

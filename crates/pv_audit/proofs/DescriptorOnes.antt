@@ -2,8 +2,7 @@
 use Rattle.std.proofs.Common.{◌≡◌, ℕ, zero, suc, ◌+◌, ◌<◌, ◌≤◌, Bool, true, false, [], ◌∷◌, filter, length, Option, None, Some, option_map, refl, ap, sym, ◌∙◌, ⊎_elim, arith}
 use Rattle.std.proofs.lemmas.Bool.{cases_lt}
 use Rattle.pv_model.specs.declared.perms.Perms.{Perms}
-use Rattle.pv_model.specs.Numbered.{Numbered, at_number, numbered}
-use Rattle.pv_model.specs.State.{OpenFile, Descriptor}
+use Rattle.pv_model.specs.Machine.{Numbered, at_number, numbered, OpenFile, Descriptor}
 use Rattle.pv_laws_trees.proofs.Members.{In, in-map, map-in, in-filter, filter-in, numbered-at, at-numbered}
 use Rattle.pv_audit.specs.Findings.{least}
 use Rattle.pv_audit.specs.Reasons.{is_on, descriptors_for}

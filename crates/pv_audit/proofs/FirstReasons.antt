@@ -8,17 +8,12 @@ use Rattle.pv_model.specs.declared.perms.Perms.{Perms}
 use Rattle.pv_model.specs.declared.promise.Promise.TheVariants.{Rpath, Wpath, Cpath, Exec as ExecPromise}
 use Rattle.pv_model.specs.declared.verdict.Why.{Why}
 use Rattle.pv_model.specs.declared.verdict.Why.TheVariants.{Reads, NotLocked, Gives, Above, Exec}
-use Rattle.pv_model.specs.Bytes.{is_empty}
-use Rattle.pv_model.specs.Calls.Restraints.{entries_of_table}
+use Rattle.pv_model.specs.Machine.{is_empty, entries_of_table, at_number, numbered, covers, permission_r, OpenFile, Descriptor, Process, State, reads, writes, process_at, names_of, Table}
 use Rattle.pv_model.specs.Closed.{opens_or_moves}
 use Rattle.pv_model.specs.Needs.{permissions_of_mode}
-use Rattle.pv_model.specs.Numbered.{at_number, numbered}
-use Rattle.pv_model.specs.Perms.{covers, permission_r, permission_w}
+use Rattle.pv_model.specs.Perms.{permission_w}
 use Rattle.pv_model.specs.Sealed
-use Rattle.pv_model.specs.State.{OpenFile, Descriptor, Process, State, reads, writes, process_at}
-use Rattle.pv_model.specs.Tree.{names_of}
-use Rattle.pv_model.specs.Unveil.{Table}
-use Rattle.pv_procs.specs.Parts.{record_of}
+use Rattle.pv_calls_state.specs.OfProcs.Parts.{record_of}
 use Rattle.pv_audit.specs.declared.table_access.TableAccess.{TableAccess}
 use Rattle.pv_audit.specs.Findings.{least, nothing, table_of, suspect, noted_by}
 use Rattle.pv_audit.specs.Reasons.{all_reasons_of, present_reasons, reason_if, reasons_of_table, first_of, is_on, descriptors_for, by_number, unless, reason_of_table, reason_of, is_preserved_by, is_preserved, reason_for, reason_at, preserved_for, preserved_at}

@@ -4,16 +4,13 @@ use Rattle.std.specs.Bool.{⊤}
 use Rattle.std.proofs.lemmas.Bool.{and_parts}
 use Rattle.std.proofs.lemmas.List.{map-append}
 use Rattle.pv_model.specs.declared.perms.Perms.{Perms}
-use Rattle.pv_model.specs.Bytes.{Bytes, is_empty}
+use Rattle.pv_model.specs.Machine.{Bytes, is_empty, State, process_at, Tree, ancestors, find_entry, is_directory_at, Table, permissions_at, directory_rights}
 use Rattle.pv_model.specs.Closed.{opens_or_moves}
-use Rattle.pv_model.specs.State.{State, process_at}
-use Rattle.pv_model.specs.Tree.{Tree, ancestors, find_entry, is_directory_at}
-use Rattle.pv_model.specs.Unveil.{Table, permissions_at, directory_rights}
 use Rattle.pv_laws_trees.proofs.Changes.{has_entry-directory}
 use Rattle.pv_audit.specs.declared.table_access.TableAccess.{TableAccess}
 use Rattle.pv_audit.specs.declared.suspects.Suspect.{Suspect}
 use Rattle.pv_audit.specs.Findings.{lesser, least, governing, passing, entries_passing, least_above, noted, table_of, note_of, noted_by, are_live}
-use Rattle.pv_tree.specs.NodeNames.{names_after, names_from, IsNextNameOfNode}
+use Rattle.pv_calls_state.specs.OfTree.NodeNames.{names_after, names_from, IsNextNameOfNode}
 use Rattle.pv_audit.proofs.LeastOnes.{lesser-none, lesser-assoc, least-cons, passing-append}
 
 -- a name with its directory

@@ -4,7 +4,7 @@ use Rattle.std.specs.Prelude.{filter_map}
 use Rattle.std.proofs.lemmas.Bool.{cases_lt}
 use Rattle.std.proofs.Math.Nat.{min-eq_left, min-eq_right}
 use Rattle.pv_model.specs.declared.perms.Perms.{Perms}
-use Rattle.pv_model.specs.Unveil.{Table, permissions_at}
+use Rattle.pv_model.specs.Machine.{Table, permissions_at}
 use Rattle.pv_laws_trees.proofs.Members.{In, in-map, map-in, in-filter, filter-in, in-preserved, preserved-in}
 use Rattle.pv_audit.specs.Findings.{lesser, least, passing, entries_passing}
 

@@ -9,3 +9,5 @@ pub mod DescriptorOnes
 pub mod LiveOnes
 pub mod FirstReasons
 pub mod AllVerdicts
+pub use Rattle.pv_calls_state.proofs as OfCallsState
+pub use Rattle.pv_laws_access.proofs as OfLawsAccess

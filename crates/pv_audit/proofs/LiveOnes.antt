@@ -6,11 +6,10 @@ use Rattle.std.specs.Ordering.{nat_cmp, is_lt}
 use Rattle.std.specs.FinMap.Entries.{find, is_sorted, below_all}
 use Rattle.std.proofs.lemmas.Bool.{and_parts, and_from, eq-eqb, ne_eqb, lt-ltb, cases_lt, le-ltb}
 use Rattle.std.proofs.lemmas.List.{map-append}
-use Rattle.pv_model.specs.Held.{live_processes}
-use Rattle.pv_model.specs.State.{Process, ProcessRecord, live, ended_record, State, live_process, process_at}
-use Rattle.pv_laws_states.proofs.Members.{find_number_after}
+use Rattle.pv_model.specs.Machine.{live_processes, Process, ProcessRecord, live, ended_record, State, live_process, process_at}
+use Rattle.pv_calls_state.proofs.OfLawsStates.Members.{find_number_after}
 use Rattle.pv_laws_trees.proofs.Members.{In}
-use Rattle.pv_procs.proofs.Forks.{number-less}
+use Rattle.pv_calls_state.proofs.OfProcs.Forks.{number-less}
 use Rattle.pv_audit.specs.declared.suspects.Suspect.{Suspect}
 use Rattle.pv_audit.specs.Findings.{suspect, are_live}
 

@@ -4,12 +4,8 @@ use Rattle.std.specs.List.{list_all}
 use Rattle.std.specs.Option.{option_or}
 use Rattle.pv_model.specs.declared.perms.Perms.{Perms}
 use Rattle.pv_model.specs.declared.target.Target.TheVariants.{Name}
-use Rattle.pv_model.specs.Bytes.{Bytes}
-use Rattle.pv_model.specs.Calls.Restraints.{entries_of_table}
+use Rattle.pv_model.specs.Machine.{Bytes, entries_of_table, Process, State, process_at, Tree, ancestors, Table, entry_for, permissions_at, directory_rights}
 use Rattle.pv_model.specs.Closed.{opens_or_moves}
-use Rattle.pv_model.specs.State.{Process, State, process_at}
-use Rattle.pv_model.specs.Tree.{Tree, ancestors}
-use Rattle.pv_model.specs.Unveil.{Table, entry_for, permissions_at, directory_rights}
 use Rattle.pv_audit.specs.declared.table_access.TableAccess.{TableAccess}
 use Rattle.pv_audit.specs.declared.suspects.Suspect.{Suspect}
 

@@ -6,13 +6,11 @@ use Rattle.pv_model.specs.declared.verdict.Leak.{Leak}
 use Rattle.pv_model.specs.declared.verdict.Why.{Why}
 use Rattle.pv_model.specs.declared.verdict.Why.TheVariants.{Reads, NoTable, NotLocked, Gives, Above, Exec}
 use Rattle.pv_model.specs.Needs.{permissions_of_mode}
-use Rattle.pv_model.specs.Numbered.{Numbered, at_number, numbered}
-use Rattle.pv_model.specs.Perms.{covers, permission_r, permission_w}
+use Rattle.pv_model.specs.Machine.{Numbered, at_number, numbered, covers, permission_r, OpenFile, Descriptor, Process, State, process_at, Table}
+use Rattle.pv_model.specs.Perms.{permission_w}
 use Rattle.pv_model.specs.Sealed.{has_none_of}
-use Rattle.pv_model.specs.State.{OpenFile, Descriptor, Process, State, process_at}
-use Rattle.pv_model.specs.Unveil.{Table}
-use Rattle.pv_procs.specs.declared.record.ProcessRecord.{ProcessRecord}
-use Rattle.pv_procs.specs.Parts.{record_of}
+use Rattle.pv_calls_state.specs.OfProcs.declared.record.ProcessRecord.{ProcessRecord}
+use Rattle.pv_calls_state.specs.OfProcs.Parts.{record_of}
 use Rattle.pv_promises.specs.Pledge.{Pledged}
 use Rattle.pv_audit.specs.declared.table_access.TableAccess.{TableAccess}
 use Rattle.pv_audit.specs.declared.suspects.Suspect.{Suspect}

@@ -1,11 +1,10 @@
 //! The unveil entries with permission c that govern directories.
 ghost use Rattle.std.specs.Prelude.{◌≡◌, ◌<◌, length, IsTrue, IfSome};
 ghost use Rattle.pv_audit.specs.Findings.{least_above, lesser, passing};
-ghost use Rattle.pv_model.specs.Calls.Restraints.{entries_of_table};
-ghost use Rattle.pv_model.specs.Tree.{is_directory_at};
+ghost use Rattle.pv_model.specs.Machine.{entries_of_table, is_directory_at};
 
-use pv_tree::Tree;
-use pv_unveil::{Table, above};
+use pv_calls_state::tree::Tree;
+use pv_calls_state::unveil::{Table, above};
 
 /// Returns the lesser of two numbers, either of which may be absent.
 pub(crate) fn lesser(a: Option<u8>, b: Option<u8>) -> Option<u8>

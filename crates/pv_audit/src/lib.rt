@@ -11,5 +11,8 @@ mod suspects;
 mod table_access;
 mod verdicts;
 
+pub use pv_calls_state as calls_state;
+pub use pv_calls_state::{procs, script, tree};
+pub use pv_namei as namei;
 pub use reasons::{Leaks, frozen_to, leak, leaks};
 pub use verdicts::{audit, audit_node, verdict_of};

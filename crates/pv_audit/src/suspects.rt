@@ -3,9 +3,7 @@ ghost use Rattle.std.specs.Prelude.{◌≡◌, map, true, IsTrue, IsSome};
 ghost use Rattle.std.specs.FinMap.Entries.{is_sorted};
 ghost use Rattle.std.specs.Ordering.{nat_cmp};
 ghost use Rattle.pv_audit.specs.Findings.{are_live, note_of, noted_by, suspect};
-ghost use Rattle.pv_model.specs.Held.{live_processes};
-ghost use Rattle.pv_model.specs.State.{process_at};
-ghost use Rattle.pv_model.specs.Tree.{is_directory_at, names_of};
+ghost use Rattle.pv_model.specs.Machine.{live_processes, process_at, is_directory_at, names_of};
 
 use crate::table_access::TableAccess;
 use arrayvec::ArrayVec;
@@ -14,7 +12,7 @@ use pv_model::Name;
 use pv_model::limits::{LAST_PROCESS, PROCESSES};
 
 /// A live process, with the access that its table gives to the audited file.
-#[derive(Clone, Copy, Debug, PartialEq, Eq, Default)]
+#[derive(Clone, Copy, Default)]
 pub(crate) struct Suspect {
     /// The number of the process.
     pub(crate) pid: u32,

@@ -1,16 +1,15 @@
 //! The access that an unveil table gives to a file.
 ghost use Rattle.std.specs.Prelude.{◌≡◌, IsTrue};
 ghost use Rattle.pv_audit.specs.Findings.{nothing, noted};
-ghost use Rattle.pv_model.specs.Calls.Restraints.{entries_of_table};
-ghost use Rattle.pv_model.specs.Tree.{is_directory_at};
+ghost use Rattle.pv_model.specs.Machine.{entries_of_table, is_directory_at};
 
 use crate::entries::{least_above, lesser};
+use pv_calls_state::tree::Tree;
+use pv_calls_state::unveil::Table;
 use pv_model::Name;
-use pv_tree::Tree;
-use pv_unveil::Table;
 
 /// The access that the table of a process gives to a file, by the names of the file that were noted.
-#[derive(Clone, Copy, Debug, PartialEq, Eq, Default)]
+#[derive(Clone, Copy, Default)]
 pub(crate) struct TableAccess {
     /// The least entry that gives a name r, x or c.
     pub(crate) gives: Option<u8>,

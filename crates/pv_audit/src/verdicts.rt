@@ -3,17 +3,16 @@ ghost use Rattle.std.specs.Prelude.{◌≡◌, true, IsSome};
 ghost use Rattle.std.specs.List.{list_all};
 ghost use Rattle.pv_audit.specs.Findings.{are_live};
 ghost use Rattle.pv_audit.specs.Reasons.{preserved_at, leak_among};
-ghost use Rattle.pv_model.specs.Sealed.{audit as audit_by_definition, audit_node as audit_of, is_file, verdict};
-ghost use Rattle.pv_model.specs.Effect.{node_of};
-ghost use Rattle.pv_model.specs.Tree.{node_at};
+ghost use Rattle.pv_model.specs.Machine.{audit_node as audit_of, is_file, node_of, node_at};
+ghost use Rattle.pv_model.specs.Sealed.{audit as audit_by_definition, verdict};
 
 use crate::reasons::{is_preserved_from, reason_for};
 use crate::suspects::{Suspect, found_suspects};
 use pv_calls_state::Parts;
+use pv_calls_state::tree::{PlaceRef, Tree};
 use pv_model::limits::ROOT;
 use pv_model::{AuditFault, Errno, Follow, Kind, Leak, Place, Verdict};
 use pv_namei::{PlainLookup, resolve};
-use pv_tree::{PlaceRef, Tree};
 
 // Returns the first process that is not closed to a file, with its first reason.
 fn first_leak(parts: &Parts, suspects: &[Suspect], node: u16) -> Option<Leak>

@@ -1,9 +1,7 @@
 -- An inode that is in use stays in use.
 use Rattle.std.proofs.Common.{◌≡◌, ℕ, zero, suc, [], ◌∷◌, ◌<◌, length, Option, Some, IsSome, IfSome, Result, Ok, Err, OnOk, OnErr, refl, sym, subst, arith}
 use Rattle.pv_model.specs.declared.kind.Kind.{Kind}
-use Rattle.pv_model.specs.Numbered.{Numbered, at_number, with_number}
-use Rattle.pv_model.specs.Bytes.{Bytes}
-use Rattle.pv_model.specs.Effect.{overwrite, resize}
+use Rattle.pv_model.specs.Machine.{Numbered, at_number, with_number, Bytes, overwrite, resize}
 use Rattle.pv_inodes.specs.Files.{Files, IsUsed, bytes_at, cut, with_new, written}
 use Rattle.pv_inodes.proofs.Edits.{used-with_bytes}
 

@@ -1,6 +1,6 @@
 //! The image that is measured.
 ghost use Rattle.std.specs.Prelude.{◌+◌, ◌≤◌};
-ghost use Rattle.pv_model.specs.Image.{inode_blocks, greatest_blocks};
+ghost use Rattle.pv_model.specs.Machine.{inode_blocks, greatest_blocks};
 
 use pv_model::Version;
 

@@ -2,7 +2,7 @@
 ghost use Rattle.std.specs.Prelude.{◌≡◌, ◌-◌, ◌≤◌, ◌++◌, min, length, take, drop, OnOk, OnErr};
 ghost use Rattle.pv_inodes.specs.Files.{IsUsed, bytes_at, written};
 ghost use Rattle.pv_model.specs.declared.version.Version.TheVariants.{V1};
-ghost use Rattle.pv_model.specs.Room.{greatest_length};
+ghost use Rattle.pv_model.specs.Machine.{greatest_length};
 
 use crate::image::{INODES, blocks_of};
 use anyhow::{Context, Result};

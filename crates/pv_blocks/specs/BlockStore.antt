@@ -2,8 +2,7 @@
 use Rattle.std.specs.Prelude.{◌≡◌, ℕ, ◌*◌, ◌<◌, ◌≤◌, Bool, true, false, not, ◌&&◌, if◌then◌else◌, nat_le, nat_lt, List, [], map, length, count_by, slice_get, slice_index_or, slice_set, Some}
 use Rattle.std.specs.List.{range_with_len}
 use Rattle.pv_model.specs.declared.limits.TheConstants.{BLOCK}
-use Rattle.pv_model.specs.Bytes.{Bytes}
-use Rattle.pv_model.specs.Image.{block}
+use Rattle.pv_model.specs.Machine.{Bytes, block}
 use Rattle.pv_blocks.specs.declared.block_set.BlockSet.{BlockSet}
 use Rattle.pv_blocks.specs.BlockSet.{is_member}
 

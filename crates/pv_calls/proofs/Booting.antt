@@ -6,26 +6,22 @@ use Rattle.pv_model.specs.declared.fault.ParseFault.TheVariants.{Line, Memory as
 use Rattle.pv_model.specs.declared.kernel_fault.BootFault.{BootFault}
 use Rattle.pv_model.specs.declared.kernel_fault.BootFault.TheVariants.{Memory}
 use Rattle.pv_model.specs.declared.call.Call.{Call}
-use Rattle.pv_model.specs.CallRef.{call_of}
-use Rattle.pv_model.specs.Grammar.Programs.{read_program}
-use Rattle.pv_model.specs.Program.{inside, calls_for, next}
+use Rattle.pv_model.specs.Machine.{call_of, read_program, inside, calls_for, next, and_then, booted, Program, Process, State, first_state, process_at, Tree, Node, directory_node, file_node, link_node}
 use Rattle.pv_model.specs.RunFault.{of_init}
-use Rattle.pv_model.specs.Start.{and_then, program_in, init_of, booted}
-use Rattle.pv_model.specs.State.{Program, Process, State, first_state, process_at}
-use Rattle.pv_model.specs.Tree.{Tree, Node, directory_node, file_node, link_node}
-use Rattle.pv_calls_state.specs.Changes.{IsRegistered, MovesInside, PassesInside, StepsInside}
-use Rattle.pv_calls_state.specs.Counts.{processes_of}
-use Rattle.pv_calls_state.proofs.Alone.{passes-same, some-at}
+use Rattle.pv_model.specs.Start.{program_in, init_of}
+use Rattle.pv_audit.specs.OfCallsState.Changes.{IsRegistered, MovesInside, PassesInside, StepsInside}
+use Rattle.pv_audit.specs.OfCallsState.Counts.{processes_of}
+use Rattle.pv_audit.proofs.OfCallsState.Alone.{passes-same, some-at}
 use Rattle.pv_calls.specs.Kernel.{IsCallable}
-use Rattle.pv_procs.specs.declared.processes.Fetched.{Fetched}
-use Rattle.pv_procs.specs.declared.processes.Fetched.TheVariants.{Gone, Register, Call as AtCall}
-use Rattle.pv_procs.specs.ProcessTable.{ProcessTable, process_in}
-use Rattle.pv_procs.specs.Turns.{AwaitsCall, IsFetched, RegisterNext, context_of}
-use Rattle.pv_script.specs.Context.{is_inside}
-use Rattle.pv_laws_states.specs.States.{IsFirstTree, IsRunning, IsValid, is_program, is_call}
+use Rattle.pv_audit.specs.OfProcs.declared.processes.Fetched.{Fetched}
+use Rattle.pv_audit.specs.OfProcs.declared.processes.Fetched.TheVariants.{Gone, Register, Call as AtCall}
+use Rattle.pv_audit.specs.OfProcs.ProcessTable.{ProcessTable, process_in}
+use Rattle.pv_audit.specs.OfProcs.Turns.{AwaitsCall, IsFetched, RegisterNext, context_of}
+use Rattle.pv_audit.specs.OfScript.Context.{is_inside}
+use Rattle.pv_laws_states.specs.States.{IsFirstTree, IsRunning, IsValid, is_program_in_bounds, is_call}
 use Rattle.pv_laws_states.proofs.BySteps.{IsGoodNext, good-next, first-whole}
-use Rattle.pv_laws_states.proofs.Running.{SameHolds, whole-inside}
-use Rattle.pv_script.specs.Passing.{Passes}
+use Rattle.pv_laws_states.proofs.ProcessInsides.{SameHolds, whole-inside}
+use Rattle.pv_audit.specs.OfScript.Passing.{Passes}
 use Rattle.pv_laws_runs.proofs.Ranges.{program_of-encodes}
 use Rattle.std.specs.Result.{result_ok}
 
@@ -126,7 +122,7 @@ encoded (Err (Line n what)) program is = absurd cc
 encoded (Err ParseMemory) program is = absurd cc
 
 -- the first program is within its ranges
-first-good : (node : Option Node) (program : Program) → program_in node ≡ Ok program → is_program program ≡ true
+first-good : (node : Option Node) (program : Program) → program_in node ≡ Ok program → is_program_in_bounds program ≡ true
 first-good None [] is = refl
 first-good None (i ∷ is) e = absurd cc
 first-good (Some (file_node true bytes)) program is = program_of-encodes.encodes bytes program (encoded (read_program bytes) program is)

@@ -6,42 +6,31 @@ use Rattle.pv_model.specs.declared.errno.Errno.TheVariants.{ENOSYS}
 use Rattle.pv_model.specs.declared.outcome.Cause.TheVariants.{Promise as ByPromise}
 use Rattle.pv_model.specs.declared.outcome.Outcome.TheVariants.{Gone, Killed, Blocked}
 use Rattle.pv_model.specs.declared.promise.Promise.{Promise}
-use Rattle.pv_model.specs.Answer.{Answered, answer, answer_by_attempt, at_next_line, effect, update}
+use Rattle.pv_model.specs.Machine.{Answered, answer, answer_by_attempt, at_next_line, effect, update, refused, give, waits, end_process, wait, with_result, program_of, collect, needs, Promises, is_lenient, missing_promise, Process, State, process_at, with_process, Bytes, errno_number, Tree, find_entry, IsWellFormed}
 use Rattle.pv_model.specs.declared.call.Call.TheVariants.{Wait}
-use Rattle.pv_model.specs.Attempt.{refused, give}
-use Rattle.pv_model.specs.Effect.{waits}
 use Rattle.std.specs.FinMap.Entries.{is_sorted}
 use Rattle.std.specs.Ordering.{nat_cmp}
 use Rattle.pv_calls.proofs.Waiting.{waits-next}
-use Rattle.pv_model.specs.Calls.Processes.{end_process, wait, with_result}
-use Rattle.pv_model.specs.Grammar.Programs.{program_of}
-use Rattle.pv_model.specs.Held.{collect}
-use Rattle.pv_model.specs.Needs.{needs}
-use Rattle.pv_model.specs.Promises.{Promises, is_lenient, missing_promise}
-use Rattle.pv_model.specs.State.{Process, State, process_at, with_process}
 use Rattle.pv_promises.specs.Decision.{unless_missing, decision}
 use Rattle.pv_promises.specs.declared.pledge.Decision.TheVariants.{Allowed, Kill, Refuse}
-use Rattle.pv_calls_plain.specs.declared.answer.Answer.{Answer}
+use Rattle.pv_calls_path.specs.OfCallsPlain.declared.answer.Answer.{Answer}
 use Rattle.pv_calls.specs.Calls.{IsCarriedOut, IsBlocked, continues}
 use Rattle.pv_calls.specs.Loading.{Loads, LoadsProgram}
 use Rattle.pv_calls_path.specs.Caller.{IsCaller}
-use Rattle.pv_calls_plain.specs.declared.answer.Refused.{Refused}
-use Rattle.pv_calls_plain.specs.Performed.{answered, IsAnswered}
+use Rattle.pv_calls_path.specs.OfCallsPlain.declared.answer.Refused.{Refused}
+use Rattle.pv_calls_path.specs.OfCallsPlain.Performed.{answered, IsAnswered}
 use Rattle.pv_laws_states.specs.States.{IsValid}
 use Rattle.pv_laws_states.proofs.Processes.{process_at-same, update-is, tree-update}
 use Rattle.pv_laws_states.proofs.Replies.{whole-at_call}
 use Rattle.pv_laws_states.proofs.Collect.{tree-collect, held_after}
-use Rattle.pv_model.specs.Bytes.{Bytes}
-use Rattle.pv_model.specs.Errno.{errno_number}
-use Rattle.pv_model.specs.Tree.{Tree, find_entry, IsWellFormed}
-use Rattle.pv_procs.specs.declared.record.ProcessRecord.{ProcessRecord}
-use Rattle.pv_procs.specs.Parts.{record_of}
+use Rattle.pv_audit.specs.OfProcs.declared.record.ProcessRecord.{ProcessRecord}
+use Rattle.pv_audit.specs.OfProcs.Parts.{record_of}
 use Rattle.pv_promises.specs.declared.pledge.Decision.{Decision}
-use Rattle.pv_laws_trees.specs.Preserved.{wanted}
-use Rattle.pv_laws_trees.proofs.Keeping.{find-only, wanted-covers}
+use Rattle.pv_laws_trees.specs.Preserved.{numbers_wanted}
+use Rattle.pv_laws_trees.proofs.Collection.{find-only, wanted-covers}
 use Rattle.pv_laws_trees.proofs.Trees.{sound}
-use Rattle.pv_calls_state.proofs.Alone.{some-at}
-use Rattle.pv_laws_states.proofs.Ending.{tree-end}
+use Rattle.pv_audit.proofs.OfCallsState.Alone.{some-at}
+use Rattle.pv_laws_states.proofs.ValidEnds.{tree-end}
 use Rattle.pv_model.specs.declared.kernel_fault.StepFault.{StepFault}
 
 nothing_missing : (lenient : Bool) (missing : Option Promise) → unless_missing lenient missing ≡ Allowed → missing ≡ None
@@ -141,7 +130,7 @@ decided s pid r call d has is me at = ap (λ h. decision h (needs call)) (sym (p
 
 pub find-collect : (s : State) → IsWellFormed s.tree → (d : ℕ) (name : Bytes) → find_entry (collect s).tree d name ≡ find_entry s.tree d name
 find-collect s well d name =
-    ap (λ t. find_entry t d name) (tree-collect s) ∙ find-only s.tree (wanted s.tree (held_after s)) (sound s.tree well) (wanted-covers s.tree (held_after s)) d name
+    ap (λ t. find_entry t d name) (tree-collect s) ∙ find-only s.tree (numbers_wanted s.tree (held_after s)) (sound s.tree well) (wanted-covers s.tree (held_after s)) d name
 
 -- ---- waits
 
@@ -162,7 +151,7 @@ blocked-carried s pid Wait sorted blocked = λ me at.
     ap (answer_by_attempt s (with_process s pid (at_next_line me)) pid (at_next_line me)) ((waits-next s pid me sorted at).1 (blocked me at))
 blocked-carried s pid call sorted blocked = absurd blocked
 
--- ---- the lemmas for carry_out
+-- ---- the lemmas for make_call
 
 -- a process with a record is live, and a process without one is not
 pub live-of : (s : State) (pid : ℕ) (r : ProcessRecord) → option_map record_of (process_at s pid) ≡ Some r → (me : Process) × (process_at s pid ≡ Some me)

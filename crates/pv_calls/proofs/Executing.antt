@@ -2,15 +2,7 @@
 use Rattle.std.proofs.Common.{◌≡◌, ap, refl, ℕ, Option, None, Some}
 use Rattle.pv_model.specs.declared.errno.Errno.TheVariants.{ENOENT, EACCES, ENOEXEC}
 use Rattle.pv_model.specs.declared.place.Place.{Place}
-use Rattle.pv_model.specs.Answer.{at_next_line}
-use Rattle.pv_model.specs.Attempt.{Attempt, done, refused, after_walks, demand, ◌>>=◌, ◌>>◌}
-use Rattle.pv_model.specs.Bytes.{Bytes}
-use Rattle.pv_model.specs.Calls.Processes.{execve, executable_bytes, with_program}
-use Rattle.pv_model.specs.Effect.{answers, node_of, walk, judge}
-use Rattle.pv_model.specs.Grammar.Programs.{program_of}
-use Rattle.pv_model.specs.State.{Program, Process, State, with_process}
-use Rattle.pv_model.specs.Tree.{Tree, node_at}
-use Rattle.pv_model.specs.Walks.{execve_walk}
+use Rattle.pv_model.specs.Machine.{at_next_line, Attempt, done, refused, after_walks, demand, ◌>>=◌, ◌>>◌, Bytes, execve, executable_bytes, with_program, answers, node_of, walk, judge, program_of, Program, Process, State, with_process, Tree, node_at, execve_walk}
 use Rattle.pv_laws_states.proofs.Processes.{with_process-twice}
 
 module _ (put other : Program → State) (same : (p : Program) → put p ≡ other p) (t : Tree) where

@@ -8,3 +8,6 @@ pub mod Living
 pub mod Loading
 pub mod Performing
 pub mod Waiting
+pub use Rattle.pv_calls_path.proofs as OfCallsPath
+pub use Rattle.pv_audit.proofs.OfLawsAccess
+pub use Rattle.pv_laws_runs.proofs as OfLawsRuns

@@ -7,21 +7,9 @@ use Rattle.pv_model.specs.declared.call.Start.{Start}
 use Rattle.pv_model.specs.declared.call.Start.TheVariants.{WorkingDirectory}
 use Rattle.pv_model.specs.declared.errno.Errno.TheVariants.{ECHILD, EPERM, ENOENT, EBUSY, EEXIST, ENOTDIR, EISDIR, EINVAL, ENAMETOOLONG, ENOTEMPTY, EMFILE, ENFILE, ELOOP, EACCES, ENOEXEC}
 use Rattle.pv_model.specs.declared.open_flags.OpenFlags.{OpenFlags}
-use Rattle.pv_model.specs.Answer.{effect}
-use Rattle.pv_model.specs.Attempt.{Attempt, refuse_if, ◌>>=◌}
-use Rattle.pv_model.specs.Bytes.{Bytes, is_empty}
-use Rattle.pv_model.specs.Calls.Descriptors.{close, dup, dup2, fchdir, fstat, ftruncate, getdents, lseek, read, write, open_at, open_node, with_open_file, with_content, new_open_file, check_start}
-use Rattle.pv_model.specs.Calls.Paths.{chdir, link_text, mkdir, readlink, stat_at, symlink, link, unlink, rmdir, rename, make, move_entry, same_node}
-use Rattle.pv_model.specs.Calls.Processes.{children, execve, executable_bytes, fork, reap, statuses, with_program}
-use Rattle.pv_model.specs.Calls.Restraints.{pledge, unveil, add_target, refuse_if_locked}
-use Rattle.pv_model.specs.Effect.{Effect, answers, node_of, name_of, start_directory, with_file, with_room}
-use Rattle.pv_model.specs.Grammar.Programs.{program_of}
-use Rattle.pv_model.specs.Perms.{read_permissions}
-use Rattle.pv_model.specs.State.{Process, State, process_at, with_process, with_tree}
-use Rattle.pv_model.specs.Numbered.{least_free, with_number}
-use Rattle.pv_model.specs.Tree.{Node, file_node, Tree, new_number, node_at, with_new_node}
-use Rattle.pv_model.specs.Unveil.{target_of}
-use Rattle.pv_model.specs.Walks.{Walk, execve_walk, open_walk, chdir_walk, stat_walk, lstat_walk, readlink_walk, mkdir_walk, symlink_walk, linked_walk, new_link_walk, unlink_walk, rmdir_walk, rename_walk, unveil_walk}
+use Rattle.pv_model.specs.Machine.{effect, Attempt, refuse_if, ◌>>=◌, Bytes, is_empty, close, dup, dup2, fchdir, fstat, ftruncate, getdents, lseek, read, write, open_at, open_node, with_open_file, with_content, new_open_file, check_start, chdir, link_text, readlink, stat_at, symlink, link, unlink, rmdir, rename, move_entry, same_node, children, execve, executable_bytes, fork, reap, statuses, with_program, pledge, unveil, add_target, refuse_if_locked, Effect, answers, node_of, name_of, start_directory, with_file, with_room, program_of, read_permissions, Process, State, process_at, with_process, with_tree, least_free, with_number, Node, file_node, Tree, new_number, node_at, with_new_node, target_of, Walk, execve_walk, open_walk, rename_walk, unveil_walk}
+use Rattle.pv_model.specs.Calls.Paths.{mkdir, make}
+use Rattle.pv_model.specs.Walks.{chdir_walk, stat_walk, lstat_walk, readlink_walk, mkdir_walk, symlink_walk, linked_walk, new_link_walk, unlink_walk, rmdir_walk}
 use Rattle.pv_laws_states.proofs.Attempts.{Leads, leads-bind, leads-then, leads-refuse_if, leads-demand, leads-walk, leads-place, leads-room, leads-any}
 use Rattle.pv_laws_states.proofs.Processes.{process_at-same}
 use Rattle.pv_laws_states.specs.States.{IsValid}

@@ -7,15 +7,7 @@ use Rattle.pv_model.specs.declared.call.Call.TheVariants.{Execve}
 use Rattle.pv_model.specs.declared.errno.Errno.TheVariants.{ENOENT, EACCES, ENOEXEC}
 use Rattle.pv_model.specs.declared.outcome.Cause.TheVariants.{Plain}
 use Rattle.pv_model.specs.declared.place.Place.{Place}
-use Rattle.pv_model.specs.Answer.{answer, answer_by_attempt, at_next_line, effect}
-use Rattle.pv_model.specs.Attempt.{Attempt, done, refused, after_walks, demand, ◌>>=◌, ◌>>◌}
-use Rattle.pv_model.specs.Bytes.{Bytes}
-use Rattle.pv_model.specs.Calls.Processes.{execve, executable_bytes, with_program}
-use Rattle.pv_model.specs.Effect.{Effect, returns, returns_bytes, ends, waits, answers, node_of, walk, judge}
-use Rattle.pv_model.specs.Grammar.Programs.{program_of}
-use Rattle.pv_model.specs.State.{Program, Process, State, with_process}
-use Rattle.pv_model.specs.Tree.{Tree, node_at}
-use Rattle.pv_model.specs.Walks.{execve_walk}
+use Rattle.pv_model.specs.Machine.{answer, answer_by_attempt, at_next_line, effect, Attempt, done, refused, after_walks, demand, ◌>>=◌, ◌>>◌, Bytes, execve, executable_bytes, with_program, Effect, returns, returns_bytes, ends, waits, answers, node_of, walk, judge, program_of, Program, Process, State, with_process, Tree, node_at, execve_walk}
 use Rattle.pv_calls_path.specs.Execve.{LeadsToProgram}
 
 -- the attempt is not refused

@@ -3,41 +3,30 @@ use Rattle.std.proofs.Common.{rules, ◌≤◌, w32, to_z, of_z, ◌≡◌, ◌�
 use Rattle.std.specs.Prelude.{IsSome, OnErr}
 use Rattle.std.proofs.lemmas.Bool.{leb-true}
 use Rattle.std.proofs.lemmas.Int.{to_z-of_z}
-use Rattle.pv_calls_plain.specs.declared.answer.Answer.{Answer}
-use Rattle.pv_calls_plain.specs.declared.answer.Done.{Done}
-use Rattle.pv_calls_plain.specs.declared.answer.Refused.{Refused}
-use Rattle.pv_calls_state.specs.Attempts.{collected}
-use Rattle.pv_calls_plain.specs.Performed.{IsAnswered, IsPerformed, attempt_of, answered}
-use Rattle.pv_calls_state.proofs.Alone.{some-at}
-use Rattle.pv_calls_plain.proofs.Waits.{value_of}
+use Rattle.pv_calls_path.specs.OfCallsPlain.declared.answer.Answer.{Answer}
+use Rattle.pv_calls_path.specs.OfCallsPlain.declared.answer.Done.{Done}
+use Rattle.pv_calls_path.specs.OfCallsPlain.declared.answer.Refused.{Refused}
+use Rattle.pv_audit.specs.OfCallsState.Attempts.{collected}
+use Rattle.pv_calls_path.specs.OfCallsPlain.Performed.{IsAnswered, IsPerformed, attempt_of, answered}
+use Rattle.pv_audit.proofs.OfCallsState.Alone.{some-at}
+use Rattle.pv_calls_path.proofs.OfCallsPlain.Waits.{value_of}
 use Rattle.pv_calls.proofs.Carrying.{find-collect}
-use Rattle.pv_calls_plain.proofs.Reporting.{process_at-collect}
+use Rattle.pv_calls_path.proofs.OfCallsPlain.Reporting.{process_at-collect}
 use Rattle.pv_laws_states.specs.States.{IsValid, is_word}
 use Rattle.pv_laws_states.proofs.Attempts.{Leads, leads-bind, leads-then, leads-demand, leads-room, leads-any}
-use Rattle.pv_laws_states.proofs.Ending.{tree-end}
+use Rattle.pv_laws_states.proofs.ValidEnds.{tree-end}
 use Rattle.pv_laws_states.proofs.Processes.{process_at-same, tree-update}
-use Rattle.pv_laws_states.proofs.Whole.{still-live}
+use Rattle.pv_laws_states.proofs.ValidStates.{still-live}
 use Rattle.pv_model.specs.declared.call.Call.TheVariants.{Exit}
 use Rattle.pv_model.specs.declared.call.Whence.{Whence}
 use Rattle.pv_model.specs.declared.errno.Errno.TheVariants.{EAGAIN, EBADF, ECHILD, EFBIG, EINVAL, EISDIR, EMFILE}
 use Rattle.pv_model.specs.declared.limits.TheConstants.{BUFFER, DESCRIPTORS, LAST_PROCESS, OFFSET, PROCESSES}
 use Rattle.pv_model.specs.declared.outcome.Outcome.TheVariants.{Exited}
-use Rattle.pv_model.specs.Answer.{Answered, answer_by_attempt, effect, update, with_front}
-use Rattle.pv_model.specs.Attempt.{Attempt, done, refused, ◌>>=◌, ◌>>◌, refuse_if, demand}
-use Rattle.pv_model.specs.Bytes.{Bytes, is_empty}
-use Rattle.pv_model.specs.Calls.Descriptors.{close, directory_of, dup, dup2, fchdir, fstat, ftruncate, getdents, list_name, lseek, next_name, open_file_for, read, seek_base, write, after_write, is_number, is_past_greatest, natural, with_content, with_descriptor, with_duplicate, within, without_descriptor, write_end, write_place}
-use Rattle.pv_model.specs.Calls.Processes.{child, children, end_process, exit_status, fork, reap, statuses, wait, with_result}
-use Rattle.pv_model.specs.Calls.Restraints.{asked_promises, pledge, unless_refused}
-use Rattle.pv_model.specs.Effect.{Effect, returns, returns_bytes, ends, waits, answers, answers_bytes, bytes_of, descriptor_at, open_file, overwrite, resize, status, with_file, with_room}
-use Rattle.pv_model.specs.Errno.{errno_number}
-use Rattle.pv_model.specs.Grammar.Programs.{program_of}
-use Rattle.pv_model.specs.Held.{collect}
-use Rattle.pv_model.specs.Numbered.{least_free, with_number}
-use Rattle.pv_model.specs.Promises.{Promises, is_lenient, narrow_promises}
-use Rattle.pv_model.specs.State.{Descriptor, OpenFile, Process, State, process_at, reads, with_process, with_tree, writes}
-use Rattle.pv_model.specs.Tree.{IsWellFormed, entries_at, find_entry, is_directory_at, node_at}
+use Rattle.pv_model.specs.Machine.{Answered, answer_by_attempt, effect, update, with_front, Attempt, done, refused, ◌>>=◌, ◌>>◌, refuse_if, demand, Bytes, is_empty, close, directory_of, dup, dup2, fchdir, fstat, ftruncate, getdents, list_name, lseek, next_name, open_file_for, read, seek_base, write, after_write, is_number, is_past_greatest, natural, with_content, with_descriptor, within, without_descriptor, write_end, write_place, child, children, end_process, fork, reap, statuses, wait, with_result, asked_promises, pledge, unless_refused, Effect, returns, returns_bytes, ends, waits, answers, answers_bytes, bytes_of, descriptor_at, open_file, overwrite, resize, status, with_file, with_room, errno_number, program_of, collect, least_free, with_number, Promises, is_lenient, narrow_promises, Descriptor, OpenFile, Process, State, process_at, reads, with_process, with_tree, writes, IsWellFormed, entries_at, find_entry, is_directory_at, node_at}
+use Rattle.pv_model.specs.Calls.Descriptors.{with_duplicate}
+use Rattle.pv_model.specs.Calls.Processes.{exit_status}
 use Rattle.pv_laws_trees.proofs.Edits.{stays-content}
-use Rattle.pv_laws_trees.proofs.Found.{alike-content}
+use Rattle.pv_laws_trees.proofs.Lookups.{alike-content}
 use Rattle.pv_laws_trees.specs.Found.{Alike}
 
 -- ---- reports

@@ -6,16 +6,11 @@ use Rattle.std.specs.Ordering.{nat_cmp, is_eq}
 use Rattle.std.specs.declared.cmp.Ordering.{Ordering}
 use Rattle.std.specs.declared.cmp.Ordering.TheVariants.{Less, Equal, Greater}
 use Rattle.pv_model.specs.declared.errno.Errno.TheVariants.{ECHILD}
-use Rattle.pv_model.specs.Answer.{at_next_line}
-use Rattle.pv_model.specs.Attempt.{give, refuse_if, ◌>>◌}
-use Rattle.pv_model.specs.Bytes.{is_empty}
-use Rattle.pv_model.specs.Calls.Processes.{parent_of, children, statuses, reap, wait}
-use Rattle.pv_model.specs.Effect.{Effect, waits}
-use Rattle.pv_model.specs.State.{Process, ProcessRecord, live, ended_record, State, process_at, with_process}
+use Rattle.pv_model.specs.Machine.{at_next_line, give, refuse_if, ◌>>◌, is_empty, parent_of, children, statuses, reap, wait, Effect, waits, Process, ProcessRecord, live, ended_record, State, process_at, with_process}
 use Rattle.std.proofs.lemmas.Bool.{and_parts}
 use Rattle.pv_laws_states.proofs.Members.{live-found}
-use Rattle.pv_laws_states.proofs.Running.{not_before}
-use Rattle.pv_calls_state.proofs.Reaping.{value_of}
+use Rattle.pv_laws_states.proofs.ProcessInsides.{not_before}
+use Rattle.pv_audit.proofs.OfCallsState.Reaping.{value_of}
 
 -- two lists of processes agree on whether a test selects any, and on the statuses of the ended ones that it selects
 abbrev SameChildren : (ℕ × ProcessRecord → Bool) → List (ℕ × ProcessRecord) → List (ℕ × ProcessRecord) → Type 0

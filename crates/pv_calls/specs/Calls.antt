@@ -1,17 +1,12 @@
 -- The answers of a live process's call that the promises allow.
 use Rattle.std.specs.Prelude.{◌≡◌, ◌≢◌, ⊤, ℕ, Bool, true, false, Some}
-use Rattle.pv_calls_plain.specs.declared.answer.Answer.{Answer}
-use Rattle.pv_calls_plain.specs.Performed.{IsAnswered, IsPerformed, answered}
-use Rattle.pv_calls.specs.declared.carry.Reply.{Reply}
-use Rattle.pv_calls.specs.declared.carry.Reply.TheVariants.{Performed, Reported}
+use Rattle.pv_calls_path.specs.OfCallsPlain.declared.answer.Answer.{Answer}
+use Rattle.pv_calls_path.specs.OfCallsPlain.Performed.{IsAnswered, IsPerformed, answered}
+use Rattle.pv_calls.specs.declared.calls.Reply.{Reply}
+use Rattle.pv_calls.specs.declared.calls.Reply.TheVariants.{Performed, Reported}
 use Rattle.pv_model.specs.declared.call.Call.{Call}
 use Rattle.pv_model.specs.declared.call.Call.TheVariants.{Wait, Execve}
-use Rattle.pv_model.specs.Answer.{answer_by_attempt, at_next_line, effect}
-use Rattle.pv_model.specs.Attempt.{Attempt, give}
-use Rattle.pv_model.specs.Calls.Processes.{wait}
-use Rattle.pv_model.specs.Effect.{Effect, waits}
-use Rattle.pv_model.specs.Grammar.Programs.{program_of}
-use Rattle.pv_model.specs.State.{Process, State, process_at, with_process}
+use Rattle.pv_model.specs.Machine.{answer_by_attempt, at_next_line, effect, Attempt, give, wait, Effect, waits, program_of, Process, State, process_at, with_process}
 
 abbrev pub is_execve : Call → Bool
 is_execve (Execve path) = true

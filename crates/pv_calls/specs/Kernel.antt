@@ -1,10 +1,9 @@
 -- The kernel as contracts see it.
 use Rattle.std.specs.Prelude.{⊤, ℕ, IsTrue}
 use Rattle.pv_laws_states.specs.States.{is_call}
-use Rattle.pv_model.specs.CallRef.{call_of}
-use Rattle.pv_model.specs.State.{State}
-use Rattle.pv_procs.specs.declared.processes.Fetched.{Fetched}
-use Rattle.pv_procs.specs.declared.processes.Fetched.TheVariants.{Gone, Register, Call}
+use Rattle.pv_model.specs.Machine.{call_of, State}
+use Rattle.pv_audit.specs.OfProcs.declared.processes.Fetched.{Fetched}
+use Rattle.pv_audit.specs.OfProcs.declared.processes.Fetched.TheVariants.{Gone, Register, Call}
 
 -- the state of the machine, and the number of walks that the last call began
 pub record Running : Type 0 where

@@ -6,9 +6,7 @@ use Rattle.pv_model.specs.declared.errno.Errno.TheVariants.{ENOEXEC}
 use Rattle.pv_model.specs.declared.outcome.Cause.TheVariants.{Plain}
 use Rattle.pv_model.specs.declared.outcome.Outcome.{Outcome}
 use Rattle.pv_model.specs.declared.outcome.Outcome.TheVariants.{Value, Failed}
-use Rattle.pv_model.specs.Needs.{needs}
-use Rattle.pv_model.specs.Promises.{missing_promise}
-use Rattle.pv_model.specs.State.{Process, State, process_at}
+use Rattle.pv_model.specs.Machine.{needs, missing_promise, Process, State, process_at}
 use Rattle.pv_calls_path.specs.Execve.{LeadsToProgram}
 
 -- the call is an execve that leads to an executable file that the table of the process allows

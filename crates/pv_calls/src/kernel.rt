@@ -1,33 +1,24 @@
 //! The kernel: the state of the machine, and the calls on it.
-ghost use Rattle.std.specs.Prelude.{◌≡◌, ◌⊎◌, ◌<◌, ◌≤◌, IfOk, IfErr, OnOk, OnErr, IsSome, IsTrue, Ok, Err, Some, length};
+ghost use Rattle.std.specs.Prelude.{◌≡◌, ◌⊎◌, ◌<◌, ◌≤◌, IfOk, IfErr, OnOk, OnErr, IsTrue, Ok, Err, length};
 ghost use Rattle.pv_laws_states.specs.States.{IsFirstTree, IsValid, is_call};
 ghost use Rattle.pv_model.specs.declared.limits.TheConstants.{BUFFER};
-ghost use Rattle.pv_model.specs.Answer.{answer};
-ghost use Rattle.pv_model.specs.CallRef.{call_of};
-ghost use Rattle.pv_model.specs.Grammar.Programs.{program_of};
-ghost use Rattle.pv_model.specs.Sealed.{is_frozen_to, leaks};
-ghost use Rattle.pv_model.specs.Start.{booted};
-ghost use Rattle.pv_model.specs.State.{Process, process_at};
-ghost use Rattle.pv_model.specs.Trace.{buffer_of};
-ghost use Rattle.pv_model.specs.Tree.{find_entry};
-ghost use Rattle.pv_audit.specs.Reasons.{first_of};
+ghost use Rattle.pv_model.specs.Machine.{answer, call_of, program_of, booted, process_at, buffer_of, find_entry};
 ghost use Rattle.pv_calls.specs.Kernel.{IsCallable};
 ghost use Rattle.pv_calls.specs.Loading.{LoadsProgram};
-ghost use Rattle.pv_calls_state.specs.Changes.{IsRegistered, PassesInside, StepsInside};
-ghost use Rattle.pv_procs.specs.Turns.{AwaitsCall, IsFetched, RegisterNext};
-ghost use Rattle.pv_tree.specs.Sizes.{HaveSameSizes};
+ghost use Rattle.pv_audit.specs.OfCallsState.Changes.{IsRegistered, PassesInside, StepsInside};
+ghost use Rattle.pv_audit.specs.OfProcs.Turns.{AwaitsCall, IsFetched, RegisterNext};
+ghost use Rattle.pv_audit.specs.OfTree.Sizes.{HaveSameSizes};
 
-use crate::carry::carry_out;
-use pv_audit::{frozen_to, leak};
+use crate::calls::make_call;
+use pv_audit::calls_state::Parts;
+use pv_audit::namei::{CachedLookup, Lookup};
+use pv_audit::procs::Fetched;
+use pv_audit::script::CallTexts;
+use pv_audit::tree::{Store, Tree};
 use pv_calls_path::links::LinkRoom;
 use pv_calls_path::programs::init;
 use pv_calls_path::system::System;
-use pv_calls_state::Parts;
 use pv_model::{BootFault, CallRef, Outcome, StepFault, Why};
-use pv_namei::{CachedLookup, Lookup};
-use pv_procs::Fetched;
-use pv_script::CallTexts;
-use pv_tree::{Store, Tree};
 use std::alloc::{AllocError, Global};
 use std::marker::Model;
 
@@ -41,7 +32,7 @@ pub struct Kernel<L: Lookup + Drop> {
 }
 
 impl<L: Lookup + Drop> Model for Kernel<L> {
-    ghost use Rattle.pv_calls_state.specs.Changes.{StepsInside};
+    ghost use Rattle.pv_audit.specs.OfCallsState.Changes.{StepsInside};
     ghost use Rattle.pv_calls.specs.Kernel.{Running};
 
     ghost Value = { Running };
@@ -173,7 +164,7 @@ impl<L: Lookup + Drop> Kernel<L> {
         ensures refused { OnErr result (self.new ≡ self.old) }
         ensures memory { IfErr result (λ _. LoadsProgram self.old.state pid (call_of call.entry)) }
     {
-        let answer = carry_out(alloc, &mut self.system, pid, call)?;
+        let answer = make_call(alloc, &mut self.system, pid, call)?;
         self.walks = answer.walks;
         Ok(answer.outcome)
     }
@@ -201,26 +192,6 @@ impl<L: Lookup + Drop> Kernel<L> {
         ensures { result.now.tree ≡ self.now.state.tree }
     {
         self.system.parts.tree()
-    }
-
-    /// Returns the first reason why a live process is not closed to the file of a node, or `None` if it is closed. Does
-    /// not allocate.
-    pub fn leak(&self, pid: u32, node: u16) -> Option<Why>
-        requires { IsSome (process_at self.now.state pid) }
-        ensures { (p : Process) → process_at self.now.state pid ≡ Some p
-            → result ≡ first_of (leaks self.now.state p node) }
-    {
-        leak(&self.system.parts, pid, node)
-    }
-
-    /// Returns whether a live process that is closed to the file of a node has no descriptor that writes the file, and
-    /// can never get one. Does not allocate.
-    pub fn frozen_to(&self, pid: u32, node: u16) -> bool
-        requires { IsSome (process_at self.now.state pid) }
-        ensures { (p : Process) → process_at self.now.state pid ≡ Some p
-            → result ≡ is_frozen_to self.now.state p node }
-    {
-        frozen_to(&self.system.parts, pid, node)
     }
 
     /// Returns the state. Between two calls it satisfies the invariant of all runs.

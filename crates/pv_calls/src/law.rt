@@ -2,9 +2,7 @@
 ghost use Rattle.std.specs.Prelude.{ℕ};
 ghost use Rattle.pv_calls.specs.Loading.{IsOfLoading, LoadsProgram};
 ghost use Rattle.pv_model.specs.declared.call.Call.{Call};
-ghost use Rattle.pv_model.specs.Answer.{answer};
-ghost use Rattle.pv_model.specs.Grammar.Programs.{program_of};
-ghost use Rattle.pv_model.specs.State.{State};
+ghost use Rattle.pv_model.specs.Machine.{answer, program_of, State};
 
 /// States that a call that has a program to load answers 0, or `ENOEXEC` if the file does not parse as a program. Out
 /// of memory can thus only replace these two answers of execve(2).

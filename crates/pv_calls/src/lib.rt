@@ -5,12 +5,16 @@
 //! carries out, or a system call, which `Kernel::call` answers as the definitions do. A contract sees the state and the
 //! number of walks that the last call began.
 //!
-//! `carry` checks the promises, dispatches the call and reports its answer. `law` states which answers out of memory
+//! `calls` checks the promises, dispatches the call and reports its answer. `law` states which answers out of memory
 //! can replace.
 #![tactic(auto)]
 
-mod carry;
+mod calls;
 pub mod kernel;
 pub mod law;
 
 pub use kernel::Kernel;
+pub use pv_audit as audit;
+pub use pv_audit::{calls_state, namei, procs, script, tree};
+pub use pv_calls_path as calls_path;
+pub use pv_calls_path::calls_plain;

@@ -13,22 +13,10 @@ use Rattle.pv_model.specs.declared.outcome.Cause.TheVariants.{Plain, Promise as 
 use Rattle.pv_model.specs.declared.outcome.Outcome.TheVariants.{Killed}
 use Rattle.pv_model.specs.declared.place.Place.{Place}
 use Rattle.pv_model.specs.declared.promise.Promise.{Promise}
-use Rattle.pv_model.specs.Answer.{Answered, answer, answer_by_attempt, answer_by_reply, answer_of, answer_where, at_next_line, effect}
-use Rattle.pv_model.specs.Attempt.{Attempt, done, refused, give, demand, refuse_if, ◌>>=◌, ◌>>◌}
-use Rattle.pv_model.specs.Bytes.{Bytes}
-use Rattle.pv_model.specs.Calls.Descriptors.{check_start, contradicts, directory_of, open_at}
-use Rattle.pv_model.specs.Calls.Processes.{end_process}
-use Rattle.pv_model.specs.Effect.{Effect, Reply, returns, returns_bytes, ends, waits, end_of, open_file}
-use Rattle.pv_model.specs.Held.{collect}
-use Rattle.pv_model.specs.Needs.{needs}
-use Rattle.pv_model.specs.Promises.{is_lenient, missing_promise}
-use Rattle.pv_model.specs.State.{OpenFile, Process, Program, State, process_at, with_process}
-use Rattle.pv_model.specs.Touch.{place_found}
-use Rattle.pv_model.specs.Tree.{is_directory_at}
-use Rattle.pv_model.specs.Walk.{is_absolute}
-use Rattle.pv_model.specs.Walks.{Walk, open_walk, walk_number, walks_of}
+use Rattle.pv_model.specs.Machine.{Answered, answer, answer_by_attempt, answer_of, answer_where, at_next_line, effect, Attempt, done, refused, give, demand, refuse_if, ◌>>=◌, ◌>>◌, Bytes, check_start, contradicts, directory_of, open_at, end_process, Effect, Reply, returns, returns_bytes, ends, waits, end_of, open_file, collect, needs, is_lenient, missing_promise, OpenFile, Process, Program, State, process_at, with_process, place_found, is_directory_at, is_absolute, Walk, open_walk, walk_number, walks_of}
+use Rattle.pv_model.specs.Answer.{answer_by_reply}
 use Rattle.pv_calls_path.specs.Ends.{end_begun, if_given}
-use Rattle.pv_calls_state.proofs.Attempts.{refused_before}
+use Rattle.pv_calls_plain.proofs.OfCallsState.Attempts.{refused_before}
 use Rattle.pv_calls_path.proofs.OpenCalls.{open_unstarted}
 
 -- ---- the number of walks of an attempt

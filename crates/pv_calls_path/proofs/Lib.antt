@@ -9,3 +9,4 @@ pub mod OpenCalls
 pub mod Reaching
 pub mod Renaming
 pub mod UnveilCalls
+pub use Rattle.pv_calls_plain.proofs as OfCallsPlain

@@ -5,24 +5,15 @@ use Rattle.pv_calls_plain.specs.declared.answer.Answer.{Answer}
 use Rattle.pv_calls_plain.specs.declared.answer.Refused.{Refused}
 use Rattle.pv_calls_plain.specs.Performed.{answered}
 use Rattle.pv_calls_path.specs.Reached.{IsFound}
-use Rattle.pv_dirs.specs.Trees.{bytes_at, bytes_of}
+use Rattle.pv_namei.specs.OfDirs.Trees.{bytes_at, bytes_of}
 use Rattle.pv_laws_states.specs.States.{IsValid}
 use Rattle.pv_model.specs.declared.call.Start.TheVariants.{WorkingDirectory}
 use Rattle.pv_model.specs.declared.errno.Errno.TheVariants.{EINVAL, ENOENT}
 use Rattle.pv_model.specs.declared.outcome.Cause.TheVariants.{Plain}
-use Rattle.pv_model.specs.Answer.{Answered, answer_by_attempt, with_front}
-use Rattle.pv_model.specs.Attempt.{Attempt, done, refused, after_walks, demand, ◌>>=◌, ◌>>◌}
-use Rattle.pv_model.specs.Bytes.{Bytes}
-use Rattle.pv_model.specs.Calls.Descriptors.{is_link}
-use Rattle.pv_model.specs.Calls.Paths.{link_text, readlink, stat_at}
-use Rattle.pv_model.specs.Calls.Processes.{with_result}
-use Rattle.pv_model.specs.Effect.{Effect, answers_bytes, judge_for, node_of, returns_bytes, status, walk_from}
-use Rattle.pv_model.specs.Errno.{errno_number}
-use Rattle.pv_model.specs.State.{Process, State, process_at}
-use Rattle.pv_model.specs.Tree.{Node, directory_node, file_node, link_node, Tree, find_entry, is_directory, is_link_text, node_at}
-use Rattle.pv_model.specs.Walks.{Walk, readlink_walk}
+use Rattle.pv_model.specs.Machine.{Answered, answer_by_attempt, with_front, Attempt, done, refused, after_walks, demand, ◌>>=◌, ◌>>◌, Bytes, is_link, link_text, readlink, stat_at, with_result, Effect, answers_bytes, judge_for, node_of, returns_bytes, status, walk_from, errno_number, Process, State, process_at, Node, directory_node, file_node, link_node, Tree, find_entry, is_directory, is_link_text, node_at, Walk}
+use Rattle.pv_model.specs.Walks.{readlink_walk}
 use Rattle.pv_laws_trees.specs.Found.{Alike}
-use Rattle.pv_calls_state.proofs.Attempts.{given, refused_first}
+use Rattle.pv_calls_plain.proofs.OfCallsState.Attempts.{given, refused_first}
 use Rattle.pv_calls_path.proofs.Naming.{alike_update, update_tree}
 
 -- ---- names in directories after the report to a process

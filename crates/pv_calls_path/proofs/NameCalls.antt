@@ -3,34 +3,30 @@ use Rattle.std.proofs.lemmas.Bool.{and_from, and_parts, le-leb}
 use Rattle.std.proofs.Common.{◌≤◌, List, ◌==◌, ◌≡◌, ◌∙◌, ℕ, Bool, true, false, not, nat_lt, [], ◌∷◌, length, None, Some, is_some, refl, sym, ap, arith}
 use Rattle.pv_calls_plain.specs.Space.{space_errno}
 use Rattle.pv_calls_plain.specs.declared.answer.Refused.{Refused}
+use Rattle.pv_calls_path.specs.Linking.{link_at}
 use Rattle.pv_calls_path.specs.Reached.{IsMissed, IsReached}
-use Rattle.pv_calls_state.proofs.Attempts.{passed}
+use Rattle.pv_calls_plain.proofs.OfCallsState.Attempts.{passed}
 use Rattle.pv_calls_plain.proofs.Room.{crowded}
 use Rattle.pv_calls_path.proofs.Naming.{but_collect}
-use Rattle.pv_inodes.specs.declared.space.Space.{Space}
+use Rattle.pv_calls_path.proofs.Reaching.{both_reached_then}
+use Rattle.pv_namei.specs.OfInodes.declared.space.Space.{Space}
 use Rattle.pv_laws_states.specs.States.{IsValid, IsFinePlace, is_text, is_text_byte, is_byte}
 use Rattle.pv_laws_states.proofs.ByTree.{FineName, named-place}
-use Rattle.pv_laws_states.proofs.Grown.{new-below}
-use Rattle.pv_laws_states.proofs.Present.{text-bytes}
+use Rattle.pv_laws_states.proofs.GrownTrees.{new-below}
+use Rattle.pv_laws_states.proofs.ChangedStates.{text-bytes}
 use Rattle.pv_laws_trees.proofs.Places.{list_all-weaker, not_zero}
 use Rattle.pv_laws_states.proofs.Collect.{held_after, tree-collect}
 use Rattle.pv_model.specs.declared.call.Start.TheVariants.{WorkingDirectory}
 use Rattle.pv_model.specs.declared.outcome.Cause.TheVariants.{Plain}
 use Rattle.pv_model.specs.declared.place.Place.{Place}
-use Rattle.pv_model.specs.Attempt.{refused, refuse_if}
+use Rattle.pv_model.specs.Machine.{after_walks, refused, refuse_if, Bytes, is_empty, link, symlink, rmdir, ends_in_dot, node_of, name_of, collect, fits, Process, State, with_tree, Node, link_node, node_at, entries_of, entries_at, is_directory_at, find_entry, is_node, is_link_text, with_entry, without_entry, with_new_node, Walk}
 use Rattle.pv_model.specs.declared.errno.Errno.TheVariants.{ENOENT, EINVAL, ENAMETOOLONG, ENOTEMPTY}
-use Rattle.pv_model.specs.Bytes.{Bytes, is_empty}
-use Rattle.pv_model.specs.Calls.Paths.{make, link, symlink, rmdir, ends_in_dot}
-use Rattle.pv_model.specs.Effect.{node_of, name_of}
-use Rattle.pv_model.specs.Held.{collect}
-use Rattle.pv_model.specs.Room.{fits}
-use Rattle.pv_model.specs.State.{Process, State, with_tree}
-use Rattle.pv_model.specs.Tree.{Node, link_node, node_at, entries_of, entries_at, is_directory_at, find_entry, is_node, is_link_text, with_entry, without_entry, with_new_node}
-use Rattle.pv_model.specs.Walks.{Walk, linked_walk, new_link_walk, rmdir_walk, symlink_walk}
-use Rattle.pv_tree.specs.Rooms.{refusal}
+use Rattle.pv_model.specs.Calls.Paths.{make}
+use Rattle.pv_model.specs.Walks.{linked_walk, new_link_walk, rmdir_walk, symlink_walk}
+use Rattle.pv_namei.specs.OfTree.Rooms.{refusal}
 use Rattle.pv_laws_trees.specs.Found.{AlikeBut}
 use Rattle.pv_laws_trees.proofs.Edits.{stays-new_node, stays-with_entry, stays-without_entry}
-use Rattle.pv_laws_trees.proofs.Found.{alike-new, alike-with, alike-without}
+use Rattle.pv_laws_trees.proofs.Lookups.{alike-new, alike-with, alike-without}
 use Rattle.pv_laws_trees.proofs.Generic.{not-there}
 
 pub some_left : {X : Type 0} (xs : List X) (r : Bool) → (xs ≡ [] → r ≡ true) → r ≡ false → is_empty xs ≡ false
@@ -66,11 +62,16 @@ module _ (s : State) (pid : ℕ) (me : Process) where
   make_crowded w here node place reached free d name named why is =
       rw (here, reached.walked, reached.judged, free, named, crowded (with_tree s (with_new_node s.tree d name node)) why is) refl
 
-  pub link_crowded : (path new : Bytes) (place other : Place) → IsReached s me me.directory (linked_walk path) place → IsReached s me me.directory (new_link_walk new) other
-      → (n : ℕ) → node_of place ≡ Some n → is_directory_at s.tree n ≡ false → is_some (node_of other) ≡ false → (d : ℕ) (name : Bytes) → name_of other ≡ Some (d, name) → (why : Space)
-      → refusal (collect (with_tree s (with_entry s.tree d name n))).tree ≡ Some why → link s pid me path new ≡ refused 2 (space_errno why) Plain
-  link_crowded path new place other first second n there plain free d name named why is =
-      rw (first.walked, first.judged, second.walked, second.judged, there, plain, free, named, crowded (with_tree s (with_entry s.tree d name n)) why is) refl
+  -- link(2) after both walks
+  pub link_reached : (path new : Bytes) (place other : Place) → IsReached s me me.directory (linked_walk path) place → IsReached s me me.directory (new_link_walk new) other
+      → (n : ℕ) → node_of place ≡ Some n → link s pid me path new ≡ after_walks 2 (link_at s n other)
+  link_reached path new place other first second n there =
+      both_reached_then s me (linked_walk path) (new_link_walk new) place other first second n there (λ _ o n. link_at s n o)
+
+pub link_crowded : (s : State) (n : ℕ) (other : Place) → is_directory_at s.tree n ≡ false → is_some (node_of other) ≡ false → (d : ℕ) (name : Bytes) → name_of other ≡ Some (d, name) → (why : Space)
+    → refusal (collect (with_tree s (with_entry s.tree d name n))).tree ≡ Some why → link_at s n other ≡ refused 0 (space_errno why) Plain
+link_crowded s n other plain free d name named why is =
+    rw (plain, free, named, crowded (with_tree s (with_entry s.tree d name n)) why is) refl
 
 module _ (s : State) (whole : IsValid s) (place : Place) (fine : IsFinePlace s.tree place) (d : ℕ) (name : Bytes) (named : name_of place ≡ Some (d, name)) where
   -- the name of a place

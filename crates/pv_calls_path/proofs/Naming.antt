@@ -2,13 +2,9 @@
 use Rattle.std.proofs.Common.{◌≡◌, ◌∙◌, ℕ, Option, None, Some, refl, ap, sym, subst}
 use Rattle.pv_laws_states.specs.States.{IsValid}
 use Rattle.pv_laws_states.proofs.Collect.{held_after, tree-collect}
-use Rattle.pv_model.specs.Answer.{update, update_live}
-use Rattle.pv_model.specs.Bytes.{Bytes}
-use Rattle.pv_model.specs.Held.{collect}
-use Rattle.pv_model.specs.State.{Process, State, process_at}
-use Rattle.pv_model.specs.Tree.{Tree, find_entry, IsWellFormed}
+use Rattle.pv_model.specs.Machine.{update, update_live, Bytes, collect, Process, State, process_at, Tree, find_entry, IsWellFormed}
 use Rattle.pv_laws_trees.specs.Found.{Alike, AlikeBut}
-use Rattle.pv_laws_trees.proofs.Found.{alike-then, alike-preserved}
+use Rattle.pv_laws_trees.proofs.Lookups.{alike-then, alike-preserved}
 
 -- collection keeps the names
 pub alike_collect : (u new : State) → new ≡ collect u → IsWellFormed u.tree → Alike (find_entry u.tree) (find_entry new.tree)

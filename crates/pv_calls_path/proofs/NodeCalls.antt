@@ -3,7 +3,7 @@ use Rattle.std.proofs.Common.{◌≡◌, ◌∙◌, ℕ, Bool, true, false, not,
 use Rattle.pv_calls_path.specs.Execve.{bytes_to_load}
 use Rattle.pv_calls_path.specs.Reached.{IsFound, IsReached}
 use Rattle.pv_calls_path.proofs.Reaching.{reached_then}
-use Rattle.pv_dirs.specs.Trees.{sort_of}
+use Rattle.pv_namei.specs.OfDirs.Trees.{sort_of}
 use Rattle.pv_model.specs.declared.errno.Errno.TheVariants.{EACCES, ENOENT, ENOEXEC, ENOTDIR}
 use Rattle.pv_model.specs.declared.fault.ParseFault.{ParseFault}
 use Rattle.pv_model.specs.declared.fault.ParseFault.TheVariants.{Line}
@@ -12,18 +12,11 @@ use Rattle.pv_model.specs.declared.outcome.Cause.TheVariants.{Plain}
 use Rattle.pv_model.specs.declared.place.Place.{Place}
 use Rattle.pv_model.specs.declared.kind.Kind.{Kind}
 use Rattle.pv_model.specs.declared.kind.Kind.TheVariants.{Executable}
-use Rattle.pv_model.specs.Attempt.{Attempt, done, refused, after_walks, demand, refuse_if, ◌>>=◌, ◌>>◌}
-use Rattle.pv_model.specs.Bytes.{Bytes}
-use Rattle.pv_model.specs.Calls.Paths.{chdir}
-use Rattle.pv_model.specs.Calls.Processes.{execve, executable_bytes, with_program}
-use Rattle.pv_model.specs.Effect.{Effect, answers, bytes_of, node_of, returns}
-use Rattle.pv_model.specs.Grammar.Programs.{program_of}
-use Rattle.pv_model.specs.State.{Process, Program, State, with_process}
-use Rattle.pv_model.specs.Tree.{Node, directory_node, file_node, link_node, is_directory_at, node_at}
-use Rattle.pv_model.specs.Walks.{Walk, chdir_walk, execve_walk}
-use Rattle.pv_calls_state.specs.Changes.{with_directory}
-use Rattle.pv_script.specs.Reading.{RefusesProgram}
-use Rattle.pv_calls_state.proofs.Attempts.{given, passed, refused_before, refused_first}
+use Rattle.pv_model.specs.Machine.{Attempt, done, refused, after_walks, demand, refuse_if, ◌>>=◌, ◌>>◌, Bytes, chdir, execve, executable_bytes, with_program, Effect, answers, bytes_of, node_of, returns, program_of, Process, Program, State, with_process, Node, directory_node, file_node, link_node, is_directory_at, node_at, Walk, execve_walk}
+use Rattle.pv_model.specs.Walks.{chdir_walk}
+use Rattle.pv_calls_plain.specs.OfCallsState.Changes.{with_directory}
+use Rattle.pv_calls_plain.specs.OfScript.Reading.{RefusesProgram}
+use Rattle.pv_calls_plain.proofs.OfCallsState.Attempts.{given, passed, refused_before, refused_first}
 
 -- a walk reaches a place at which a node exists
 pub found_there : (s : State) (me : Process) (start : ℕ) (w : Walk) (place : Place) (n : ℕ) → IsReached s me start w place → node_of place ≡ Some n → IsFound s me start w n

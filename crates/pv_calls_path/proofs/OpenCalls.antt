@@ -4,22 +4,22 @@ use Rattle.std.specs.Prelude.{IsTrue}
 use Rattle.std.proofs.lemmas.Bool.{lt-leb, not-false}
 use Rattle.pv_calls_plain.specs.declared.answer.Refused.{Refused}
 use Rattle.pv_calls_plain.specs.Space.{space_errno}
-use Rattle.pv_calls_state.specs.Changes.{with_node_opened, with_file_made}
+use Rattle.pv_calls_plain.specs.OfCallsState.Changes.{with_node_opened, with_file_made}
 use Rattle.pv_calls_path.specs.Opening.{open_place}
 use Rattle.pv_calls_path.specs.Reached.{IsReached, IsStopped}
-use Rattle.pv_calls_state.proofs.Attempts.{passed, refused_before}
+use Rattle.pv_calls_plain.proofs.OfCallsState.Attempts.{passed, refused_before}
 use Rattle.pv_calls_plain.proofs.Room.{crowded}
 use Rattle.pv_calls_path.proofs.Reaching.{reached_then}
 use Rattle.pv_calls_path.proofs.NameCalls.{fine_name}
 use Rattle.pv_calls_path.proofs.Naming.{alike_collect, but_collect}
-use Rattle.pv_inodes.specs.declared.space.Space.{Space}
-use Rattle.pv_procs.specs.declared.record.ProcessRecord.{ProcessRecord}
-use Rattle.pv_procs.specs.Parts.{record_of}
-use Rattle.pv_tree.specs.Rooms.{refusal}
+use Rattle.pv_namei.specs.OfInodes.declared.space.Space.{Space}
+use Rattle.pv_calls_plain.specs.OfProcs.declared.record.ProcessRecord.{ProcessRecord}
+use Rattle.pv_calls_plain.specs.OfProcs.Parts.{record_of}
+use Rattle.pv_namei.specs.OfTree.Rooms.{refusal}
 use Rattle.pv_laws_states.specs.States.{IsValid, IsFinePlace}
 use Rattle.pv_laws_states.proofs.ByOpen.{held-more}
-use Rattle.pv_laws_states.proofs.Grown.{new-below}
-use Rattle.pv_laws_states.proofs.Present.{my-placed}
+use Rattle.pv_laws_states.proofs.GrownTrees.{new-below}
+use Rattle.pv_laws_states.proofs.ChangedStates.{my-placed}
 use Rattle.pv_laws_states.proofs.Collect.{held_after, tree-collect}
 use Rattle.pv_model.specs.declared.call.Start.{Start}
 use Rattle.pv_model.specs.declared.errno.Errno.{Errno}
@@ -27,20 +27,10 @@ use Rattle.pv_model.specs.declared.errno.Errno.TheVariants.{EINVAL, EMFILE, ENFI
 use Rattle.pv_model.specs.declared.open_flags.OpenFlags.{OpenFlags}
 use Rattle.pv_model.specs.declared.outcome.Cause.TheVariants.{Plain}
 use Rattle.pv_model.specs.declared.place.Place.{Place}
-use Rattle.pv_model.specs.Attempt.{refused, refuse_if, after_walks, give, ◌>>=◌, ◌>>◌}
-use Rattle.pv_model.specs.Bytes.{Bytes}
-use Rattle.pv_model.specs.Calls.Descriptors.{check_start, contradicts, open_at, with_content}
-use Rattle.pv_model.specs.Effect.{node_of, name_of, start_directory, walk_from, judge_for}
-use Rattle.pv_model.specs.Held.{collect}
-use Rattle.pv_model.specs.Needs.{permissions_of_open}
-use Rattle.pv_model.specs.Numbered.{Numbered, least_free}
-use Rattle.pv_model.specs.Room.{fits}
-use Rattle.pv_model.specs.State.{OpenFile, Process, State, process_at, writes}
-use Rattle.pv_model.specs.Tree.{file_node, Tree, find_entry, with_new_node, new_number, IsWellFormed}
-use Rattle.pv_model.specs.Walks.{follow_of, open_walk}
+use Rattle.pv_model.specs.Machine.{refused, refuse_if, after_walks, give, ◌>>=◌, ◌>>◌, Bytes, check_start, contradicts, open_at, with_content, node_of, name_of, start_directory, walk_from, judge_for, collect, permissions_of_open, Numbered, least_free, fits, OpenFile, Process, State, process_at, writes, file_node, Tree, find_entry, with_new_node, new_number, IsWellFormed, follow_of, open_walk}
 use Rattle.pv_laws_trees.specs.Found.{Alike, AlikeBut}
 use Rattle.pv_laws_trees.proofs.Edits.{stays-content, stays-new_node}
-use Rattle.pv_laws_trees.proofs.Found.{alike-new, alike-content}
+use Rattle.pv_laws_trees.proofs.Lookups.{alike-new, alike-content}
 
 never : (b : Bool) → (b && false) ≡ false
 never true = refl

@@ -3,9 +3,10 @@ use Rattle.std.proofs.Common.{◌≡◌, ◌∙◌, ℕ, ◌≤◌, true, if◌t
 use Rattle.pv_calls_path.specs.Reached.{IsFound, IsMissed, IsMissedByBoth, IsReached, IsStopped}
 use Rattle.pv_calls_plain.specs.declared.answer.Refused.{Refused}
 use Rattle.pv_laws_states.specs.States.{IsValid, is_text, IsFinePlace}
-use Rattle.pv_laws_states.proofs.Going.{begins-found}
-use Rattle.pv_laws_states.proofs.Present.{resolve-fine}
+use Rattle.pv_laws_states.proofs.CallWalks.{begins-found}
+use Rattle.pv_laws_states.proofs.ChangedStates.{resolve-fine}
 use Rattle.pv_model.specs.declared.errno.Errno.{Errno}
+use Rattle.pv_model.specs.declared.errno.Errno.TheVariants.{ENOENT}
 use Rattle.pv_model.specs.declared.follow.Follow.{Follow}
 use Rattle.pv_model.specs.declared.judgement.Judgement.{Judgement}
 use Rattle.pv_model.specs.declared.outcome.Cause.{Cause}
@@ -13,18 +14,11 @@ use Rattle.pv_model.specs.declared.outcome.Cause.TheVariants.{Plain}
 use Rattle.pv_model.specs.declared.perms.Perms.{Perms}
 use Rattle.pv_model.specs.declared.place.Place.{Place}
 use Rattle.pv_model.specs.declared.place.Place.TheVariants.{At, Node as Unnamed}
-use Rattle.pv_model.specs.Attempt.{Attempt, done, refused, after_walks, ◌>>=◌, ◌>>◌}
-use Rattle.pv_model.specs.Bytes.{Bytes}
-use Rattle.pv_model.specs.Effect.{Effect, walk_from, judge_for, judgement_or_refusal}
-use Rattle.pv_model.specs.State.{Process, State, process_at}
-use Rattle.pv_model.specs.Tree.{Tree, is_directory_at}
-use Rattle.pv_model.specs.Unveil.{judgement}
-use Rattle.pv_model.specs.Walk.{resolve, begins_walk}
-use Rattle.pv_model.specs.Walks.{Walk}
-use Rattle.pv_procs.specs.declared.record.ProcessRecord.{ProcessRecord}
-use Rattle.pv_procs.specs.Parts.{record_of}
-use Rattle.pv_calls_state.proofs.Attempts.{after_none}
-use Rattle.pv_unveil.specs.Up.{directory_of}
+use Rattle.pv_model.specs.Machine.{Attempt, done, refused, after_walks, demand, ◌>>=◌, ◌>>◌, Bytes, Effect, walk_from, judge_for, judgement_or_refusal, node_of, Process, State, process_at, Tree, is_directory_at, judgement, resolve, begins_walk, Walk}
+use Rattle.pv_calls_plain.specs.OfProcs.declared.record.ProcessRecord.{ProcessRecord}
+use Rattle.pv_calls_plain.specs.OfProcs.Parts.{record_of}
+use Rattle.pv_calls_plain.proofs.OfCallsState.Attempts.{after_none, given}
+use Rattle.pv_calls_plain.specs.OfUnveil.Up.{directory_of}
 
 -- the record of a live process
 pub recorded : (o : Option Process) (me : Process) (r : ProcessRecord) → o ≡ Some me → option_map record_of o ≡ Some r → record_of me ≡ r
@@ -68,6 +62,23 @@ judged_stop s me start w place j e cause walked judged refuses rest = rw (walked
 pub reached_then : (s : State) (me : Process) (start : ℕ) (w : Walk) (place : Place) → IsReached s me start w place → (rest : Place → Attempt Effect)
     → (walk_from s start w.follow w.path >>= (λ place. judge_for s me place w.needed >> rest place)) ≡ after_walks 1 (rest place)
 reached_then s me start w place is rest = rw (is.walked, is.judged) (ap (after_walks 1) (after_none (rest place)))
+
+after_twice : (a : Attempt Effect) → after_walks 1 (after_walks 1 a) ≡ after_walks 2 a
+after_twice (done walks value) = ap (λ n. done n value) (omega arith)
+after_twice (refused walks errno cause) = ap (λ n. refused n errno cause) (omega arith)
+
+-- after two successful walks, the first to a node, the rest follows, two walks later
+pub both_reached_then : (s : State) (me : Process) (first second : Walk) (place other : Place) → IsReached s me me.directory first place → IsReached s me me.directory second other
+    → (n : ℕ) → node_of place ≡ Some n → (rest : Place → Place → ℕ → Attempt Effect)
+    → (walk_from s me.directory first.follow first.path >>= (λ place. judge_for s me place first.needed >>
+    (walk_from s me.directory second.follow second.path >>= (λ other. judge_for s me other second.needed >> (demand ENOENT (node_of place) >>= rest place other)))))
+    ≡ after_walks 2 (rest place other n)
+both_reached_then s me first second place other one two n there rest =
+    reached_then s me me.directory first place one
+    (λ p. walk_from s me.directory second.follow second.path >>= (λ o. judge_for s me o second.needed >> (demand ENOENT (node_of p) >>= rest p o)))
+    ∙ ap (after_walks 1) (reached_then s me me.directory second other two (λ o. demand ENOENT (node_of place) >>= rest place o)
+    ∙ ap (after_walks 1) (given (demand ENOENT (node_of place)) n (rest place other) (ap (λ o. demand ENOENT o) there)))
+    ∙ after_twice (rest place other n)
 
 -- ---- facts about a walk carry over to an equal one
 

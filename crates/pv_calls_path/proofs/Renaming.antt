@@ -1,35 +1,28 @@
 -- rename(2): its checks, and the names in directories after it.
-use Rattle.std.proofs.Common.{◌≡◌, ◌≢◌, ◌∙◌, ℕ, Bool, true, false, not, ◌||◌, ◌==◌, [], Option, None, Some, refl, sym, ap, arith}
+use Rattle.std.proofs.Common.{◌≡◌, ◌≢◌, ◌∙◌, ℕ, Bool, true, false, if◌then◌else◌, not, ◌||◌, ◌==◌, [], Option, None, Some, refl, sym, ap, arith}
 use Rattle.pv_calls_plain.specs.Space.{space_errno}
 use Rattle.pv_calls_path.specs.Moving.{check_move}
 use Rattle.pv_calls_plain.specs.declared.answer.Refused.{Refused}
 use Rattle.pv_calls_path.specs.Reached.{IsMissedByBoth, IsReached}
-use Rattle.pv_calls_state.specs.Attempts.{collected}
-use Rattle.pv_calls_state.proofs.Attempts.{after_none, passed}
+use Rattle.pv_calls_plain.specs.OfCallsState.Attempts.{collected}
+use Rattle.pv_calls_plain.proofs.OfCallsState.Attempts.{after_none, given, passed}
 use Rattle.pv_calls_plain.proofs.Room.{crowded}
 use Rattle.pv_calls_path.proofs.Naming.{alike_collect}
-use Rattle.pv_inodes.specs.declared.space.Space.{Space}
+use Rattle.pv_calls_path.proofs.Reaching.{both_reached_then}
+use Rattle.pv_namei.specs.OfInodes.declared.space.Space.{Space}
 use Rattle.pv_laws_states.specs.States.{IsValid}
 use Rattle.pv_laws_states.proofs.ByTree.{empty-is}
 use Rattle.pv_model.specs.declared.errno.Errno.{Errno}
-use Rattle.pv_model.specs.declared.errno.Errno.TheVariants.{ENOTDIR, EISDIR, EINVAL, ENOTEMPTY}
+use Rattle.pv_model.specs.declared.errno.Errno.TheVariants.{EBUSY, ENOTDIR, EISDIR, EINVAL, ENOTEMPTY}
 use Rattle.pv_model.specs.declared.outcome.Cause.TheVariants.{Plain}
 use Rattle.pv_model.specs.declared.place.Place.{Place}
-use Rattle.pv_model.specs.Attempt.{Attempt, done, refused, give, refuse_if, ◌>>◌, ◌>>=◌}
-use Rattle.pv_model.specs.Bytes.{Bytes}
-use Rattle.pv_model.specs.Calls.Paths.{contains_directory, entries_there, same_node, ends_in_dot, move_entry, rename}
-use Rattle.pv_model.specs.Effect.{Effect, answers, returns, with_room, node_of, name_of}
-use Rattle.pv_model.specs.Held.{collect}
-use Rattle.pv_model.specs.Walks.{rename_walk}
-use Rattle.pv_model.specs.Room.{fits, is_too_long}
-use Rattle.pv_model.specs.State.{Process, State, with_tree}
-use Rattle.pv_model.specs.Tree.{Tree, is_directory_at, find_entry, is_name, with_entry, without_entry}
-use Rattle.pv_tree.specs.Changes.{moved, moved_node}
-use Rattle.pv_tree.specs.Rooms.{refusal}
+use Rattle.pv_model.specs.Machine.{Attempt, done, refused, after_walks, demand, give, refuse_if, ◌>>◌, ◌>>=◌, Bytes, contains_directory, entries_there, same_node, ends_in_dot, move_entry, rename, Effect, answers, returns, with_room, node_of, name_of, collect, rename_walk, fits, is_too_long, Process, State, with_tree, Tree, is_directory_at, find_entry, is_name, with_entry, without_entry}
+use Rattle.pv_namei.specs.OfTree.Changes.{moved, moved_node}
+use Rattle.pv_namei.specs.OfTree.Rooms.{refusal}
 use Rattle.pv_laws_trees.specs.Found.{AlikeButTwo}
 use Rattle.pv_laws_trees.specs.Tree.{Appears}
 use Rattle.pv_laws_trees.proofs.Edits.{stays-renamed}
-use Rattle.pv_laws_trees.proofs.Found.{alike-then, alike-moved}
+use Rattle.pv_laws_trees.proofs.Lookups.{alike-then, alike-moved}
 
 -- ---- the four checks
 
@@ -99,6 +92,17 @@ module _ (s : State) (pid : ℕ) (me : Process) (n d : ℕ) (name : Bytes) (e : 
       let full : refusal (collect u).tree ≡ Some why = ap (λ o. refusal (collect (with_tree s (moved_node s.tree d name e new o))).tree) (sym found) ∙ full_after in
       move_goes is ∙ rw (crowded u why full) refl
 
+  -- a move that passes the checks and has room
+  pub move_made : (after : State) → check_move s.tree n e there ≡ give tt → find_entry s.tree d name ≡ Some n → after ≡ collect (with_tree s (moved s.tree d name e new))
+      → is_too_long after.tree ≡ false → fits after.tree ≡ true → collected (after_walks 2 (move_entry s pid me n d name e new there)) ≡ done 2 (after, returns 0)
+  move_made after is found left short_after roomy_after =
+      let u : State = with_tree s (with_entry (without_entry s.tree d name) e new n) in
+      let same : after ≡ collect u = left ∙ ap (λ o. collect (with_tree s (moved_node s.tree d name e new o))) found in
+      let short : is_too_long (collect u).tree ≡ false = ap (λ (x : State). is_too_long x.tree) (sym same) ∙ short_after in
+      let roomy : fits (collect u).tree ≡ true = ap (λ (x : State). fits x.tree) (sym same) ∙ roomy_after in
+      let goes : move_entry s pid me n d name e new there ≡ give (u, returns 0) = move_goes is ∙ rw (short, roomy) refl in
+      ap (λ a. collected (after_walks 2 a)) goes ∙ ap (λ (x : State). done 2 (x, returns 0)) (sym same)
+
 module _ (s : State) (pid : ℕ) (me : Process) (path new : Bytes) (fine : ends_in_dot path ≡ false) (other_fine : ends_in_dot new ≡ false) where
   no_dots : refuse_if EINVAL (ends_in_dot path || ends_in_dot new) ≡ give tt
   no_dots = rw (fine, other_fine) refl
@@ -110,22 +114,20 @@ module _ (s : State) (pid : ℕ) (me : Process) (path new : Bytes) (fine : ends_
     (place other : Place) (first : IsReached s me me.directory (rename_walk path) place) (second : IsReached s me me.directory (rename_walk new) other)
     (n : ℕ) (there : node_of place ≡ Some n) (d : ℕ) (name : Bytes) (named : name_of place ≡ Some (d, name))
     (e : ℕ) (new_name : Bytes) (new_named : name_of other ≡ Some (e, new_name)) (differs : same_node (node_of other) n ≡ false) where
-  pub rename_refused : (errno : Errno) → move_entry s pid me n d name e new_name (node_of other) ≡ refused 0 errno Plain → rename s pid me path new ≡ refused 2 errno Plain
-  rename_refused errno is =
-      rw (fine, other_fine, first.walked, first.judged, second.walked, second.judged, there, named, new_named, differs, is) refl
+  after_names : (demand EBUSY (name_of place) >>= (λ p. demand EBUSY (name_of other) >>= (λ q. if same_node (node_of other) n then answers s 0 else move_entry s pid me n p.0 p.1 q.0 q.1 (node_of other))))
+      ≡ move_entry s pid me n d name e new_name (node_of other)
+  after_names =
+      given (demand EBUSY (name_of place)) (d, name) (λ p. demand EBUSY (name_of other) >>= (λ q. if same_node (node_of other) n then answers s 0 else move_entry s pid me n p.0 p.1 q.0 q.1 (node_of other))) (ap (λ o. demand EBUSY o) named)
+      ∙ given (demand EBUSY (name_of other)) (e, new_name) (λ q. if same_node (node_of other) n then answers s 0 else move_entry s pid me n d name q.0 q.1 (node_of other)) (ap (λ o. demand EBUSY o) new_named)
+      ∙ rw differs refl
 
-  -- a move that passes the checks and has room
-  pub rename_goes : (after : State) → check_move s.tree n e (node_of other) ≡ give tt → find_entry s.tree d name ≡ Some n → after ≡ collect (with_tree s (moved s.tree d name e new_name))
-      → is_too_long after.tree ≡ false → fits after.tree ≡ true → collected (rename s pid me path new) ≡ done 2 (after, returns 0)
-  rename_goes after is found left short_after roomy_after =
-      let u : State = with_tree s (with_entry (without_entry s.tree d name) e new_name n) in
-      let same : after ≡ collect u = left ∙ ap (λ o. collect (with_tree s (moved_node s.tree d name e new_name o))) found in
-      let short : is_too_long (collect u).tree ≡ false = ap (λ (x : State). is_too_long x.tree) (sym same) ∙ short_after in
-      let roomy : fits (collect u).tree ≡ true = ap (λ (x : State). fits x.tree) (sym same) ∙ roomy_after in
-      let goes : move_entry s pid me n d name e new_name (node_of other) ≡ give (u, returns 0) = move_goes s pid me n d name e new_name (node_of other) is ∙ rw (short, roomy) refl in
-      ap collected
-      (let performed : rename s pid me path new ≡ done 2 (u, returns 0) = rw (fine, other_fine, first.walked, first.judged, second.walked, second.judged, there, named, new_named, differs, goes) refl in performed)
-      ∙ ap (λ (x : State). done 2 (x, returns 0)) (sym same)
+  -- rename(2) after both walks
+  pub rename_reached : (old_there : Option ℕ) → old_there ≡ node_of other → rename s pid me path new ≡ after_walks 2 (move_entry s pid me n d name e new_name old_there)
+  rename_reached old_there is =
+      passed (refuse_if EINVAL (ends_in_dot path || ends_in_dot new)) tt _ (no_dots s pid me path new fine other_fine)
+      ∙ both_reached_then s me (rename_walk path) (rename_walk new) place other first second n there
+      (λ p o m. demand EBUSY (name_of p) >>= (λ x. demand EBUSY (name_of o) >>= (λ y. if same_node (node_of o) m then answers s 0 else move_entry s pid me m x.0 x.1 y.0 y.1 (node_of o))))
+      ∙ ap (after_walks 2) (after_names ∙ ap (move_entry s pid me n d name e new_name) (sym is))
 
 -- ---- names
 

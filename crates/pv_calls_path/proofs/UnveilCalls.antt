@@ -1,13 +1,13 @@
 -- unveil(2) of a path with permissions.
 use Rattle.std.proofs.Common.{◌≡◌, ◌∙◌, ℕ, true, false, Some, is_some, option_map, refl, sym, ap, subst}
 use Rattle.std.proofs.lemmas.Bool.{and_parts}
-use Rattle.pv_calls_state.specs.Changes.{unveiled_of, with_table}
-use Rattle.pv_calls_state.proofs.Attempts.{after_none}
+use Rattle.pv_calls_plain.specs.OfCallsState.Changes.{unveiled_of, with_table}
+use Rattle.pv_calls_plain.proofs.OfCallsState.Attempts.{after_none}
 use Rattle.pv_calls_path.specs.Reached.{IsLost}
 use Rattle.pv_calls_plain.specs.declared.answer.Refused.{Refused}
 use Rattle.pv_calls_path.proofs.Reaching.{recorded}
 use Rattle.pv_laws_states.specs.States.{IsFinePlace, is_target}
-use Rattle.pv_laws_states.proofs.Present.{target-fine}
+use Rattle.pv_laws_states.proofs.ChangedStates.{target-fine}
 use Rattle.pv_model.specs.declared.errno.Errno.{Errno}
 use Rattle.pv_model.specs.declared.follow.Follow.TheVariants.{Last}
 use Rattle.pv_model.specs.declared.outcome.Cause.{Cause}
@@ -15,17 +15,10 @@ use Rattle.pv_model.specs.declared.perms.Perms.{Perms}
 use Rattle.pv_model.specs.declared.place.Place.{Place}
 use Rattle.pv_model.specs.declared.target.Target.{Target}
 use Rattle.pv_model.specs.declared.target.Target.TheVariants.{Directory, Name}
-use Rattle.pv_model.specs.Attempt.{Attempt, done, refused, give}
-use Rattle.pv_model.specs.Bytes.{Bytes}
-use Rattle.pv_model.specs.Calls.Restraints.{entries_of_table, unveil}
-use Rattle.pv_model.specs.Effect.{Effect, returns, walk_from}
-use Rattle.pv_model.specs.Perms.{read_permissions}
-use Rattle.pv_model.specs.State.{Process, State, process_at, with_process}
-use Rattle.pv_model.specs.Tree.{Tree, node_at, is_directory_at}
-use Rattle.pv_model.specs.Unveil.{Table, target_of, target_directory}
-use Rattle.pv_procs.specs.declared.record.ProcessRecord.{ProcessRecord}
-use Rattle.pv_procs.specs.Parts.{record_of}
-use Rattle.pv_unveil.specs.Added.{add_to, put_in}
+use Rattle.pv_model.specs.Machine.{Attempt, done, refused, give, Bytes, entries_of_table, unveil, Effect, returns, walk_from, read_permissions, Process, State, process_at, with_process, Tree, node_at, is_directory_at, Table, target_of, target_directory}
+use Rattle.pv_calls_plain.specs.OfProcs.declared.record.ProcessRecord.{ProcessRecord}
+use Rattle.pv_calls_plain.specs.OfProcs.Parts.{record_of}
+use Rattle.pv_calls_plain.specs.OfUnveil.Added.{add_to, put_in}
 use Rattle.pv_laws_trees.proofs.Changes.{directory_is_some}
 
 target_there : (t : Tree) (target : Target) → is_target t target ≡ true → is_some (node_at t (target_directory target)) ≡ true

@@ -1,12 +1,7 @@
 -- The ends of a call's walks.
 use Rattle.std.specs.Prelude.{ℕ, Option, None, Some}
 use Rattle.pv_model.specs.declared.place.Place.{Place}
-use Rattle.pv_model.specs.Attempt.{Attempt, done, refused}
-use Rattle.pv_model.specs.Calls.Descriptors.{check_start}
-use Rattle.pv_model.specs.Effect.{end_of}
-use Rattle.pv_model.specs.State.{Process, State}
-use Rattle.pv_model.specs.Touch.{place_found}
-use Rattle.pv_model.specs.Walks.{Walk}
+use Rattle.pv_model.specs.Machine.{Attempt, done, refused, check_start, end_of, Process, State, place_found, Walk}
 
 -- a place, if nothing has refused the walk to it
 abbrev pub if_given : Attempt (Unit {0}) → Option Place → Option Place

@@ -4,15 +4,8 @@ use Rattle.pv_calls_plain.specs.declared.answer.Done.{Done}
 use Rattle.pv_calls_path.specs.declared.execve.ExecveFault.{ExecveFault}
 use Rattle.pv_calls_path.specs.declared.execve.ExecveFault.TheVariants.{Refused, Memory}
 use Rattle.pv_model.specs.declared.errno.Errno.TheVariants.{ENOENT, EACCES}
-use Rattle.pv_model.specs.Attempt.{Attempt, ◌>>=◌, ◌>>◌, done, refused, demand}
-use Rattle.pv_model.specs.Bytes.{Bytes}
-use Rattle.pv_model.specs.Calls.Processes.{execve, executable_bytes}
-use Rattle.pv_model.specs.Effect.{judge, node_of, returns, walk}
-use Rattle.pv_model.specs.Grammar.Programs.{program_of}
-use Rattle.pv_model.specs.State.{Process, State}
-use Rattle.pv_model.specs.Tree.{node_at}
-use Rattle.pv_model.specs.Walks.{execve_walk}
-use Rattle.pv_calls_state.specs.Attempts.{collected}
+use Rattle.pv_model.specs.Machine.{Attempt, ◌>>=◌, ◌>>◌, done, refused, demand, Bytes, execve, executable_bytes, judge, node_of, returns, walk, program_of, Process, State, node_at, execve_walk}
+use Rattle.pv_calls_plain.specs.OfCallsState.Attempts.{collected}
 
 -- the bytes of the executable file at an execve's path, if the table of the process allows it
 abbrev pub bytes_to_load : State → Process → Bytes → Attempt Bytes

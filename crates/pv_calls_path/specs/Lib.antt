@@ -1,7 +1,9 @@
 pub mod Caller
 pub mod Ends
 pub mod Execve
+pub mod Linking
 pub mod Moving
 pub mod Opening
 pub mod Reached
 pub mod Starting
+pub use Rattle.pv_calls_plain.specs as OfCallsPlain

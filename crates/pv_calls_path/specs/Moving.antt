@@ -1,10 +1,7 @@
 -- The parts of rename(2).
 use Rattle.std.specs.Prelude.{ℕ, not, ◌&&◌, Option, is_some}
 use Rattle.pv_model.specs.declared.errno.Errno.TheVariants.{ENOTDIR, EISDIR, EINVAL, ENOTEMPTY}
-use Rattle.pv_model.specs.Attempt.{Attempt, ◌>>◌, refuse_if}
-use Rattle.pv_model.specs.Bytes.{is_empty}
-use Rattle.pv_model.specs.Calls.Paths.{contains_directory, is_directory_there, entries_there}
-use Rattle.pv_model.specs.Tree.{Tree, is_directory_at}
+use Rattle.pv_model.specs.Machine.{Attempt, ◌>>◌, refuse_if, is_empty, contains_directory, is_directory_there, entries_there, Tree, is_directory_at}
 
 -- the check that a node may get a name in a directory in place of the node with that name
 abbrev pub check_move : Tree → ℕ → ℕ → Option ℕ → Attempt (Unit {0})

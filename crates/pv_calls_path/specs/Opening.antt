@@ -3,12 +3,7 @@ use Rattle.std.specs.Prelude.{ℕ, not, ◌&&◌, is_some, is_none, option_and_t
 use Rattle.pv_model.specs.declared.errno.Errno.TheVariants.{EEXIST, ENOENT, ENOTDIR, EISDIR, ELOOP}
 use Rattle.pv_model.specs.declared.open_flags.OpenFlags.{OpenFlags}
 use Rattle.pv_model.specs.declared.place.Place.{Place}
-use Rattle.pv_model.specs.Attempt.{Attempt, ◌>>=◌, ◌>>◌, refuse_if}
-use Rattle.pv_model.specs.Calls.Descriptors.{is_link, open_node}
-use Rattle.pv_model.specs.Effect.{Effect, answers, with_room, node_of, name_of}
-use Rattle.pv_model.specs.Numbered.{least_free}
-use Rattle.pv_model.specs.State.{Process, State, writes}
-use Rattle.pv_model.specs.Tree.{node_at, is_directory}
+use Rattle.pv_model.specs.Machine.{Attempt, ◌>>=◌, ◌>>◌, refuse_if, is_link, open_node, Effect, answers, with_room, node_of, name_of, least_free, Process, State, writes, node_at, is_directory}
 
 -- the effect of open on a place, after the walk and its unveil check
 abbrev pub open_place : State → ℕ → Process → OpenFlags → Place → Attempt Effect

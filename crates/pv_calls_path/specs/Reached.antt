@@ -5,12 +5,7 @@ use Rattle.pv_model.specs.declared.errno.Errno.TheVariants.{EEXIST, ENOENT}
 use Rattle.pv_model.specs.declared.follow.Follow.{Follow}
 use Rattle.pv_model.specs.declared.outcome.Cause.TheVariants.{Plain}
 use Rattle.pv_model.specs.declared.place.Place.{Place}
-use Rattle.pv_model.specs.Attempt.{Attempt, done, refused, after_walks, demand, give, refuse_if, ◌>>=◌, ◌>>◌}
-use Rattle.pv_model.specs.Bytes.{Bytes}
-use Rattle.pv_model.specs.Effect.{Effect, walk_from, judge_for, name_of, node_of}
-use Rattle.pv_model.specs.State.{Process, State, process_at}
-use Rattle.pv_model.specs.Tree.{node_at}
-use Rattle.pv_model.specs.Walks.{Walk}
+use Rattle.pv_model.specs.Machine.{Attempt, done, refused, after_walks, demand, give, refuse_if, ◌>>=◌, ◌>>◌, Bytes, Effect, walk_from, judge_for, name_of, node_of, Process, State, process_at, node_at, Walk}
 use Rattle.pv_calls_plain.specs.declared.answer.Refused.{Refused}
 
 -- a walk that the table allows leads from a directory to a place

@@ -3,11 +3,7 @@ use Rattle.std.specs.Prelude.{◌≡◌, ℕ, ℤ, Some}
 use Rattle.pv_model.specs.declared.call.Start.{Start}
 use Rattle.pv_model.specs.declared.errno.Errno.{Errno}
 use Rattle.pv_model.specs.declared.outcome.Cause.TheVariants.{Plain}
-use Rattle.pv_model.specs.Attempt.{give, refused}
-use Rattle.pv_model.specs.Bytes.{Bytes}
-use Rattle.pv_model.specs.Calls.Descriptors.{check_start, directory_of}
-use Rattle.pv_model.specs.Effect.{directory_of_file, open_file, start_directory}
-use Rattle.pv_model.specs.State.{Process, State, process_at}
+use Rattle.pv_model.specs.Machine.{give, refused, Bytes, check_start, directory_of, directory_of_file, open_file, start_directory, Process, State, process_at}
 
 module _ (s : State) (pid : ℕ) where
   -- a descriptor gives a directory

@@ -1,8 +1,7 @@
 //! Change of the working directory along a path: chdir(2).
 ghost use Rattle.std.specs.Prelude.{IsTrue};
 ghost use Rattle.pv_laws_states.specs.States.{is_text};
-ghost use Rattle.pv_model.specs.Calls.Paths.{chdir};
-ghost use Rattle.pv_model.specs.Tree.{find_entry};
+ghost use Rattle.pv_model.specs.Machine.{chdir, find_entry};
 ghost use Rattle.pv_calls_plain.specs.Performed.{IsPerformed};
 ghost use Rattle.pv_calls_path.specs.Caller.{IsCaller};
 

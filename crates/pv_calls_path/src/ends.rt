@@ -2,17 +2,11 @@
 ghost use Rattle.std.specs.Prelude.{◌≡◌, ℕ, ◌≤◌, IsSome, Some};
 ghost use Rattle.pv_laws_states.specs.States.{IsValid};
 ghost use Rattle.pv_model.specs.declared.call.Call.{Call};
-ghost use Rattle.pv_model.specs.Answer.{answer};
-ghost use Rattle.pv_model.specs.CallRef.{call_of, walk_of};
-ghost use Rattle.pv_model.specs.Effect.{end_of as end_by_definition};
-ghost use Rattle.pv_model.specs.Grammar.Programs.{program_of};
-ghost use Rattle.pv_model.specs.State.{Process, State, process_at};
-ghost use Rattle.pv_model.specs.Touch.{place_found};
-ghost use Rattle.pv_model.specs.Walks.{Walk as DefinedWalk, walk_number, walks_of};
+ghost use Rattle.pv_model.specs.Machine.{answer, call_of, walk_of, end_of as end_by_definition, program_of, Process, State, process_at, place_found, Walk as DefinedWalk, walk_number, walks_of};
 ghost use Rattle.pv_calls_path.specs.Ends.{end_begun, end_of_some};
 
 use crate::opening::start_of;
-use pv_calls_state::Parts;
+use pv_calls_plain::calls_state::Parts;
 use pv_model::{CallRef, Place, Walk, Walks};
 use pv_namei::{PlainLookup, resolve};
 

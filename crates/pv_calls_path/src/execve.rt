@@ -2,8 +2,7 @@
 ghost use Rattle.std.specs.Prelude.{◌≡◌, IsTrue, OnErr, Some};
 ghost use Rattle.pv_laws_states.specs.States.{is_text};
 ghost use Rattle.pv_model.specs.declared.outcome.Cause.TheVariants.{Plain};
-ghost use Rattle.pv_model.specs.State.{Process, process_at};
-ghost use Rattle.pv_model.specs.Tree.{find_entry};
+ghost use Rattle.pv_model.specs.Machine.{Process, process_at, find_entry};
 ghost use Rattle.pv_calls_path.specs.Caller.{IsCaller};
 ghost use Rattle.pv_calls_path.specs.Execve.{Executes};
 
@@ -16,7 +15,7 @@ use pv_namei::Lookup;
 use std::alloc::Global;
 
 /// The reason why execve(2) did not replace the program.
-#[derive(Clone, Copy, Debug, PartialEq, Eq)]
+#[derive(Clone, Copy)]
 pub enum ExecveFault {
     /// The call is refused.
     Refused(Refused),

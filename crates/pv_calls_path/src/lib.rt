@@ -18,3 +18,5 @@ mod reach;
 pub mod rename;
 pub mod system;
 pub mod unveil;
+
+pub use pv_calls_plain as calls_plain;

@@ -2,9 +2,8 @@
 ghost use Rattle.std.specs.Prelude.{◌≡◌, IsTrue};
 ghost use Rattle.pv_laws_states.specs.States.{is_text};
 ghost use Rattle.pv_model.specs.declared.call.Start.TheVariants.{WorkingDirectory};
-ghost use Rattle.pv_model.specs.CallRef.{walk_of};
-ghost use Rattle.pv_model.specs.Calls.Paths.{lstat, readlink, stat, stat_at};
-ghost use Rattle.pv_model.specs.Tree.{find_entry};
+ghost use Rattle.pv_model.specs.Machine.{walk_of, readlink, stat_at, find_entry};
+ghost use Rattle.pv_model.specs.Calls.Paths.{lstat, stat};
 ghost use Rattle.pv_calls_plain.specs.Performed.{IsAnswered};
 ghost use Rattle.pv_calls_path.specs.Caller.{IsCaller};
 
@@ -41,8 +40,8 @@ fn stat_at<L: Lookup + Drop>(system: &mut System<L>, pid: u32, walk: Walk<'_>) -
     }
 }
 
-/// Reports the status of the node at a path, as stat(2). A final link is followed. Eight bytes come to the front of the
-/// buffer, and the answer is 0.
+/// Reports the status of the node at a path, as stat(2). A final link is followed. Eight bytes are stored at the start
+/// of the buffer, and the answer is 0.
 ///
 /// The call is refused with an error of the walk, then of the unveil check, then with `ENOENT` if nothing exists at the
 /// path.
@@ -69,8 +68,8 @@ pub fn lstat<L: Lookup + Drop>(system: &mut System<L>, pid: u32, path: &Text) ->
     stat_at(system, pid, Walk::lstat(path))
 }
 
-/// Reads the target of a symbolic link, as readlink(2). The text comes to the front of the buffer, and the answer is
-/// its length.
+/// Reads the target of a symbolic link, as readlink(2). The text is stored at the start of the buffer, and the
+/// answer is its length.
 ///
 /// The call is refused with an error of the walk, then of the unveil check, then with `ENOENT` if nothing exists at the
 /// path, then with `EINVAL` if it is not a symbolic link.

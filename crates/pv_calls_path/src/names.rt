@@ -1,24 +1,24 @@
 //! Calls that make or remove names: mkdir(2), symlink(2), link(2), unlink(2), rmdir(2).
-ghost use Rattle.std.specs.Prelude.{◌≡◌, IfErr, IfOk, IsTrue, None, Some};
-ghost use Rattle.pv_laws_states.specs.States.{is_text};
+ghost use Rattle.std.specs.Prelude.{◌≡◌, ℕ, IfErr, IfOk, IsSome, IsTrue, None, Some};
+ghost use Rattle.pv_laws_states.specs.States.{IsFinePlace, IsValid, is_text};
 ghost use Rattle.pv_model.specs.declared.call.Start.TheVariants.{WorkingDirectory};
 ghost use Rattle.pv_model.specs.declared.outcome.Cause.TheVariants.{Plain};
-ghost use Rattle.pv_model.specs.CallRef.{walk_of};
-ghost use Rattle.pv_model.specs.Calls.Paths.{make, mkdir, symlink, link, unlink, rmdir};
-ghost use Rattle.pv_model.specs.Effect.{name_of, node_of};
-ghost use Rattle.pv_model.specs.Tree.{find_entry, is_node};
+ghost use Rattle.pv_model.specs.Machine.{after_walks, walk_of, symlink, link, unlink, rmdir, name_of, node_of, find_entry, is_node, node_at};
+ghost use Rattle.pv_model.specs.Calls.Paths.{make, mkdir};
 ghost use Rattle.pv_calls_path.specs.Caller.{IsCaller};
+ghost use Rattle.pv_calls_path.specs.Linking.{link_at};
 ghost use Rattle.pv_calls_path.specs.Reached.{IsTaken};
 ghost use Rattle.pv_calls_plain.specs.Performed.{IsPerformed};
-ghost use Rattle.pv_tree.specs.Changes.{new_node};
+ghost use Rattle.pv_namei.specs.OfTree.Changes.{new_node};
 
 use crate::reach::{ends_in_dot, reach, reach_both, reach_found};
 use crate::system::System;
 use pv_calls_plain::answer::{Done, Refused, answer_of, refusal, space_errno};
+use pv_calls_plain::calls_state::Parts;
 use pv_model::limits::LINK_TEXT;
 use pv_model::{Errno, NewNode, Text, Walk};
 use pv_namei::Lookup;
-use pv_tree::PlaceRef;
+use pv_namei::tree::PlaceRef;
 
 // Returns the directory and the name of a place at which nothing exists. The error is `EEXIST`, after `walks` walks, if
 // something exists or the place has no name.
@@ -118,6 +118,33 @@ pub fn symlink<L: Lookup + Drop>(
     make(system, pid, walk, NewNode::Symlink(text))
 }
 
+// Gives a node another name at a place, after both walks of link(2), and returns 0.
+fn link_at<L: Lookup>(
+    parts: &mut Parts,
+    lookup: &mut L,
+    node: u16,
+    place: &PlaceRef<'_>,
+) -> Result<Done, Refused>
+    requires whole { IsValid parts.old }
+    requires agrees { L.agrees lookup.old (find_entry parts.old.tree) }
+    requires node { IsSome (node_at parts.old.tree node) }
+    requires place { IsFinePlace parts.old.tree place.now }
+    ensures performed { (pid : ℕ)
+        → IsPerformed (λ s _. after_walks 2 (link_at s node place.now)) parts.old pid parts.new result }
+    ensures agrees { L.agrees lookup.new (find_entry parts.new.tree) }
+{
+    if parts.tree().is_directory(node) {
+        return Err(refusal(2, Errno::EPERM));
+    }
+    let (directory, name) = free_name(place, 2)?;
+    if let Err(space) = parts.link(directory, name, node) {
+        return Err(refusal(2, space_errno(space)));
+    }
+    parts.tree().invariant();
+    lookup.changed(directory, name);
+    answer_of(2, 0)
+}
+
 /// Gives the file or link at a path another name, as link(2), and returns 0.
 ///
 /// # Errors
@@ -150,17 +177,7 @@ pub fn link<L: Lookup + Drop>(
     let first = Walk::linked(path);
     let second = Walk::new_link(new);
     let both = reach_both(parts, lookup, pid, first, second, links)?;
-    let node = both.node;
-    if parts.tree().is_directory(node) {
-        return Err(refusal(2, Errno::EPERM));
-    }
-    let (directory, name) = free_name(&both.second, 2)?;
-    if let Err(space) = parts.link(directory, name, node) {
-        return Err(refusal(2, space_errno(space)));
-    }
-    parts.tree().invariant();
-    lookup.changed(directory, name);
-    answer_of(2, 0)
+    link_at(parts, lookup, both.node, &both.second)
 }
 
 /// Removes the name of a file or link, as unlink(2), and returns 0.

@@ -2,12 +2,8 @@
 ghost use Rattle.std.specs.Prelude.{◌≡◌, IfOk, IfErr, IsSome, IsTrue, None, Some, false};
 ghost use Rattle.pv_laws_states.specs.States.{IsFinePlace, IsValid, is_text};
 ghost use Rattle.pv_model.specs.declared.place.Place.{Place};
-ghost use Rattle.pv_model.specs.Attempt.{after_walks};
-ghost use Rattle.pv_model.specs.Calls.Descriptors.{contradicts, is_link, open_at};
-ghost use Rattle.pv_model.specs.Effect.{node_of};
-ghost use Rattle.pv_model.specs.State.{process_at, writes};
-ghost use Rattle.pv_model.specs.Tree.{find_entry, is_directory_at, node_at};
-ghost use Rattle.pv_calls_state.specs.Opening.{CanOpen};
+ghost use Rattle.pv_model.specs.Machine.{after_walks, contradicts, is_link, open_at, node_of, process_at, writes, find_entry, is_directory_at, node_at};
+ghost use Rattle.pv_calls_plain.specs.OfCallsState.Opening.{CanOpen};
 ghost use Rattle.pv_calls_path.specs.Caller.{IsCaller};
 ghost use Rattle.pv_calls_path.specs.Opening.{open_place};
 ghost use Rattle.pv_calls_path.specs.Starting.{FailsStart, GivesDirectory, GivesNoDirectory, IsOnDirectory, PassesStart, StartsAt};
@@ -17,12 +13,12 @@ ghost use Rattle.pv_laws_trees.specs.Found.{Alike};
 use crate::reach::reach_from;
 use crate::system::System;
 use pv_calls_plain::answer::{Done, Refused, answer_of, refusal, space_errno};
+use pv_calls_plain::calls_state::Parts;
 use pv_calls_plain::descriptors::open_file;
 use pv_calls_plain::files::writes;
-use pv_calls_state::Parts;
 use pv_model::{Errno, Kind, OpenFlags, Start, Text, Walk};
+use pv_namei::tree::{PlaceRef, Tree};
 use pv_namei::{Lookup, is_absolute};
-use pv_tree::{PlaceRef, Tree};
 
 // Returns whether the flags contradict each other.
 fn contradicts(flags: OpenFlags) -> bool

@@ -1,17 +1,14 @@
 //! Loading of programs from files.
 ghost use Rattle.std.specs.Prelude.{◌≡◌, ◌⊎◌, IfOk, IfErr, IsTrue, Ok, Err};
-ghost use Rattle.pv_model.specs.Effect.{bytes_of};
-ghost use Rattle.pv_model.specs.Grammar.Programs.{read_program as program_encoded};
+ghost use Rattle.pv_model.specs.Machine.{bytes_of, read_program as program_encoded, is_file, node_at};
 ghost use Rattle.pv_model.specs.RunFault.{of_init};
-ghost use Rattle.pv_model.specs.Sealed.{is_file};
 ghost use Rattle.pv_model.specs.Start.{init_of, program_in};
-ghost use Rattle.pv_model.specs.Tree.{node_at};
-ghost use Rattle.pv_script.specs.Reading.{GivesProgram};
+ghost use Rattle.pv_calls_plain.specs.OfScript.Reading.{GivesProgram};
 
+use pv_calls_plain::script::Program;
 use pv_model::limits::ROOT;
 use pv_model::{BootFault, Kind, ParseFault};
-use pv_script::Program;
-use pv_tree::Tree;
+use pv_namei::tree::Tree;
 use std::alloc::Global;
 
 /// Parses the bytes of a file as a program.

@@ -1,21 +1,18 @@
 //! Walks to places, and the unveil check at their end.
 ghost use Rattle.std.specs.Prelude.{◌≡◌, if◌then◌else◌, IfOk, IfErr, IsTrue};
 ghost use Rattle.pv_laws_states.specs.States.{IsValid, is_text};
-ghost use Rattle.pv_model.specs.Calls.Paths.{ends_in_dot};
-ghost use Rattle.pv_model.specs.CallRef.{walk_of};
-ghost use Rattle.pv_model.specs.Tree.{find_entry, is_directory_at};
-ghost use Rattle.pv_model.specs.Walk.{begins_walk};
+ghost use Rattle.pv_model.specs.Machine.{ends_in_dot, walk_of, find_entry, is_directory_at, begins_walk};
 ghost use Rattle.pv_calls_path.specs.Caller.{IsCaller};
 ghost use Rattle.pv_calls_path.specs.Reached.{Finds, Leads, LeadsNowhere, Misses, MissesOne, Reaches, ReachesFrom, ReachesNode, Stops, StopsFrom, StopsSecond};
 
 use crate::links::LinkRoom;
 use pv_calls_plain::answer::{Refused, refusal};
-use pv_calls_state::Parts;
+use pv_calls_plain::calls_state::Parts;
 use pv_model::limits::PATH;
 use pv_model::{Cause, Errno, Follow, Judgement, Place, Text, Walk};
 use pv_namei as namei;
+use pv_namei::tree::PlaceRef;
 use pv_namei::{Lookup, resolve_ref};
-use pv_tree::PlaceRef;
 
 /// Returns the number of walks that a path begins: 0 if it is empty or too long, and 1 otherwise.
 pub(crate) fn walks_begun(path: &[u8]) -> u8

@@ -1,7 +1,7 @@
 //! The context of the calls that walk.
 
 use crate::links::LinkRoom;
-use pv_calls_state::Parts;
+use pv_calls_plain::calls_state::Parts;
 use pv_namei::Lookup;
 
 /// The state of the machine and the context that walks need.

@@ -1,21 +1,18 @@
 //! Unveiling of paths: unveil(2).
 ghost use Rattle.std.specs.Prelude.{◌≡◌, IsTrue, Some, option_copied};
 ghost use Rattle.pv_laws_states.specs.States.{is_text, is_text_or_none};
-ghost use Rattle.pv_model.specs.Attempt.{refused};
-ghost use Rattle.pv_model.specs.Calls.Restraints.{unveil};
-ghost use Rattle.pv_model.specs.Tree.{find_entry};
-ghost use Rattle.pv_model.specs.Unveil.{target_of};
+ghost use Rattle.pv_model.specs.Machine.{refused, unveil, find_entry, target_of};
 ghost use Rattle.pv_calls_plain.specs.Performed.{IsPerformed};
-ghost use Rattle.pv_unveil.specs.Added.{refusal as refusal_of};
+ghost use Rattle.pv_calls_plain.specs.OfUnveil.Added.{refusal as refusal_of};
 ghost use Rattle.pv_calls_path.specs.Caller.{IsCaller};
 
 use crate::reach::walk_to;
 use crate::system::System;
 use pv_calls_plain::answer::{Done, Refused, answer_of, refusal};
+use pv_calls_plain::unveil::AddFault;
 use pv_model::{Cause, Errno, Follow, Perms, Place, Target, Text};
 use pv_namei::Lookup;
-use pv_tree::Tree;
-use pv_unveil::AddFault;
+use pv_namei::tree::Tree;
 
 /// Returns the target of an unveil entry for a place: the directory at the place, or else the name in its directory.
 pub fn target_of(tree: &Tree, place: Place) -> Target

@@ -6,26 +6,17 @@ use Rattle.pv_calls_state.specs.Attempts.{collected}
 use Rattle.pv_calls_state.proofs.Alone.{some-at}
 use Rattle.pv_calls_state.proofs.Attempts.{after_none, given, passed, refused_before, refused_first}
 use Rattle.pv_calls_plain.proofs.Room.{roomy, crowded}
-use Rattle.pv_inodes.specs.declared.space.Space.{Space}
+use Rattle.pv_calls_state.specs.OfInodes.declared.space.Space.{Space}
 use Rattle.pv_laws_states.specs.States.{IsValid}
 use Rattle.pv_model.specs.declared.call.Whence.{Whence}
 use Rattle.pv_model.specs.declared.errno.Errno.TheVariants.{EFBIG, EINVAL}
 use Rattle.pv_model.specs.declared.limits.TheConstants.{BUFFER, OFFSET}
 use Rattle.pv_model.specs.declared.outcome.Cause.TheVariants.{Plain}
-use Rattle.pv_model.specs.Answer.{update, update_live, with_front}
-use Rattle.pv_model.specs.Attempt.{done, refused, demand, refuse_if, ◌>>=◌}
-use Rattle.pv_model.specs.Bytes.{Bytes}
-use Rattle.pv_model.specs.Calls.Descriptors.{fstat, getdents, is_past_greatest, lseek, next_name, read, seek_base, within, with_bytes_written, write, write_end, write_place, after_write}
-use Rattle.pv_model.specs.Effect.{answers, bytes_of, open_file, returns, returns_bytes, size_of, status, with_file, with_room}
-use Rattle.pv_model.specs.Held.{collect}
-use Rattle.pv_model.specs.Numbered.{Numbered, at_number}
-use Rattle.pv_model.specs.Sealed.{is_file}
-use Rattle.pv_model.specs.Room.{is_too_long, fits}
-use Rattle.pv_model.specs.State.{OpenFile, Process, State, process_at, reads, writes}
-use Rattle.pv_model.specs.Tree.{Node, directory_node, file_node, link_node, Tree, node_at, entries_at, is_directory, is_directory_at}
+use Rattle.pv_model.specs.Machine.{update, update_live, with_front, done, refused, demand, refuse_if, ◌>>=◌, Bytes, fstat, getdents, is_past_greatest, lseek, next_name, read, seek_base, within, write, write_end, write_place, after_write, answers, bytes_of, open_file, returns, returns_bytes, size_of, status, with_file, with_room, collect, Numbered, at_number, is_file, is_too_long, fits, OpenFile, Process, State, process_at, reads, writes, Node, directory_node, file_node, link_node, Tree, node_at, entries_at, is_directory, is_directory_at}
+use Rattle.pv_model.specs.Calls.Descriptors.{with_bytes_written}
 use Rattle.pv_laws_states.proofs.Processes.{files-update}
-use Rattle.pv_laws_states.proofs.Present.{file_or_directory}
-use Rattle.pv_tree.specs.Rooms.{refusal}
+use Rattle.pv_laws_states.proofs.ChangedStates.{file_or_directory}
+use Rattle.pv_calls_state.specs.OfTree.Rooms.{refusal}
 
 -- a part of an optional value that is present
 pub part-is : {X Y : Type 0} (g : X → Y) (o : Option X) (x : X) (y : Y) → option_map g o ≡ Some y → o ≡ Some x → y ≡ g x

@@ -8,3 +8,4 @@ pub mod Pledging
 pub mod Room
 pub mod Reporting
 pub mod Waits
+pub use Rattle.pv_calls_state.proofs as OfCallsState

@@ -6,9 +6,7 @@ use Rattle.std.specs.Result.{result_ok}
 use Rattle.pv_calls_plain.specs.Performed.{IsOn}
 use Rattle.pv_files.specs.Descriptors.{descriptor_under}
 use Rattle.pv_model.specs.declared.errno.Errno.TheVariants.{EBADF}
-use Rattle.pv_model.specs.Effect.{descriptor_at, open_file, open_file_of}
-use Rattle.pv_model.specs.Numbered.{Numbered, at_number}
-use Rattle.pv_model.specs.State.{Descriptor, Process, State, process_at}
+use Rattle.pv_model.specs.Machine.{descriptor_at, open_file, open_file_of, Numbered, at_number, Descriptor, Process, State, process_at}
 use Rattle.pv_laws_states.proofs.ByProcess.{my-descriptor}
 use Rattle.pv_laws_states.specs.States.{IsValid}
 use Rattle.pv_calls_state.proofs.Alone.{some-at}

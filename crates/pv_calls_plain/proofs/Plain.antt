@@ -7,10 +7,7 @@ use Rattle.pv_calls_state.specs.Attempts.{plainly, collected}
 use Rattle.pv_calls_plain.specs.Performed.{IsPerformed, attempt_of}
 use Rattle.pv_model.specs.declared.errno.Errno.{Errno}
 use Rattle.pv_model.specs.declared.outcome.Cause.TheVariants.{Plain}
-use Rattle.pv_model.specs.Attempt.{Attempt, done, refused}
-use Rattle.pv_model.specs.Effect.{Effect, returns, returns_bytes, ends, waits}
-use Rattle.pv_model.specs.Held.{collect}
-use Rattle.pv_model.specs.State.{Process, State, process_at}
+use Rattle.pv_model.specs.Machine.{Attempt, done, refused, Effect, returns, returns_bytes, ends, waits, collect, Process, State, process_at}
 use Rattle.pv_laws_states.proofs.Attempts.{Leads}
 use Rattle.pv_laws_states.proofs.Replies.{IsEffect}
 use Rattle.pv_calls_state.proofs.Alone.{some-at}

@@ -3,12 +3,7 @@ use Rattle.std.proofs.Common.{◌≡◌, ℕ, Option, Result, Ok, Err, ap}
 use Rattle.pv_model.specs.declared.errno.Errno.TheVariants.{EPERM}
 use Rattle.pv_model.specs.declared.outcome.Cause.TheVariants.{Promise as ByPromise}
 use Rattle.pv_model.specs.declared.promise.Promise.{Promise}
-use Rattle.pv_model.specs.Attempt.{Attempt, done, refused, ◌>>=◌, give}
-use Rattle.pv_model.specs.Bytes.{Bytes}
-use Rattle.pv_model.specs.Calls.Restraints.{asked_promises, unless_refused, pledge}
-use Rattle.pv_model.specs.Effect.{Effect, answers, returns}
-use Rattle.pv_model.specs.Promises.{Promises, is_lenient, narrow_promises}
-use Rattle.pv_model.specs.State.{Process, State, with_process}
+use Rattle.pv_model.specs.Machine.{Attempt, done, refused, ◌>>=◌, give, Bytes, asked_promises, unless_refused, pledge, Effect, answers, returns, Promises, is_lenient, narrow_promises, Process, State, with_process}
 use Rattle.pv_promises.specs.Pledge.{Pledged, narrow_both, both_preserved}
 use Rattle.pv_calls_state.proofs.Attempts.{after_none}
 

@@ -6,15 +6,9 @@ use Rattle.std.specs.Ordering.{nat_cmp}
 use Rattle.pv_calls_plain.specs.declared.answer.Done.{Done}
 use Rattle.pv_calls_state.specs.Attempts.{collected}
 use Rattle.pv_model.specs.declared.outcome.Outcome.TheVariants.{Value, Text}
-use Rattle.pv_model.specs.Answer.{Answered, answer_by_attempt, with_front, update_live, update}
-use Rattle.pv_model.specs.Attempt.{Attempt, done, refused}
-use Rattle.pv_model.specs.Bytes.{Bytes}
-use Rattle.pv_model.specs.Calls.Processes.{with_result}
-use Rattle.pv_model.specs.Effect.{Effect, returns, returns_bytes, ends, waits}
-use Rattle.pv_model.specs.Held.{collect}
-use Rattle.pv_model.specs.State.{Process, State, live_process, process_at, with_process}
+use Rattle.pv_model.specs.Machine.{Answered, answer_by_attempt, with_front, update_live, update, Attempt, done, refused, Bytes, with_result, Effect, returns, returns_bytes, ends, waits, collect, Process, State, live_process, process_at, with_process}
 use Rattle.pv_laws_states.proofs.Processes.{process_at-same, update-is, update-with}
-use Rattle.pv_laws_states.proofs.Running.{SameHolds, collect-same}
+use Rattle.pv_laws_states.proofs.ProcessInsides.{SameHolds, collect-same}
 use Rattle.pv_laws_states.proofs.Collect.{processes-collect}
 
 same-result : (value : ℤ) (error : ℕ) (p : Process) → SameHolds p (with_result p value error)

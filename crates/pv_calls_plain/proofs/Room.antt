@@ -1,16 +1,12 @@
 -- The effect of a tree's room on an attempt.
 use Rattle.std.proofs.Common.{◌≡◌, Bool, true, false, not, if◌then◌else◌, Option, None, Some, refl, ap₂, subst}
-use Rattle.pv_inodes.specs.declared.space.Space.{Space}
-use Rattle.pv_inodes.specs.declared.space.Space.TheVariants.{Full, TooBig}
+use Rattle.pv_calls_state.specs.OfInodes.declared.space.Space.{Space}
+use Rattle.pv_calls_state.specs.OfInodes.declared.space.Space.TheVariants.{Full, TooBig}
 use Rattle.pv_model.specs.declared.errno.Errno.TheVariants.{EFBIG, ENOSPC}
 use Rattle.pv_model.specs.declared.outcome.Cause.TheVariants.{Plain}
-use Rattle.pv_model.specs.Attempt.{refused, ◌>>◌, give, refuse_if}
-use Rattle.pv_model.specs.Effect.{with_room}
-use Rattle.pv_model.specs.Held.{collect}
-use Rattle.pv_model.specs.Room.{is_too_long, fits}
-use Rattle.pv_model.specs.State.{State}
+use Rattle.pv_model.specs.Machine.{refused, ◌>>◌, give, refuse_if, with_room, collect, is_too_long, fits, State}
 use Rattle.pv_calls_plain.specs.Space.{space_errno}
-use Rattle.pv_tree.specs.Rooms.{refusal}
+use Rattle.pv_calls_state.specs.OfTree.Rooms.{refusal}
 
 abbrev room_by : (s : State) (long fit : Bool) → Option Space → Type 0
 room_by s long fit None = (refuse_if EFBIG long >> (refuse_if ENOSPC (not fit) >> give s)) ≡ give s

@@ -7,17 +7,11 @@ use Rattle.std.proofs.lemmas.Bool.{ne_eqb}
 use Rattle.pv_calls_plain.specs.declared.answer.Done.{Done}
 use Rattle.pv_calls_state.specs.Attempts.{collected}
 use Rattle.pv_model.specs.declared.errno.Errno.TheVariants.{ECHILD}
-use Rattle.pv_model.specs.Answer.{Answered, answer_by_attempt}
-use Rattle.pv_model.specs.Attempt.{Attempt, done, refused, ◌>>◌, refuse_if}
-use Rattle.pv_model.specs.Bytes.{Bytes, is_empty, little_endian}
-use Rattle.pv_model.specs.Calls.Processes.{parent_of, statuses, children, reap, wait}
-use Rattle.pv_model.specs.Effect.{Effect, returns, returns_bytes, ends, waits}
-use Rattle.pv_model.specs.Held.{collect}
-use Rattle.pv_model.specs.State.{Process, live, ended_record, State, process_at}
+use Rattle.pv_model.specs.Machine.{Answered, answer_by_attempt, Attempt, done, refused, ◌>>◌, refuse_if, Bytes, is_empty, little_endian, parent_of, statuses, children, reap, wait, Effect, returns, returns_bytes, ends, waits, collect, Process, live, ended_record, State, process_at}
 use Rattle.pv_laws_states.specs.States.{IsValid}
 use Rattle.pv_laws_states.proofs.Attempts.{Leads}
 use Rattle.pv_laws_states.proofs.ByTable.{first-ended, good-wait}
-use Rattle.pv_laws_states.proofs.Ending.{filtered-found}
+use Rattle.pv_laws_states.proofs.ValidEnds.{filtered-found}
 use Rattle.pv_laws_states.proofs.Members.{live-found, found-live}
 use Rattle.pv_laws_states.proofs.Replies.{IsEffect}
 use Rattle.pv_calls_plain.proofs.Reporting.{process_at-collect}

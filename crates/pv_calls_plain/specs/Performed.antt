@@ -1,12 +1,7 @@
 -- The result of a system call in code, and its report to the process.
 use Rattle.std.specs.Prelude.{◌≡◌, ◌≤◌, ℕ, ℤ, length, IfOk, OnErr, Some, Result, Ok, Err}
 use Rattle.pv_model.specs.declared.limits.TheConstants.{NUMBER}
-use Rattle.pv_model.specs.Answer.{Answered, answer_by_attempt, update, with_front}
-use Rattle.pv_model.specs.Attempt.{Attempt, done, refused}
-use Rattle.pv_model.specs.Bytes.{Bytes}
-use Rattle.pv_model.specs.Effect.{Effect, returns, returns_bytes, open_file}
-use Rattle.pv_model.specs.Numbered.{at_number}
-use Rattle.pv_model.specs.State.{OpenFile, Process, State, process_at}
+use Rattle.pv_model.specs.Machine.{Answered, answer_by_attempt, update, with_front, Attempt, done, refused, Bytes, Effect, returns, returns_bytes, open_file, at_number, OpenFile, Process, State, process_at}
 use Rattle.pv_calls_state.specs.Attempts.{collected}
 use Rattle.pv_calls_plain.specs.declared.answer.Answer.{Answer}
 use Rattle.pv_calls_plain.specs.declared.answer.Done.{Done}

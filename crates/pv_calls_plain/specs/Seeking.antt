@@ -1,8 +1,6 @@
 -- Offsets of open files.
 use Rattle.std.specs.Prelude.{◌≡◌, ℕ, false, IsSome, Some}
-use Rattle.pv_model.specs.Numbered.{at_number}
-use Rattle.pv_model.specs.State.{OpenFile, State}
-use Rattle.pv_model.specs.Tree.{is_directory_at}
+use Rattle.pv_model.specs.Machine.{at_number, OpenFile, State, is_directory_at}
 
 -- a number of an open file that does not refer to a directory
 pub record IsSeekable (s : State) (file : ℕ) : Type 0 where

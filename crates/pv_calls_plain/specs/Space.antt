@@ -1,14 +1,10 @@
 -- The error for a lack of space, and a write that can lack space.
 use Rattle.std.specs.Prelude.{◌≡◌, ℕ, Some, Result}
-use Rattle.pv_inodes.specs.declared.space.Space.{Space}
-use Rattle.pv_inodes.specs.declared.space.Space.TheVariants.{Full, TooBig}
+use Rattle.pv_calls_state.specs.OfInodes.declared.space.Space.{Space}
+use Rattle.pv_calls_state.specs.OfInodes.declared.space.Space.TheVariants.{Full, TooBig}
 use Rattle.pv_model.specs.declared.errno.Errno.{Errno}
 use Rattle.pv_model.specs.declared.errno.Errno.TheVariants.{EFBIG, ENOSPC}
-use Rattle.pv_model.specs.Attempt.{Attempt, ◌>>=◌, ◌>>◌, refuse_if}
-use Rattle.pv_model.specs.Calls.Descriptors.{is_past_greatest, write_end, after_write}
-use Rattle.pv_model.specs.Effect.{Effect, answers, with_room}
-use Rattle.pv_model.specs.Numbered.{at_number}
-use Rattle.pv_model.specs.State.{OpenFile, Process, State, process_at}
+use Rattle.pv_model.specs.Machine.{Attempt, ◌>>=◌, ◌>>◌, refuse_if, is_past_greatest, write_end, after_write, Effect, answers, with_room, at_number, OpenFile, Process, State, process_at}
 use Rattle.pv_calls_state.specs.Attempts.{collected}
 use Rattle.pv_calls_plain.specs.declared.answer.Done.{Done}
 use Rattle.pv_calls_plain.specs.declared.answer.Refused.{Refused}

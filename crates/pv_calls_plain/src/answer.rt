@@ -2,23 +2,18 @@
 ghost use Rattle.std.specs.Prelude.{◌≡◌, ◌+◌, ◌≤◌, length, IsSome, IfOk, OnErr, Some, Ok};
 ghost use Rattle.pv_model.specs.declared.limits.TheConstants.{NUMBER};
 ghost use Rattle.pv_model.specs.declared.outcome.Cause.TheVariants.{Plain};
-ghost use Rattle.pv_model.specs.Answer.{answer_by_attempt, update, with_front};
-ghost use Rattle.pv_model.specs.Attempt.{Attempt, done as done_attempt};
-ghost use Rattle.pv_model.specs.Bytes.{Bytes};
-ghost use Rattle.pv_model.specs.Effect.{Effect, returns_bytes};
-ghost use Rattle.pv_model.specs.Held.{collect};
-ghost use Rattle.pv_model.specs.State.{Process, State, process_at};
+ghost use Rattle.pv_model.specs.Machine.{answer_by_attempt, update, with_front, Attempt, done as done_attempt, Bytes, Effect, returns_bytes, collect, Process, State, process_at};
 ghost use Rattle.pv_calls_state.specs.Attempts.{collected};
 ghost use Rattle.pv_calls_plain.specs.Performed.{attempt_of, answered};
 ghost use Rattle.pv_calls_plain.specs.Space.{space_errno};
 
 use pv_calls_state::Parts;
+use pv_calls_state::tree::Space;
 use pv_model::limits::BUFFER;
 use pv_model::{Cause, Errno, Outcome, Taken};
-use pv_tree::Space;
 
 /// The result of a call: its outcome and the number of path walks that it began.
-#[derive(Clone, Copy, Debug, PartialEq, Eq)]
+#[derive(Clone, Copy)]
 pub struct Answer {
     /// The outcome.
     pub outcome: Outcome,
@@ -27,7 +22,7 @@ pub struct Answer {
 }
 
 /// The result of a call that succeeded, before it is reported to the process.
-#[derive(Clone, Copy, Debug, PartialEq, Eq)]
+#[derive(Clone, Copy)]
 pub struct Done {
     /// The number of walks that the call began, from 0 to 2.
     pub walks: u8,
@@ -36,7 +31,7 @@ pub struct Done {
 }
 
 /// The result of a call that was refused, before it is reported to the process.
-#[derive(Clone, Copy, Debug, PartialEq, Eq)]
+#[derive(Clone, Copy)]
 pub struct Refused {
     /// The number of walks that the call began, from 0 to 2.
     pub walks: u8,

@@ -1,10 +1,7 @@
 //! Descriptors: close(2), dup(2), fchdir(2).
 ghost use Rattle.std.specs.Prelude.{◌≡◌, IfSome, IsSome, MatchOption, None, Some};
 ghost use Rattle.pv_laws_states.specs.States.{IsValid};
-ghost use Rattle.pv_model.specs.Calls.Descriptors.{close, dup, dup2, fchdir};
-ghost use Rattle.pv_model.specs.Effect.{open_file};
-ghost use Rattle.pv_model.specs.Numbered.{at_number};
-ghost use Rattle.pv_model.specs.State.{Process, process_at};
+ghost use Rattle.pv_model.specs.Machine.{close, dup, dup2, fchdir, open_file, at_number, Process, process_at};
 ghost use Rattle.pv_calls_plain.specs.Performed.{IsOn, IsPerformed};
 
 use crate::answer::{Done, Refused, answer_of, refusal};

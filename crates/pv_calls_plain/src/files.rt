@@ -2,11 +2,7 @@
 ghost use Rattle.std.specs.Prelude.{ℕ, pos, ◌≡◌, ◌≤◌, ◌<◌, ◌+ℤ◌, length, IfOk, IsSome, IsTrue, MatchResult, OnErr, Some};
 ghost use Rattle.pv_laws_states.specs.States.{IsValid};
 ghost use Rattle.pv_model.specs.declared.outcome.Cause.TheVariants.{Plain};
-ghost use Rattle.pv_model.specs.Attempt.{refused};
-ghost use Rattle.pv_model.specs.Calls.Descriptors.{fstat, ftruncate, getdents, is_past_greatest, lseek, next_name, read, seek_base, within, write, write_place};
-ghost use Rattle.pv_model.specs.Numbered.{at_number};
-ghost use Rattle.pv_model.specs.State.{OpenFile, Process, process_at, reads, writes};
-ghost use Rattle.pv_model.specs.Tree.{entries_at, is_directory_at};
+ghost use Rattle.pv_model.specs.Machine.{refused, fstat, ftruncate, getdents, is_past_greatest, lseek, next_name, read, seek_base, within, write, write_place, at_number, OpenFile, Process, process_at, reads, writes, entries_at, is_directory_at};
 ghost use Rattle.pv_calls_state.specs.Writing.{IsOnFile};
 ghost use Rattle.pv_calls_plain.specs.Seeking.{IsSeekable};
 ghost use Rattle.pv_calls_plain.specs.Space.{Writes};
@@ -18,9 +14,9 @@ use crate::answer::{
 use crate::descriptors::open_file;
 use crate::status::status;
 use pv_calls_state::Parts;
+use pv_calls_state::tree::Tree;
 use pv_model::limits::{BUFFER, OFFSET};
 use pv_model::{Errno, Mode, Name, Whence};
-use pv_tree::Tree;
 
 // Returns `n` if it is from 0 to `limit`.
 fn within(limit: usize, n: i32) -> Option<usize>
@@ -232,8 +228,8 @@ pub fn lseek(parts: &mut Parts, pid: u32, d: i32, by: i32, whence: Whence) -> Re
     answer_of(0, offset)
 }
 
-/// Reports the status of an open file, as fstat(2). The eight bytes of stat(2) come to the front of the buffer, and the
-/// answer is 0.
+/// Reports the status of an open file, as fstat(2). The eight bytes of stat(2) are stored at the start of the buffer, and
+/// the answer is 0.
 ///
 /// The call is refused with `EBADF` if the descriptor is not open.
 pub fn fstat(parts: &mut Parts, pid: u32, d: i32) -> Answer
@@ -288,7 +284,7 @@ pub fn ftruncate(parts: &mut Parts, pid: u32, d: i32, n: i32) -> Result<Done, Re
 }
 
 /// Returns the next name of a directory, as getdents(2): the least name after the last one that its open file gave. The
-/// name comes to the front of the buffer. The answer is its length, or 0 if there are no more names.
+/// name is stored at the start of the buffer. The answer is its length, or 0 if there are no more names.
 ///
 /// The call is refused with `EBADF` if the descriptor is not open, and with `EINVAL` if it does not refer to a
 /// directory.

@@ -12,3 +12,6 @@ pub mod files;
 pub mod pledge;
 pub mod processes;
 pub mod status;
+
+pub use pv_calls_state as calls_state;
+pub use pv_calls_state::{script, unveil};

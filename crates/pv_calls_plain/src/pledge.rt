@@ -2,9 +2,7 @@
 ghost use Rattle.std.specs.Prelude.{◌≡◌, IsSome, MatchResult, Some, option_copied};
 ghost use Rattle.pv_laws_states.specs.States.{IsValid};
 ghost use Rattle.pv_model.specs.declared.outcome.Cause.TheVariants.{Plain};
-ghost use Rattle.pv_model.specs.Attempt.{give, refused};
-ghost use Rattle.pv_model.specs.Calls.Restraints.{asked_promises, pledge};
-ghost use Rattle.pv_model.specs.State.{process_at};
+ghost use Rattle.pv_model.specs.Machine.{give, refused, asked_promises, pledge, process_at};
 ghost use Rattle.pv_promises.specs.Pledge.{bits_of};
 ghost use Rattle.pv_calls_plain.specs.Performed.{IsPerformed};
 

@@ -2,17 +2,15 @@
 ghost use Rattle.std.specs.Prelude.{◌≡◌, ◌≢◌, ◌↔◌, IsSome, IsTrue, MatchResult, Ok, Err, Some};
 ghost use Rattle.pv_laws_states.specs.States.{IsValid};
 ghost use Rattle.pv_model.specs.declared.outcome.Cause.TheVariants.{Plain};
-ghost use Rattle.pv_model.specs.Attempt.{give};
-ghost use Rattle.pv_model.specs.Calls.Processes.{exit_status, getpid, getppid, fork, wait};
-ghost use Rattle.pv_model.specs.Effect.{waits};
-ghost use Rattle.pv_model.specs.State.{Process, process_at};
+ghost use Rattle.pv_model.specs.Machine.{give, fork, wait, waits, Process, process_at};
+ghost use Rattle.pv_model.specs.Calls.Processes.{exit_status, getpid, getppid};
 ghost use Rattle.pv_calls_plain.specs.Performed.{IsAnswered, IsPerformed};
 
 use crate::answer::{Answer, Done, Refused, answer_of, refusal, report, report_bytes};
 use crate::status::four_bytes;
 use pv_calls_state::Parts;
+use pv_calls_state::procs::Reap;
 use pv_model::Errno;
-use pv_procs::Reap;
 
 /// Converts the result of a call that walks no path.
 pub(crate) fn plain(performed: Result<u32, Errno>) -> Result<Done, Refused>
@@ -76,7 +74,7 @@ pub fn would_wait(parts: &Parts, pid: u32) -> bool
 }
 
 /// Waits for an ended child, as wait(2). The ended child with the lowest number is removed, its number is the answer,
-/// and the four bytes of its status come to the front of the buffer. The caller must first check that `would_wait` is
+/// and the four bytes of its status are stored at the start of the buffer. The caller must first check that `would_wait` is
 /// false.
 ///
 /// The call is refused with `ECHILD` if the process has no children.

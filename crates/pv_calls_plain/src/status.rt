@@ -1,10 +1,8 @@
 //! The eight bytes of stat(2).
 ghost use Rattle.std.specs.Prelude.{◌≡◌, IsSome};
-ghost use Rattle.pv_model.specs.Bytes.{little_endian};
-ghost use Rattle.pv_model.specs.Effect.{status};
-ghost use Rattle.pv_model.specs.Tree.{node_at};
+ghost use Rattle.pv_model.specs.Machine.{little_endian, status, node_at};
 
-use pv_tree::Tree;
+use pv_calls_state::tree::Tree;
 
 /// Returns the four bytes of a number, the lowest first.
 pub(crate) fn four_bytes(n: u32) -> [u8; 4]

@@ -10,17 +10,13 @@ use Rattle.pv_model.specs.declared.limits.TheConstants.{UNVEILS}
 use Rattle.pv_model.specs.declared.outcome.Cause.TheVariants.{Unveil as ByUnveil}
 use Rattle.pv_model.specs.declared.perms.Perms.{Perms}
 use Rattle.pv_model.specs.declared.target.Target.{Target}
-use Rattle.pv_model.specs.Attempt.{refused, refuse, give}
-use Rattle.pv_model.specs.Calls.Restraints.{add_entry, entries_of_table}
-use Rattle.pv_model.specs.Held.{held_by_table}
-use Rattle.pv_model.specs.Perms.{covers}
-use Rattle.pv_model.specs.State.{State, Process}
-use Rattle.pv_model.specs.Unveil.{Table, same_target, entry_for, permissions_at, with_permissions, target_directory}
-use Rattle.pv_laws_states.proofs.Present.{same-directory}
+use Rattle.pv_model.specs.Machine.{refused, refuse, give, entries_of_table, held_by_table, covers, State, Process, Table, same_target, entry_for, permissions_at, with_permissions, target_directory}
+use Rattle.pv_model.specs.Calls.Restraints.{add_entry}
+use Rattle.pv_laws_states.proofs.ChangedStates.{same-directory}
 use Rattle.pv_procs.specs.ProcessTable.{ProcessTable, state_with}
-use Rattle.pv_tree.specs.Holding.{HeldTree, holds_at}
-use Rattle.pv_unveil.specs.Added.{put_in, add_to}
-use Rattle.pv_unveil.specs.Unveiled.{Unveiled}
+use Rattle.pv_procs.specs.OfTree.Holding.{HeldTree, holds_at}
+use Rattle.pv_procs.specs.OfUnveil.Added.{put_in, add_to}
+use Rattle.pv_procs.specs.OfUnveil.Unveiled.{Unveiled}
 use Rattle.pv_files.specs.Counted.{Counted}
 use Rattle.pv_calls_state.specs.Changes.{AddsEntry, Unveils, unveiled_of, with_table}
 use Rattle.pv_calls_state.specs.Counts.{state_of, times, IsCountedUp}

@@ -5,14 +5,11 @@ use Rattle.std.specs.FinMap.Entries.{is_sorted}
 use Rattle.std.specs.Ordering.{nat_cmp}
 use Rattle.pv_calls_state.specs.Counts.{state_of, times, held_in, open_nodes, IsCountedUp}
 use Rattle.pv_files.specs.Counted.{Counted, with_file}
-use Rattle.pv_laws_states.proofs.Running.{SameHolds, holds-put, used-same}
+use Rattle.pv_laws_states.proofs.ProcessInsides.{SameHolds, holds-put, used-same}
 use Rattle.pv_model.specs.declared.instruction.Instruction.{Instruction}
 use Rattle.pv_model.specs.declared.instruction.Instruction.TheVariants as Line
-use Rattle.pv_model.specs.Answer.{at_next_line, with_front}
-use Rattle.pv_model.specs.Held.{held_by_process, held_by_table}
-use Rattle.pv_model.specs.Numbered.{Numbered, at_number, with_number}
-use Rattle.pv_model.specs.Program.{Next, inside, calls_for, perform, next_by, next, at_line, jump_if, with_register, register, clamp}
-use Rattle.pv_model.specs.State.{OpenFile, Process, State, process_at, with_process as with_process_at}
+use Rattle.pv_model.specs.Machine.{at_next_line, with_front, held_by_process, held_by_table, Numbered, at_number, with_number, Next, inside, calls_for, perform, next_by, next, jump_if, OpenFile, Process, State, process_at, with_process as with_process_at}
+use Rattle.pv_model.specs.Program.{at_line, with_register, register, clamp}
 use Rattle.pv_calls_state.specs.Changes.{IsRegistered, MovesInside, PassesInside}
 use Rattle.pv_procs.specs.declared.processes.Fetched.{Fetched}
 use Rattle.pv_procs.specs.declared.processes.Fetched.TheVariants.{Gone, Register, Call}
@@ -20,8 +17,8 @@ use Rattle.pv_procs.specs.Turns.{Moves, PassesIn, Registered}
 use Rattle.pv_procs.specs.ProcessTable.{ProcessTable, process_in, with_process, update_live, update}
 use Rattle.pv_procs.specs.Parts.{record_of, with_record}
 use Rattle.pv_procs.specs.declared.record.ProcessRecord.{ProcessRecord}
-use Rattle.pv_script.specs.Passing.{Passes}
-use Rattle.pv_tree.specs.Holding.{HeldTree}
+use Rattle.pv_procs.specs.OfScript.Passing.{Passes}
+use Rattle.pv_procs.specs.OfTree.Holding.{HeldTree}
 
 module _ (tree : HeldTree) (c : Counted) (ps : ProcessTable) (up : IsCountedUp tree c ps) (sorted : is_sorted nat_cmp ps.processes ≡ true) (pid : ℕ) where
   -- a live process is replaced by one with the same open files and references

@@ -8,17 +8,12 @@ use Rattle.std.proofs.lemmas.List.{length-map}
 use Rattle.pv_files.specs.Counted.{Counted, IsCounted}
 use Rattle.pv_laws_states.specs.States.{IsValid, IsPlaced, is_target}
 use Rattle.pv_laws_states.proofs.Members.{all_of, live-found, found-live}
-use Rattle.pv_model.specs.Held.{used_files, held_by_table, held_by_process, collect}
-use Rattle.pv_model.specs.Numbered.{Numbered, at_number}
-use Rattle.pv_model.specs.State.{OpenFile, Process, live, ended_record, State, process_at, with_process as state_with_process}
-use Rattle.pv_model.specs.Tree.{Tree}
-use Rattle.pv_model.specs.Unveil.{Table}
-use Rattle.pv_model.specs.Answer.{update as state_updated, update_live as state_update_live}
+use Rattle.pv_model.specs.Machine.{used_files, held_by_table, held_by_process, collect, Numbered, at_number, OpenFile, Process, live, ended_record, State, process_at, with_process as state_with_process, Tree, Table, update as state_updated, update_live as state_update_live}
 use Rattle.pv_procs.specs.declared.record.ProcessRecord.{ProcessRecord as Owned}
 use Rattle.pv_procs.specs.Parts.{record_of}
 use Rattle.pv_procs.specs.ProcessTable.{ProcessTable, process_in, with_process, update, update_live, state_with}
-use Rattle.pv_tree.specs.Holding.{HeldTree, holds_at, collected}
-use Rattle.pv_tree.specs.Present.{IsPresent}
+use Rattle.pv_procs.specs.OfTree.Holding.{HeldTree, holds_at, collected}
+use Rattle.pv_procs.specs.OfTree.Present.{IsPresent}
 use Rattle.pv_calls_state.specs.Changes.{with_directory}
 use Rattle.pv_calls_state.specs.Counts.{state_of, times, used_in, held_in, open_nodes, IsCountedUp}
 use Rattle.pv_calls_state.specs.Releasing.{files_on, HoldsOpened}

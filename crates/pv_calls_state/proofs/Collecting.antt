@@ -6,19 +6,16 @@ use Rattle.std.proofs.lemmas.List.Sums.{sum_by-append, sum_by-cons}
 use Rattle.pv_calls_state.specs.Counts.{state_of, times, used_in, held_in, open_nodes, IsCountedUp}
 use Rattle.pv_files.specs.Counted.{Counted, IsCounted}
 use Rattle.pv_laws_states.specs.Held.{used}
-use Rattle.pv_model.specs.Held.{among, collect}
-use Rattle.pv_model.specs.Numbered.{Numbered, at_number, keep, keep_if}
-use Rattle.pv_model.specs.State.{OpenFile, State}
-use Rattle.pv_model.specs.Tree.{Tree}
+use Rattle.pv_model.specs.Machine.{among, collect, Numbered, at_number, keep, keep_if, OpenFile, State, Tree}
 use Rattle.pv_procs.specs.ProcessTable.{ProcessTable}
 use Rattle.pv_laws_trees.specs.Preserved.{preserved}
-use Rattle.pv_laws_trees.proofs.Keeping.{preserved-agree}
+use Rattle.pv_laws_trees.proofs.Collection.{preserved-agree}
 use Rattle.pv_laws_trees.proofs.NameCounts.{is_positive, positive-is, is-positive}
 use Rattle.pv_laws_trees.proofs.ReferenceCounts.{held-is}
 use Rattle.pv_laws_trees.proofs.Numbered.{same_numbered, at_number-keep, length-keep}
 use Rattle.pv_laws_trees.proofs.Generic.{not-there}
-use Rattle.pv_tree.specs.Holding.{HeldTree, held_numbers, collected}
-use Rattle.pv_tree.specs.Present.{IsPresent}
+use Rattle.pv_procs.specs.OfTree.Holding.{HeldTree, held_numbers, collected}
+use Rattle.pv_procs.specs.OfTree.Present.{IsPresent}
 
 -- ---- counts
 

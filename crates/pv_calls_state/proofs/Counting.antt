@@ -9,11 +9,9 @@ use Rattle.std.specs.declared.cmp.Ordering.TheVariants.{Less, Equal, Greater}
 use Rattle.std.proofs.Math.ListN.{length-append}
 use Rattle.std.proofs.lemmas.Bool.{and_parts, eq-eqb, ne_eqb, cases_eq}
 use Rattle.std.proofs.lemmas.List.Sums.{count_by-le-length}
-use Rattle.pv_model.specs.Calls.Processes.{adopt, is_unclaimed}
-use Rattle.pv_model.specs.Numbered.{Numbered, at_number, present, with_number, without_number}
-use Rattle.pv_model.specs.State.{Process, ProcessRecord, live, ended_record}
+use Rattle.pv_model.specs.Machine.{adopt, is_unclaimed, Numbered, at_number, present, with_number, without_number, Process, ProcessRecord, live, ended_record}
 use Rattle.pv_laws_states.proofs.Members.{all_of, find_number_after}
-use Rattle.pv_laws_states.proofs.Running.{not_before}
+use Rattle.pv_laws_states.proofs.ProcessInsides.{not_before}
 use Rattle.pv_calls_state.specs.Counts.{times}
 use Rattle.pv_calls_state.proofs.Collecting.{one_if, times-append, times-cons}
 

@@ -8,14 +8,10 @@ use Rattle.pv_model.specs.declared.errno.Errno.{Errno}
 use Rattle.pv_model.specs.declared.errno.Errno.TheVariants.{EBADF, EMFILE}
 use Rattle.pv_model.specs.declared.limits.TheConstants.{DESCRIPTORS}
 use Rattle.pv_model.specs.declared.outcome.Cause.TheVariants.{Plain}
-use Rattle.pv_model.specs.Attempt.{done, refused, after_walks, demand, refuse_if, ◌>>=◌, ◌>>◌}
-use Rattle.pv_model.specs.Calls.Descriptors.{close, dup, dup2, within, is_number, without_descriptor, with_descriptor, with_duplicate}
-use Rattle.pv_model.specs.Effect.{answers, returns, descriptor_at}
-use Rattle.pv_model.specs.Held.{held_by_process, collect}
-use Rattle.pv_model.specs.Numbered.{Numbered, at_number, with_number, least_free}
-use Rattle.pv_model.specs.State.{Descriptor, Process, State, with_process as state_with_process}
+use Rattle.pv_model.specs.Machine.{done, refused, after_walks, demand, refuse_if, ◌>>=◌, ◌>>◌, close, dup, dup2, within, is_number, without_descriptor, with_descriptor, answers, returns, descriptor_at, held_by_process, collect, Numbered, at_number, with_number, least_free, Descriptor, Process, State, with_process as state_with_process}
+use Rattle.pv_model.specs.Calls.Descriptors.{with_duplicate}
 use Rattle.pv_procs.specs.ProcessTable.{ProcessTable, with_process}
-use Rattle.pv_tree.specs.Holding.{HeldTree, holds_at, collected}
+use Rattle.pv_procs.specs.OfTree.Holding.{HeldTree, holds_at, collected}
 use Rattle.pv_laws_trees.proofs.Numbered.{least_free-free}
 use Rattle.pv_calls_state.specs.Attempts.{collected as collected_attempt}
 use Rattle.pv_calls_state.specs.Changes.{with_descriptors}

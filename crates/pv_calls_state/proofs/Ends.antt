@@ -5,24 +5,18 @@ use Rattle.std.specs.FinMap.Entries.{find, put}
 use Rattle.std.specs.Ordering.{nat_cmp}
 use Rattle.std.proofs.lemmas.Bool.{and_parts, leb-true, cases_Bool}
 use Rattle.pv_files.specs.Counted.{Counted, IsCounted}
-use Rattle.pv_laws_states.specs.States.{is_number}
+use Rattle.pv_laws_states.specs.States.{is_process_number}
 use Rattle.pv_laws_states.proofs.Members.{all_of, find_number-list_all}
 use Rattle.pv_laws_states.proofs.Processes.{find-put_same}
 use Rattle.pv_model.specs.declared.errno.Errno.TheVariants.{EAGAIN}
 use Rattle.pv_model.specs.declared.limits.TheConstants.{LAST_PROCESS, PROCESSES}
-use Rattle.pv_model.specs.Attempt.{Attempt, done, refused, refuse_if, ◌>>◌}
-use Rattle.pv_model.specs.Calls.Processes.{descriptor_after_exec, end_process, adopter, fork, child, with_program}
-use Rattle.pv_model.specs.Effect.{Effect, answers, returns}
-use Rattle.pv_model.specs.Held.{used_files, held_by_table, held_by_process, collect}
-use Rattle.pv_model.specs.Numbered.{Numbered, at_number}
-use Rattle.pv_model.specs.State.{Descriptor, Program, Process, ProcessRecord, live, ended_record, State, live_process, with_process as state_with_process}
-use Rattle.pv_model.specs.Tree.{node_at}
-use Rattle.pv_model.specs.Unveil.{Table}
+use Rattle.pv_model.specs.Machine.{Attempt, done, refused, refuse_if, ◌>>◌, end_process, adopter, fork, child, with_program, Effect, answers, returns, used_files, held_by_table, held_by_process, collect, Numbered, at_number, Descriptor, Program, Process, ProcessRecord, live, ended_record, State, live_process, with_process as state_with_process, node_at, Table}
+use Rattle.pv_model.specs.Calls.Processes.{descriptor_after_exec}
 use Rattle.pv_procs.specs.declared.record.ProcessRecord.{ProcessRecord as Owned}
 use Rattle.pv_procs.specs.Parts.{record_of}
 use Rattle.pv_procs.specs.ProcessTable.{ProcessTable, process_in, with_process, state_with}
-use Rattle.pv_tree.specs.Holding.{HeldTree, holds_at, collected}
-use Rattle.pv_tree.specs.Present.{IsPresent}
+use Rattle.pv_procs.specs.OfTree.Holding.{HeldTree, holds_at, collected}
+use Rattle.pv_procs.specs.OfTree.Present.{IsPresent}
 use Rattle.pv_calls_state.specs.Attempts.{collected as collected_attempt}
 use Rattle.pv_calls_state.specs.Counts.{state_of, times, used_in, held_in, open_nodes, IsCountedUp}
 use Rattle.pv_calls_state.specs.Releasing.{files_on, if_marked, marked_of, Releases, Shares, Unreferences}
@@ -210,7 +204,7 @@ module _ (t : HeldTree) (c : Counted) (ps : ProcessTable) (pid : ℕ) (me : Proc
         by : (o : Option ProcessRecord) → find nat_cmp (suc ps.last_process) ps.processes ≡ o → find nat_cmp (suc ps.last_process) ps.processes ≡ None
         by None at = at
         by (Some r) at =
-            let within = find_number-list_all (is_number ps.last_process) (suc ps.last_process) r ps.processes is.whole.processes.numbers at in
+            let within = find_number-list_all (is_process_number ps.last_process) (suc ps.last_process) r ps.processes is.whole.processes.numbers at in
             let least : suc ps.last_process ≤ ps.last_process = leb-true (suc ps.last_process) ps.last_process (and_parts (nat_le 1 (suc ps.last_process)) (nat_le (suc ps.last_process) ps.last_process) within).1 in absurd (omega arith)
 
     module _ (r : Owned) (own : record_of (child (state_of t c ps) pid me) ≡ r) where

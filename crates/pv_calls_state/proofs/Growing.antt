@@ -6,23 +6,19 @@ use Rattle.std.proofs.lemmas.Result.{on_ok_weaker, on_err_weaker, IfErr-weaker}
 use Rattle.pv_calls_state.specs.Changes.{ChangesTree}
 use Rattle.pv_calls_state.specs.Counts.{state_of, IsCountedUp}
 use Rattle.pv_files.specs.Counted.{Counted, IsCounted}
-use Rattle.pv_inodes.specs.declared.space.Space.{Space}
+use Rattle.pv_procs.specs.OfTree.OfInodes.declared.space.Space.{Space}
 use Rattle.pv_model.specs.declared.kind.NewNode.{NewNode}
-use Rattle.pv_model.specs.Bytes.{Bytes}
-use Rattle.pv_model.specs.Calls.Descriptors.{with_content, with_content_of}
-use Rattle.pv_model.specs.Held.{among, collect}
-use Rattle.pv_model.specs.State.{State, with_tree}
-use Rattle.pv_model.specs.Tree.{Node, directory_node, file_node, link_node, Tree, root, node_at, entries_of, entries_at, is_directory, is_directory_at, find_entry, named_numbers, with_node, with_entry, new_number, with_new_node, IsWellFormed}
+use Rattle.pv_model.specs.Machine.{Bytes, with_content, with_content_of, among, collect, State, with_tree, Node, directory_node, file_node, link_node, Tree, root, node_at, entries_of, entries_at, is_directory, is_directory_at, find_entry, named_numbers, with_node, with_entry, new_number, with_new_node, IsWellFormed}
 use Rattle.pv_procs.specs.ProcessTable.{ProcessTable}
-use Rattle.pv_tree.specs.Holding.{HeldTree, held_numbers, collected, after, with_tree as with_held}
-use Rattle.pv_tree.specs.Changes.{new_node}
-use Rattle.pv_tree.specs.Rooms.{refusal, HeldTreeChanges}
-use Rattle.pv_tree.specs.Present.{IsPresent}
-use Rattle.pv_laws_trees.specs.Preserved.{wanted, preserved}
+use Rattle.pv_procs.specs.OfTree.Holding.{HeldTree, held_numbers, collected, after, with_tree as with_held}
+use Rattle.pv_procs.specs.OfTree.Changes.{new_node}
+use Rattle.pv_procs.specs.OfTree.Rooms.{refusal, HeldTreeChanges}
+use Rattle.pv_procs.specs.OfTree.Present.{IsPresent}
+use Rattle.pv_laws_trees.specs.Preserved.{numbers_wanted, preserved}
 use Rattle.pv_laws_trees.proofs.Changes.{node_at-same, node_at-other}
 use Rattle.pv_laws_trees.proofs.Edits.{new_number-free}
 use Rattle.pv_laws_trees.proofs.Entries.{by_name}
-use Rattle.pv_laws_trees.proofs.Keeping.{all_only_nodes, only_nodes_all, wanted-is, wanted-named, wanted-held}
+use Rattle.pv_laws_trees.proofs.Collection.{all_only_nodes, only_nodes_all, wanted-is, wanted-named, wanted-held}
 use Rattle.pv_laws_trees.proofs.NewNodes.{entry-was, entry-stays, dir-new, stays-new, named-new, new-entries}
 use Rattle.pv_laws_trees.proofs.Numbered.{at_number-below, with_number-other_within, length-drop_one, least_free-within}
 use Rattle.pv_laws_trees.proofs.Trees.{IsOrdered, ordered, among-entry, entry-among}
@@ -31,18 +27,18 @@ use Rattle.pv_calls_state.proofs.Collecting.{collect-parts}
 -- ---- nodes that stay
 
 -- more references keep at least the same nodes
-pub wanted-more : (t : Tree) (few many : List ℕ) → ((n : ℕ) → among few n ≡ true → among many n ≡ true) → (n : ℕ) → among (wanted t few) n ≡ true → among (wanted t many) n ≡ true
+pub wanted-more : (t : Tree) (few many : List ℕ) → ((n : ℕ) → among few n ≡ true → among many n ≡ true) → (n : ℕ) → among (numbers_wanted t few) n ≡ true → among (numbers_wanted t many) n ≡ true
 wanted-more t few many more n is =
     ⊎_elim (λ top. or_left (root == n) _ top)
     (λ rest. ⊎_elim (λ named. wanted-named t many n named) (λ is_held. wanted-held t many n (more n is_held)) (or_cases (among (named_numbers t) n) (among few n) rest))
     (or_cases (root == n) _ (sym (wanted-is t few n) ∙ is))
 
-module _ (t : Tree) (held : List ℕ) (o : IsOrdered t) (there : (n : ℕ) → is_some (node_at t n) ≡ true → among (wanted t held) n ≡ true) where
+module _ (t : Tree) (held : List ℕ) (o : IsOrdered t) (there : (n : ℕ) → is_some (node_at t n) ≡ true → among (numbers_wanted t held) n ≡ true) where
   -- if every entry stays and every new node has a name, no node is collected
   along-preserved : (u : Tree) → ((n : ℕ) → is_some (node_at u n) ≡ true → (is_some (node_at t n) ≡ true) ⊎ (among (named_numbers u) n ≡ true))
       → ((d : ℕ) (name : Bytes) (n : ℕ) → find_entry t d name ≡ Some n → find_entry u d name ≡ Some n) → preserved u held ≡ u
   along-preserved u was stay =
-      only_nodes_all u (wanted u held) (λ n node at.
+      only_nodes_all u (numbers_wanted u held) (λ n node at.
       ⊎_elim
       (λ old.
       ⊎_elim (λ top. or_left (root == n) _ top)
@@ -75,7 +71,7 @@ module _ (t : Tree) (held : List ℕ) (o : IsOrdered t) (there : (n : ℕ) → i
         (λ d name n found. ap (find by_name name) (same-entries d) ∙ found)
 
   all-wanted : preserved t held ≡ t
-  all-wanted = only_nodes_all t (wanted t held) (λ n node at. there n (ap is_some at))
+  all-wanted = only_nodes_all t (numbers_wanted t held) (λ n node at. there n (ap is_some at))
 
   content-preserved : (f : ℕ) (bytes : Bytes) → preserved (with_content t f bytes) held ≡ with_content t f bytes
   content-preserved f bytes = by (node_at t f) refl
@@ -116,8 +112,8 @@ module _ (t : Tree) (held : List ℕ) (o : IsOrdered t) (there : (n : ℕ) → i
 
 -- ---- the same with counted references
 
-counted-wanted : (t : Tree) (holds : List ℕ) → collected t holds ≡ t → (n : ℕ) → is_some (node_at t n) ≡ true → among (wanted t (held_numbers holds)) n ≡ true
-counted-wanted t holds same n is = all_only_nodes t (wanted t (held_numbers holds)) same n is
+counted-wanted : (t : Tree) (holds : List ℕ) → collected t holds ≡ t → (n : ℕ) → is_some (node_at t n) ≡ true → among (numbers_wanted t (held_numbers holds)) n ≡ true
+counted-wanted t holds same n is = all_only_nodes t (numbers_wanted t (held_numbers holds)) same n is
 
 pub preserved-entry : (t : Tree) (holds : List ℕ) → IsOrdered t → collected t holds ≡ t → (d : ℕ) (name : Bytes) (m : ℕ) → is_directory_at t d ≡ true → find_entry t d name ≡ None
     → collected (with_entry t d name m) holds ≡ with_entry t d name m

@@ -21,3 +21,7 @@ pub mod Sharing
 pub mod Targets
 pub mod Collecting
 pub mod Writing
+pub use Rattle.pv_laws_states.proofs as OfLawsStates
+pub use Rattle.pv_laws_trees.proofs as OfLawsTrees
+pub use Rattle.pv_procs.proofs as OfProcs
+pub use Rattle.pv_procs.proofs.OfUnveil

@@ -4,26 +4,18 @@ use Rattle.std.specs.Prelude.{slice_index, IsSome, IsTrue, if◌then◌else◌}
 use Rattle.std.proofs.lemmas.Bool.{cases_eq, cases_Bool}
 use Rattle.std.proofs.lemmas.List.{get_or-set_same, get_or-set_other}
 use Rattle.pv_files.specs.Counted.{Counted, IsCounted, with_opened}
-use Rattle.pv_inodes.specs.declared.space.Space.TheVariants.{Full, TooBig}
+use Rattle.pv_procs.specs.OfTree.OfInodes.declared.space.Space.TheVariants.{Full, TooBig}
 use Rattle.pv_laws_states.specs.States.{IsTree, IsValid}
 use Rattle.pv_laws_states.proofs.ByOpen.{held-more}
-use Rattle.pv_laws_states.proofs.Grown.{carries-content, there-wanted, new-below}
+use Rattle.pv_laws_states.proofs.GrownTrees.{carries-content, there-wanted, new-below}
 use Rattle.pv_laws_states.proofs.Collect.{held_after, tree-collect}
 use Rattle.pv_model.specs.declared.open_flags.OpenFlags.{OpenFlags}
-use Rattle.pv_model.specs.Bytes.{Bytes}
-use Rattle.pv_model.specs.Calls.Descriptors.{new_open_file, with_content, with_content_of, with_open_file}
-use Rattle.pv_model.specs.Effect.{bytes_of, resize}
-use Rattle.pv_model.specs.Held.{held_by_process, collect}
-use Rattle.pv_model.specs.Numbered.{least_free}
-use Rattle.pv_model.specs.Sealed.{is_file}
-use Rattle.pv_model.specs.Room.{fits, is_too_long}
-use Rattle.pv_model.specs.State.{OpenFile, Process, State, process_at}
-use Rattle.pv_model.specs.Tree.{Node, directory_node, file_node, link_node, Tree, node_at, is_directory_at, find_entry, with_node, new_number, with_new_node}
+use Rattle.pv_model.specs.Machine.{Bytes, new_open_file, with_content, with_content_of, with_open_file, bytes_of, resize, held_by_process, collect, least_free, is_file, fits, is_too_long, OpenFile, Process, State, process_at, Node, directory_node, file_node, link_node, Tree, node_at, is_directory_at, find_entry, with_node, new_number, with_new_node}
 use Rattle.pv_procs.specs.ProcessTable.{ProcessTable, with_process, update, state_with}
-use Rattle.pv_tree.specs.Changes.{resized}
-use Rattle.pv_tree.specs.Holding.{HeldTree, holds_at, collected}
-use Rattle.pv_tree.specs.Rooms.{refusal}
-use Rattle.pv_tree.specs.Present.{IsPresent}
+use Rattle.pv_procs.specs.OfTree.Changes.{resized}
+use Rattle.pv_procs.specs.OfTree.Holding.{HeldTree, holds_at, collected}
+use Rattle.pv_procs.specs.OfTree.Rooms.{refusal}
+use Rattle.pv_procs.specs.OfTree.Present.{IsPresent}
 use Rattle.pv_laws_trees.specs.Room.{IsNoLonger, IsNoLarger}
 use Rattle.pv_laws_trees.proofs.Changes.{node_at-same, node_at-other}
 use Rattle.pv_laws_trees.proofs.Numbered.{at_number-below, least_free-free}

@@ -6,9 +6,8 @@ use Rattle.std.specs.Ordering.{nat_cmp, is_eq}
 use Rattle.std.specs.declared.cmp.Ordering.{Ordering}
 use Rattle.std.specs.declared.cmp.Ordering.TheVariants.{Less, Equal, Greater}
 use Rattle.std.proofs.lemmas.Bool.{and_parts}
-use Rattle.pv_laws_states.proofs.Running.{not_before}
-use Rattle.pv_model.specs.Numbered.{Numbered}
-use Rattle.pv_model.specs.State.{Descriptor, Process, ProcessRecord as Found, live, ended_record, live_process}
+use Rattle.pv_laws_states.proofs.ProcessInsides.{not_before}
+use Rattle.pv_model.specs.Machine.{Numbered, Descriptor, Process, ProcessRecord as Found, live, ended_record, live_process}
 use Rattle.pv_procs.specs.declared.record.ProcessRecord.{ProcessRecord as Owned}
 use Rattle.pv_procs.specs.Parts.{record_of, with_record}
 use Rattle.pv_procs.specs.ProcessTable.{ProcessTable, process_in, with_process, update, update_live}

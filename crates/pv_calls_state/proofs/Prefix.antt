@@ -1,13 +1,12 @@
 -- The counts before the first step.
 use Rattle.std.proofs.Common.{◌≡◌, ◌≢◌, ℕ, zero, suc, cond, ◌==◌, [], ◌∷◌, replicate, None, refl, ap, sym, ◌∙◌, arith, ⊎_elim}
 use Rattle.std.proofs.lemmas.Bool.{cases_eq, eq-eqb, ne_eqb}
-use Rattle.pv_tree.proofs.Prefix.{zeros-at}
+use Rattle.pv_procs.proofs.OfTree.Prefix.{zeros-at}
 use Rattle.pv_calls_state.specs.Counts.{times, open_nodes, IsCountedUp}
 use Rattle.pv_files.specs.Counted.{no_files}
-use Rattle.pv_model.specs.State.{Program}
-use Rattle.pv_model.specs.Tree.{root}
+use Rattle.pv_model.specs.Machine.{Program, root}
 use Rattle.pv_procs.specs.ProcessTable.{first_processes}
-use Rattle.pv_tree.specs.Holding.{HeldTree, holds_at}
+use Rattle.pv_procs.specs.OfTree.Holding.{HeldTree, holds_at}
 use Rattle.pv_calls_state.proofs.Collecting.{times-cons}
 
 none-open : (n : ℕ) → open_nodes (replicate n None) ≡ []

@@ -4,18 +4,13 @@ use Rattle.std.specs.Prelude.{option_map}
 use Rattle.std.proofs.lemmas.List.{append_assoc, length-drop, length-take, length-append, take-append-drop, take-append-le}
 use Rattle.std.proofs.Math.Seq.{take-length}
 use Rattle.pv_calls_state.specs.Counts.{state_of}
-use Rattle.pv_dirs.specs.Trees.{bytes_of as content_of}
+use Rattle.pv_procs.specs.OfTree.OfDirs.Trees.{bytes_of as content_of}
 use Rattle.pv_files.specs.Counted.{Counted}
-use Rattle.pv_model.specs.Answer.{with_front, update, update_live}
-use Rattle.pv_model.specs.Bytes.{Bytes}
-use Rattle.pv_model.specs.Effect.{bytes_of}
-use Rattle.pv_model.specs.Sealed.{is_file}
-use Rattle.pv_model.specs.State.{Process, State, with_process}
-use Rattle.pv_model.specs.Tree.{Node, directory_node, file_node, link_node}
+use Rattle.pv_model.specs.Machine.{with_front, update, update_live, Bytes, bytes_of, is_file, Process, State, with_process, Node, directory_node, file_node, link_node}
 use Rattle.pv_procs.specs.declared.record.ProcessRecord.{ProcessRecord}
 use Rattle.pv_procs.specs.Parts.{record_of, with_record}
 use Rattle.pv_procs.specs.ProcessTable.{ProcessTable, process_in, update as update_table, update_live as update_table_live}
-use Rattle.pv_tree.specs.Holding.{HeldTree}
+use Rattle.pv_procs.specs.OfTree.Holding.{HeldTree}
 use Rattle.pv_calls_state.proofs.Alone.{lent-is}
 
 -- ---- the front of a list

@@ -8,12 +8,7 @@ use Rattle.pv_laws_states.proofs.ByTable.{first-ended}
 use Rattle.pv_laws_states.proofs.Members.{all_of, find_number_after}
 use Rattle.pv_laws_states.proofs.Processes.{number-itself}
 use Rattle.pv_model.specs.declared.errno.Errno.TheVariants.{ECHILD}
-use Rattle.pv_model.specs.Attempt.{done, refuse_if, ◌>>◌}
-use Rattle.pv_model.specs.Bytes.{is_empty}
-use Rattle.pv_model.specs.Calls.Processes.{parent_of, statuses, children, reap, wait}
-use Rattle.pv_model.specs.Effect.{Effect}
-use Rattle.pv_model.specs.Held.{collect}
-use Rattle.pv_model.specs.State.{Process, ProcessRecord, live, ended_record, State}
+use Rattle.pv_model.specs.Machine.{done, refuse_if, ◌>>◌, is_empty, parent_of, statuses, children, reap, wait, Effect, collect, Process, ProcessRecord, live, ended_record, State}
 use Rattle.pv_procs.specs.declared.processes.Reap.{Reap}
 use Rattle.pv_procs.specs.declared.processes.Reap.TheVariants.{Child, Blocked, NoChild}
 use Rattle.pv_procs.specs.Reaping.{waited}

@@ -3,12 +3,10 @@ use Rattle.std.proofs.Common.{◌≡◌, ◌≢◌, ℕ, zero, suc, ◌+◌, ◌
 use Rattle.std.specs.Prelude.{slice_index, slice_set, IsSome, option_map}
 use Rattle.std.proofs.lemmas.List.{drop_all, get_or-set_same, get_or-set_other}
 use Rattle.pv_files.specs.Counted.{Counted, IsCounted}
-use Rattle.pv_model.specs.Numbered.{Numbered, at_number, without_number}
-use Rattle.pv_model.specs.State.{Descriptor, OpenFile}
-use Rattle.pv_model.specs.Tree.{Tree, IsWellFormed}
-use Rattle.pv_tree.specs.Holding.{HeldTree, holds_at, held_numbers, collected}
-use Rattle.pv_tree.specs.Present.{IsPresent}
-use Rattle.pv_laws_trees.proofs.Keeping.{in_turn}
+use Rattle.pv_model.specs.Machine.{Numbered, at_number, without_number, Descriptor, OpenFile, Tree, IsWellFormed}
+use Rattle.pv_procs.specs.OfTree.Holding.{HeldTree, holds_at, held_numbers, collected}
+use Rattle.pv_procs.specs.OfTree.Present.{IsPresent}
+use Rattle.pv_laws_trees.proofs.Collection.{in_turn}
 use Rattle.pv_laws_trees.proofs.NameCounts.{positive-is, is-positive}
 use Rattle.pv_laws_trees.proofs.Numbered.{without_number-other}
 use Rattle.pv_laws_trees.proofs.ReferenceCounts.{held-is}

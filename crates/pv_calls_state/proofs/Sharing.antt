@@ -3,8 +3,7 @@ use Rattle.std.proofs.Common.{◌≡◌, ℕ, ◌+◌, ◌<◌, ◌≤◌, [], l
 use Rattle.std.specs.Prelude.{slice_index, option_map, IsSome}
 use Rattle.std.proofs.lemmas.List.{drop_all, get_or-set_same, get_or-set_other}
 use Rattle.pv_files.specs.Counted.{Counted, IsCounted, with_users}
-use Rattle.pv_model.specs.Numbered.{Numbered, at_number}
-use Rattle.pv_model.specs.State.{Descriptor}
+use Rattle.pv_model.specs.Machine.{Numbered, at_number, Descriptor}
 use Rattle.pv_calls_state.specs.Counts.{times}
 use Rattle.pv_calls_state.specs.Releasing.{files_on, Shares}
 use Rattle.pv_calls_state.proofs.Collecting.{one_if}

@@ -3,12 +3,9 @@ use Rattle.std.proofs.Common.{◌≡◌, ◌≢◌, ℕ, ◌+◌, ◌<◌, ◌�
 use Rattle.std.specs.Prelude.{slice_get, option_map, IsSome}
 use Rattle.pv_model.specs.declared.perms.Perms.{Perms}
 use Rattle.pv_model.specs.declared.target.Target.{Target}
-use Rattle.pv_model.specs.Calls.Restraints.{entries_of_table}
-use Rattle.pv_model.specs.Held.{held_by_table}
-use Rattle.pv_model.specs.Tree.{node_at}
-use Rattle.pv_model.specs.Unveil.{Table, target_directory}
-use Rattle.pv_tree.specs.Holding.{HeldTree, holds_at, collected}
-use Rattle.pv_tree.specs.Present.{IsPresent}
+use Rattle.pv_model.specs.Machine.{entries_of_table, held_by_table, node_at, Table, target_directory}
+use Rattle.pv_procs.specs.OfTree.Holding.{HeldTree, holds_at, collected}
+use Rattle.pv_procs.specs.OfTree.Present.{IsPresent}
 use Rattle.pv_calls_state.specs.Counts.{times}
 use Rattle.pv_calls_state.proofs.Collecting.{one_if}
 use Rattle.pv_calls_state.proofs.Counting.{one-self, one-apart, times-from, times-get}

@@ -5,22 +5,15 @@ use Rattle.std.proofs.lemmas.Bool.{cases_eq}
 use Rattle.std.proofs.lemmas.List.{length-take, length-replicate}
 use Rattle.pv_calls_state.specs.Counts.{state_of, IsCountedUp}
 use Rattle.pv_files.specs.Counted.{Counted, IsCounted, with_file as with_counted}
-use Rattle.pv_inodes.specs.declared.space.Space.{Space}
-use Rattle.pv_model.specs.Bytes.{Bytes}
-use Rattle.pv_model.specs.Calls.Descriptors.{with_content, with_content_of}
-use Rattle.pv_model.specs.Effect.{bytes_of, overwrite, with_file}
-use Rattle.pv_model.specs.Held.{collect}
-use Rattle.pv_model.specs.Numbered.{at_number, with_number}
-use Rattle.pv_model.specs.Sealed.{is_file}
-use Rattle.pv_model.specs.State.{OpenFile, Process, State, process_at, with_tree}
-use Rattle.pv_model.specs.Tree.{file_node, Tree, node_at, with_node, IsWellFormed}
+use Rattle.pv_procs.specs.OfTree.OfInodes.declared.space.Space.{Space}
+use Rattle.pv_model.specs.Machine.{Bytes, with_content, with_content_of, bytes_of, overwrite, with_file, collect, at_number, with_number, is_file, OpenFile, Process, State, process_at, with_tree, file_node, Tree, node_at, with_node, IsWellFormed}
 use Rattle.pv_procs.specs.declared.record.ProcessRecord.{ProcessRecord}
 use Rattle.pv_procs.specs.Parts.{record_of}
 use Rattle.pv_procs.specs.ProcessTable.{ProcessTable, process_in}
-use Rattle.pv_tree.specs.Changes.{overwritten}
-use Rattle.pv_tree.specs.Holding.{HeldTree, collected, with_tree as with_held}
-use Rattle.pv_tree.specs.Rooms.{refusal}
-use Rattle.pv_tree.specs.Present.{IsPresent}
+use Rattle.pv_procs.specs.OfTree.Changes.{overwritten}
+use Rattle.pv_procs.specs.OfTree.Holding.{HeldTree, collected, with_tree as with_held}
+use Rattle.pv_procs.specs.OfTree.Rooms.{refusal}
+use Rattle.pv_procs.specs.OfTree.Present.{IsPresent}
 use Rattle.pv_laws_trees.proofs.Changes.{node_at-same}
 use Rattle.pv_laws_trees.proofs.Numbered.{at_number-below, length-with_number, with_number-same, with_number-other}
 use Rattle.pv_laws_trees.proofs.Rooms.{length-within}

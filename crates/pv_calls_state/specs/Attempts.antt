@@ -3,10 +3,7 @@
 use Rattle.std.specs.Prelude.{◌≡◌, ℕ, Some, Result, Ok, Err}
 use Rattle.pv_model.specs.declared.errno.Errno.{Errno}
 use Rattle.pv_model.specs.declared.outcome.Cause.TheVariants.{Plain}
-use Rattle.pv_model.specs.Attempt.{Attempt, done, refused}
-use Rattle.pv_model.specs.Effect.{Effect, returns}
-use Rattle.pv_model.specs.Held.{collect}
-use Rattle.pv_model.specs.State.{Process, State, process_at}
+use Rattle.pv_model.specs.Machine.{Attempt, done, refused, Effect, returns, collect, Process, State, process_at}
 
 -- an attempt, with unreferenced nodes collected from its state
 abbrev pub collected : Attempt Effect → Attempt Effect

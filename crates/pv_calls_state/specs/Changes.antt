@@ -1,28 +1,18 @@
 -- The changes that the methods of `Parts` make.
 use Rattle.std.specs.Prelude.{◌≡◌, ℕ, ℤ, zero, suc, if◌then◌else◌, [], length, nat_lt, take, drop, Bool, false, None, Some, Result}
-use Rattle.pv_inodes.specs.declared.space.Space.{Space}
+use Rattle.pv_procs.specs.OfTree.OfInodes.declared.space.Space.{Space}
 use Rattle.pv_model.specs.declared.open_flags.OpenFlags.{OpenFlags}
 use Rattle.pv_model.specs.declared.perms.Perms.{Perms}
 use Rattle.pv_model.specs.declared.target.Target.{Target}
-use Rattle.pv_model.specs.Attempt.{give}
-use Rattle.pv_model.specs.Bytes.{Bytes}
-use Rattle.pv_model.specs.Calls.Descriptors.{with_content, with_open_file, without_descriptor}
-use Rattle.pv_model.specs.Calls.Restraints.{entries_of_table}
-use Rattle.pv_model.specs.Effect.{bytes_of}
-use Rattle.pv_model.specs.Held.{collect}
-use Rattle.pv_model.specs.Program.{inside, next}
-use Rattle.pv_model.specs.Numbered.{Numbered, with_number, least_free}
-use Rattle.pv_model.specs.State.{Descriptor, Process, State, process_at, with_process, with_tree}
-use Rattle.pv_model.specs.Tree.{Tree, file_node, new_number, node_at, with_new_node}
-use Rattle.pv_model.specs.Unveil.{Table}
+use Rattle.pv_model.specs.Machine.{give, Bytes, with_content, with_open_file, without_descriptor, entries_of_table, bytes_of, collect, inside, next, Numbered, with_number, least_free, Descriptor, Process, State, process_at, with_process, with_tree, Tree, file_node, new_number, node_at, with_new_node, Table}
 use Rattle.pv_procs.specs.declared.processes.Fetched.{Fetched}
 use Rattle.pv_procs.specs.declared.processes.Fetched.TheVariants.{Gone, Register, Call}
 use Rattle.pv_procs.specs.ProcessTable.{ProcessTable, with_process as process_put}
 use Rattle.pv_procs.specs.Turns.{CallsNext}
-use Rattle.pv_script.specs.Passing.{Passes}
-use Rattle.pv_tree.specs.Rooms.{ChangesIfRoom}
-use Rattle.pv_unveil.specs.Added.{add_to}
-use Rattle.pv_unveil.specs.Unveiled.{Unveiled}
+use Rattle.pv_procs.specs.OfScript.Passing.{Passes}
+use Rattle.pv_procs.specs.OfTree.Rooms.{ChangesIfRoom}
+use Rattle.pv_procs.specs.OfUnveil.Added.{add_to}
+use Rattle.pv_procs.specs.OfUnveil.Unveiled.{Unveiled}
 
 -- the outcome of a change of the tree that the image may lack room for; unreferenced nodes of the new tree are removed
 abbrev pub ChangesTree : {A : Type 0} → Result A Space → State → State → Tree → Type 0

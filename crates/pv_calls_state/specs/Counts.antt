@@ -1,11 +1,9 @@
 -- The parts of the machine as a state, and the counts of users and references.
 use Rattle.std.specs.Prelude.{◌≡◌, ℕ, ◌+◌, ◌==◌, List, map, flat_map, count_by, slice_index}
 use Rattle.pv_files.specs.Counted.{Counted}
-use Rattle.pv_model.specs.Held.{live_processes, used_files, held_by_process}
-use Rattle.pv_model.specs.Numbered.{Numbered, present}
-use Rattle.pv_model.specs.State.{OpenFile, ProcessRecord, State}
+use Rattle.pv_model.specs.Machine.{live_processes, used_files, held_by_process, Numbered, present, OpenFile, ProcessRecord, State}
 use Rattle.pv_procs.specs.ProcessTable.{ProcessTable, state_with}
-use Rattle.pv_tree.specs.Holding.{HeldTree, holds_at}
+use Rattle.pv_procs.specs.OfTree.Holding.{HeldTree, holds_at}
 
 -- the state of a tree, open files and processes
 abbrev pub state_of : HeldTree → Counted → ProcessTable → State

@@ -1,14 +1,11 @@
 -- Opening of nodes.
 use Rattle.std.specs.Prelude.{◌≡◌, ◌≢◌, ℕ, ◌+◌, ◌<◌, Option, Some}
-use Rattle.pv_inodes.specs.declared.space.Space.{Space}
+use Rattle.pv_procs.specs.OfTree.OfInodes.declared.space.Space.{Space}
 use Rattle.pv_model.specs.declared.limits.TheConstants.{DESCRIPTORS, OPEN_FILES}
 use Rattle.pv_model.specs.declared.open_flags.OpenFlags.{OpenFlags}
-use Rattle.pv_model.specs.Bytes.{Bytes}
-use Rattle.pv_model.specs.Held.{collect}
-use Rattle.pv_model.specs.Numbered.{Numbered, least_free}
-use Rattle.pv_model.specs.State.{OpenFile, Process, State, process_at}
-use Rattle.pv_tree.specs.Holding.{HeldTree, holds_at}
-use Rattle.pv_tree.specs.Rooms.{refusal}
+use Rattle.pv_model.specs.Machine.{Bytes, collect, Numbered, least_free, OpenFile, Process, State, process_at}
+use Rattle.pv_procs.specs.OfTree.Holding.{HeldTree, holds_at}
+use Rattle.pv_procs.specs.OfTree.Rooms.{refusal}
 use Rattle.pv_calls_state.specs.Changes.{with_node_opened, with_file_made}
 
 -- a process, if it is live, has a free descriptor, and there is a free open file

@@ -1,9 +1,8 @@
 -- Removal of users and references, and of the open files and nodes that become unused.
 use Rattle.std.specs.Prelude.{◌≡◌, ℕ, ◌+◌, ◌<◌, ◌≤◌, List, [], ◌∷◌, map, slice_index, Option, None, Some, if◌then◌else◌}
 use Rattle.pv_files.specs.Counted.{Counted}
-use Rattle.pv_model.specs.Numbered.{Numbered, at_number, present}
-use Rattle.pv_model.specs.State.{Descriptor}
-use Rattle.pv_tree.specs.Holding.{HeldTree, holds_at, collected}
+use Rattle.pv_model.specs.Machine.{Numbered, at_number, present, Descriptor}
+use Rattle.pv_procs.specs.OfTree.Holding.{HeldTree, holds_at, collected}
 use Rattle.pv_calls_state.specs.Counts.{times, open_nodes}
 
 -- the open file of each descriptor, with repetitions

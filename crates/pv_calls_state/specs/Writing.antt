@@ -1,13 +1,9 @@
 -- Writes through open files.
 use Rattle.std.specs.Prelude.{◌≡◌, ℕ, take, IsSome, IsTrue, Some}
-use Rattle.pv_inodes.specs.declared.space.Space.{Space}
+use Rattle.pv_procs.specs.OfTree.OfInodes.declared.space.Space.{Space}
 use Rattle.pv_model.specs.Calls.Descriptors.{with_bytes_written}
-use Rattle.pv_model.specs.Held.{collect}
-use Rattle.pv_model.specs.Numbered.{at_number}
-use Rattle.pv_model.specs.Sealed.{is_file}
-use Rattle.pv_model.specs.State.{OpenFile, Process, State, process_at}
-use Rattle.pv_model.specs.Tree.{node_at}
-use Rattle.pv_tree.specs.Rooms.{refusal}
+use Rattle.pv_model.specs.Machine.{collect, at_number, is_file, OpenFile, Process, State, process_at, node_at}
+use Rattle.pv_procs.specs.OfTree.Rooms.{refusal}
 
 -- a number of an open file that refers to a file, not to a directory or a link
 pub record IsOnFile (s : State) (file : ℕ) : Type 0 where

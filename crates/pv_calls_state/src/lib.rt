@@ -10,3 +10,7 @@
 pub mod parts;
 
 pub use parts::Parts;
+pub use pv_files as files;
+pub use pv_procs as procs;
+pub use pv_procs::unveil::tree;
+pub use pv_procs::{promises, script, unveil};

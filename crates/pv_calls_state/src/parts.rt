@@ -1,14 +1,13 @@
 //! The state of the machine: its tree, its open files and its processes.
 ghost use Rattle.std.specs.Prelude.{◌≡◌, IfOk, OnErr, OnOk, IsSome, Some, option_copied, option_map};
 ghost use Rattle.pv_files.specs.Counted.{IsCounted};
-ghost use Rattle.pv_model.specs.Held.{collect};
-ghost use Rattle.pv_model.specs.State.{first_state, process_at};
+ghost use Rattle.pv_model.specs.Machine.{collect, first_state, process_at};
 ghost use Rattle.pv_calls_state.specs.Counts.{processes_of};
 ghost use Rattle.pv_procs.specs.Parts.{record_of};
 ghost use Rattle.pv_procs.specs.ProcessTable.{IsProcessTable};
 ghost use Rattle.pv_procs.specs.Turns.{context_of};
-ghost use Rattle.pv_tree.specs.Present.{IsPresent};
-ghost use Rattle.pv_tree.specs.Sizes.{HaveSameSizes};
+ghost use Rattle.pv_procs.specs.OfTree.Present.{IsPresent};
+ghost use Rattle.pv_procs.specs.OfTree.Sizes.{HaveSameSizes};
 
 mod descriptors;
 mod ending;
@@ -19,9 +18,9 @@ mod process;
 
 use pv_files::OpenFiles;
 use pv_model::limits::ROOT;
+use pv_procs::script::Program;
+use pv_procs::unveil::tree::{Store, Tree};
 use pv_procs::{ProcessRecord, Processes};
-use pv_script::Program;
-use pv_tree::{Store, Tree};
 use std::alloc::{AllocError, Global};
 use std::marker::Model;
 

@@ -1,15 +1,14 @@
 //! `pvsim`: the program of `pv_cli_line`, over the files and streams of the operating system.
 //!
 //! `main` passes the words, the files and the standard streams to `run`. The output is buffered, so that many small
-//! writes are one system call. Without arguments, and with a terminal as standard input, the program first says that it
-//! reads a bundle. If the standard error is a terminal, a search shows its progress there, and errors are explained by
-//! default. The contract of `run`, over any files and streams, is what is proved of the program.
+//! writes are one system call, except during a search, which writes at once what it finds. Without arguments, and with
+//! a terminal as standard input, the program first says that it reads a bundle. If the standard error is a terminal, a
+//! search shows its progress there. The contract of `run`, over any files and streams, is what is proved of the program.
 #![tactic(auto)]
 
-use pv_cli_commands::HostSystem;
-use pv_cli_host::{HostFiles, Input, Output, Screen, ScreenWriter, Shown};
+use pv_cli_host::cli_commands::HostSystem;
+use pv_cli_host::{HostFiles, Input, Output, Screen, ScreenWriter, SearchOutput, Shown};
 use pv_cli_line::{Fault, LineFault, report, run};
-use pv_streams::Buffered;
 use std::io::IsTerminal;
 use std::process::ExitCode;
 use std::{env, io};
@@ -52,25 +51,19 @@ fn name_build(rt: &HostRuntime, words: &[String]) -> bool {
 
 fn main(rt: HostRuntime) -> ExitCode {
     let screen = Screen::new(&rt);
-    let writer = ScreenWriter::new(&screen, io::writer(&rt));
+    let waiting = ScreenWriter::new(&screen, io::writer(&rt));
+    let direct = ScreenWriter::new(&screen, io::writer(&rt));
     let mut system = HostSystem {
         files: HostFiles::new(&rt),
         input: Input::new(rt.reader()),
-        output: Buffered::new(rt.alloc(), Output::new(writer)),
+        output: SearchOutput::new(rt.alloc(), &screen, waiting, direct),
         errors: Output::new(rt.stderr()),
     };
     let status = match words_of(&rt) {
         Ok(words) => {
             greet(&rt, words.as_slice());
             let mut progress = Shown::new(&screen);
-            let explains = rt.stderr().is_terminal();
-            match run(
-                rt.alloc(),
-                words.as_slice(),
-                explains,
-                &mut system,
-                &mut progress,
-            ) {
+            match run(rt.alloc(), words.as_slice(), &mut system, &mut progress) {
                 0 if !name_build(&rt, words.as_slice()) => report(&Fault::Write, &mut system),
                 status => status,
             }

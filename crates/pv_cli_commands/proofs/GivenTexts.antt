@@ -4,7 +4,7 @@ use Rattle.std.specs.Global.{Vec}
 use Rattle.std.specs.Prelude.{◌⊎◌, unwrap_or}
 use Rattle.pv_model.specs.declared.stream.Sink.{Ghosts as Writing}
 use Rattle.pv_model.specs.declared.stream.Source.{Ghosts as Reading}
-use Rattle.pv_model.specs.Bytes.{Bytes}
+use Rattle.pv_model.specs.Machine.{Bytes}
 use Rattle.pv_questions.specs.Answering.{Answer as Text}
 use Rattle.pv_questions.specs.Asking.{AnswersOne, AnswersTwo}
 use Rattle.pv_questions.specs.declared.question.RunQuestion.{RunQuestion}

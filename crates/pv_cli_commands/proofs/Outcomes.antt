@@ -15,10 +15,10 @@ use Rattle.pv_model.specs.declared.store_fault.ListFault.TheVariants as listed
 use Rattle.pv_model.specs.declared.store_fault.MigrateFault.TheVariants.{Image as MigratedImage}
 use Rattle.pv_questions.specs.declared.stop.AskStop.{AskStop}
 use Rattle.pv_questions.specs.declared.stop.AskStop.TheVariants.{Machine as AskedMachine, NoProcess, Audited, File, Write as AnswerWrite, Incomplete, Different}
-use Rattle.pv_run.specs.declared.auditing.AuditStop.{AuditStop}
-use Rattle.pv_run.specs.declared.auditing.AuditStop.TheVariants.{Machine, Path, Write as AuditWrite}
-use Rattle.pv_run.specs.declared.migrating.MigrateStop.{MigrateStop}
-use Rattle.pv_run.specs.declared.migrating.MigrateStop.TheVariants.{Refused}
+use Rattle.pv_questions.specs.OfRun.declared.auditing.AuditStop.{AuditStop}
+use Rattle.pv_questions.specs.OfRun.declared.auditing.AuditStop.TheVariants.{Machine, Path, Write as AuditWrite}
+use Rattle.pv_questions.specs.OfRun.declared.migrating.MigrateStop.{MigrateStop}
+use Rattle.pv_questions.specs.OfRun.declared.migrating.MigrateStop.TheVariants.{Refused}
 use Rattle.pv_source.specs.declared.source.SourceStop.{SourceStop}
 use Rattle.pv_source.specs.declared.source.SourceStop.TheVariants as unwritten
 use Rattle.pv_cli_commands.specs.declared.fault.Fault.{Fault}

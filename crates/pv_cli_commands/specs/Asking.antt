@@ -4,7 +4,7 @@ use Rattle.std.specs.Global.{Vec}
 use Rattle.pv_model.specs.declared.run_fault.RunFault.TheVariants.{Read}
 use Rattle.pv_model.specs.declared.stream.Sink.{Ghosts as Writing}
 use Rattle.pv_model.specs.declared.stream.Source.{Ghosts as Reading}
-use Rattle.pv_model.specs.Bytes.{Bytes}
+use Rattle.pv_model.specs.Machine.{Bytes}
 use Rattle.pv_questions.specs.Answering.{Answer as Text, bundle_answer, image_answer}
 use Rattle.pv_questions.specs.Asking.{AnswersOne, AnswersTwo, IsBundleStop, IsImageStop, IsImageTreeStop, IsManifestTreeStop, ReportsComplete}
 use Rattle.pv_questions.specs.Schedules.{turns_text}

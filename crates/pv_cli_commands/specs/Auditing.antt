@@ -3,9 +3,9 @@ use Rattle.std.specs.Prelude.{◌≡◌, ◌⊎◌, Option, Err}
 use Rattle.pv_model.specs.declared.run_fault.RunFault.TheVariants.{Read}
 use Rattle.pv_model.specs.declared.stream.Sink.{Ghosts as Writing}
 use Rattle.pv_model.specs.declared.stream.Source.{Ghosts as Reading}
-use Rattle.pv_model.specs.Bytes.{Bytes}
-use Rattle.pv_run.specs.declared.auditing.AuditStop.TheVariants.{Machine}
-use Rattle.pv_run.specs.Auditing.{AuditsImage}
+use Rattle.pv_model.specs.Machine.{Bytes}
+use Rattle.pv_questions.specs.OfRun.declared.auditing.AuditStop.TheVariants.{Machine}
+use Rattle.pv_questions.specs.OfRun.Auditing.{AuditsImage}
 use Rattle.pv_cli_commands.specs.declared.fault.Fault.TheVariants.{Auditing}
 use Rattle.pv_cli_commands.specs.Faults.{Answer, IsAudited}
 use Rattle.pv_cli_commands.specs.Status.{Flushes}

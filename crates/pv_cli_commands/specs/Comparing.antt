@@ -3,7 +3,7 @@ use Rattle.std.specs.Prelude.{◌≡◌, ◌≢◌, ◌⊎◌, ⊤, ℕ, codes, 
 use Rattle.pv_model.specs.declared.run_fault.RunFault.TheVariants.{Read}
 use Rattle.pv_model.specs.declared.stream.Sink.{Ghosts as Writing}
 use Rattle.pv_model.specs.declared.stream.Source.{Ghosts as Reading}
-use Rattle.pv_model.specs.Bytes.{Bytes}
+use Rattle.pv_model.specs.Machine.{Bytes}
 use Rattle.pv_questions.specs.Comparing.{IsCompareStop, ReportsCompared, compare_answer, result_in}
 use Rattle.pv_questions.specs.declared.question.Format.{Format}
 use Rattle.pv_questions.specs.declared.question.Format.TheVariants.{Image, Manifest}

@@ -1,7 +1,6 @@
 -- Files to be written, and directories in which a tree is made.
 use Rattle.std.specs.Prelude.{◌≡◌, List, [], Option, IfSome}
-use Rattle.pv_model.specs.Bytes.{Bytes}
-use Rattle.pv_model.specs.Manifest.{Entry}
+use Rattle.pv_model.specs.Machine.{Bytes, Entry}
 
 -- a file to be written has this name, and nothing was written to it
 pub record IsCreated {V : Type 0} (file_of : V → Bytes) (written : V → Option Bytes) (name : Bytes) (writer : V) : Type 0 where

@@ -6,10 +6,7 @@ use Rattle.pv_host_copy.specs.Encoded.{encoded_entries}
 use Rattle.pv_host_copy.specs.Unpacked.{IsReadFault, AppearsInImage, WritesExport}
 use Rattle.pv_model.specs.declared.stream.Sink.{Ghosts as Writing}
 use Rattle.pv_model.specs.declared.stream.Source.{Ghosts as Reading}
-use Rattle.pv_model.specs.Bytes.{Bytes}
-use Rattle.pv_model.specs.Manifest.{Entry}
-use Rattle.pv_model.specs.Mount.{mounted}
-use Rattle.pv_model.specs.Tree.{Tree}
+use Rattle.pv_model.specs.Machine.{Bytes, Entry, mounted, Tree}
 use Rattle.pv_streams.specs.Sources.{FailsToGive}
 use Rattle.pv_cli_commands.specs.declared.fault.Fault.TheVariants.{Exporting}
 use Rattle.pv_cli_commands.specs.Faults.{Answer, IsOfExporting}

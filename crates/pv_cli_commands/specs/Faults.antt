@@ -5,8 +5,8 @@ use Rattle.pv_host_copy.specs.declared.unpacking.ExportFault.{ExportFault}
 use Rattle.pv_model.specs.declared.run_fault.RunFault.{RunFault}
 use Rattle.pv_model.specs.declared.store_fault.ListFault.{ListFault}
 use Rattle.pv_questions.specs.declared.stop.AskStop.{AskStop}
-use Rattle.pv_run.specs.declared.auditing.AuditStop.{AuditStop}
-use Rattle.pv_run.specs.declared.migrating.MigrateStop.{MigrateStop}
+use Rattle.pv_questions.specs.OfRun.declared.auditing.AuditStop.{AuditStop}
+use Rattle.pv_questions.specs.OfRun.declared.migrating.MigrateStop.{MigrateStop}
 use Rattle.pv_source.specs.declared.source.SourceStop.{SourceStop}
 use Rattle.pv_cli_commands.specs.declared.fault.Fault.{Fault}
 use Rattle.pv_cli_commands.specs.declared.fault.Fault.TheVariants.{Run, Listing, Migrating, Auditing, Asking, Source, Importing, Exporting}

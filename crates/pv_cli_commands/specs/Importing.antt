@@ -5,7 +5,7 @@ use Rattle.pv_host_copy.specs.Hosts.{HostEntries}
 use Rattle.pv_host_copy.specs.Written.{Imports}
 use Rattle.pv_model.specs.declared.stream.Sink.{Ghosts as Writing}
 use Rattle.pv_model.specs.declared.version.Version.{Version}
-use Rattle.pv_model.specs.Bytes.{Bytes}
+use Rattle.pv_model.specs.Machine.{Bytes}
 use Rattle.pv_cli_commands.specs.declared.fault.Fault.TheVariants.{Importing}
 use Rattle.pv_cli_commands.specs.Faults.{Answer, IsOfImporting}
 use Rattle.pv_cli_commands.specs.Streams.{Disk, FailsToTake, IsCreatedOn}

@@ -14,3 +14,6 @@ pub mod Running
 pub mod Sources
 pub mod Status
 pub mod Streams
+pub use Rattle.pv_host_copy.specs as OfHostCopy
+pub use Rattle.pv_questions.specs as OfQuestions
+pub use Rattle.pv_questions.specs.OfReduced

@@ -3,8 +3,8 @@ use Rattle.std.specs.Prelude.{◌≡◌, ◌⊎◌, Err}
 use Rattle.pv_model.specs.declared.store_fault.ListFault.TheVariants.{Read}
 use Rattle.pv_model.specs.declared.stream.Sink.{Ghosts as Writing}
 use Rattle.pv_model.specs.declared.stream.Source.{Ghosts as Reading}
-use Rattle.pv_model.specs.Bytes.{Bytes}
-use Rattle.pv_run.specs.Listings.{ListsImage}
+use Rattle.pv_model.specs.Machine.{Bytes}
+use Rattle.pv_questions.specs.OfRun.Listings.{ListsImage}
 use Rattle.pv_cli_commands.specs.declared.fault.Fault.TheVariants.{Listing}
 use Rattle.pv_cli_commands.specs.Faults.{Answer, IsListed}
 use Rattle.pv_cli_commands.specs.Status.{Flushes}

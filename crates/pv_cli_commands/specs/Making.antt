@@ -3,8 +3,8 @@ use Rattle.std.specs.Prelude.{◌≡◌, ◌⊎◌, Err}
 use Rattle.pv_model.specs.declared.run_fault.RunFault.TheVariants.{Read, Memory}
 use Rattle.pv_model.specs.declared.stream.Sink.{Ghosts as Writing}
 use Rattle.pv_model.specs.declared.stream.Source.{Ghosts as Reading}
-use Rattle.pv_model.specs.Bytes.{Bytes}
-use Rattle.pv_run.specs.Making.{MakesImage}
+use Rattle.pv_model.specs.Machine.{Bytes}
+use Rattle.pv_questions.specs.OfRun.Making.{MakesImage}
 use Rattle.pv_cli_commands.specs.declared.fault.Fault.TheVariants.{Run}
 use Rattle.pv_cli_commands.specs.Faults.{Answer, IsRun}
 use Rattle.pv_cli_commands.specs.Streams.{Disk, IsCreatedOn, IsOpened, IsUnknown}

@@ -3,9 +3,9 @@ use Rattle.std.specs.Prelude.{◌≡◌, ◌⊎◌, ℕ, Err}
 use Rattle.pv_model.specs.declared.store_fault.MigrateFault.TheVariants.{Memory}
 use Rattle.pv_model.specs.declared.stream.Sink.{Ghosts as Writing}
 use Rattle.pv_model.specs.declared.stream.Source.{Ghosts as Reading}
-use Rattle.pv_model.specs.Bytes.{Bytes}
-use Rattle.pv_run.specs.declared.migrating.MigrateStop.TheVariants.{Read, Refused}
-use Rattle.pv_run.specs.Migrating.{MigratesImage}
+use Rattle.pv_model.specs.Machine.{Bytes}
+use Rattle.pv_questions.specs.OfRun.declared.migrating.MigrateStop.TheVariants.{Read, Refused}
+use Rattle.pv_questions.specs.OfRun.Migrating.{MigratesImage}
 use Rattle.pv_cli_commands.specs.declared.fault.Fault.TheVariants.{Migrating}
 use Rattle.pv_cli_commands.specs.Faults.{Answer, IsMigrated}
 use Rattle.pv_cli_commands.specs.Streams.{Disk, IsCreatedOn, IsOpened, IsUnknown}

@@ -2,7 +2,7 @@
 use Rattle.std.specs.Prelude.{◌≡◌, ◌⊎◌, Err}
 use Rattle.pv_model.specs.declared.stream.Sink.{Ghosts as Writing}
 use Rattle.pv_model.specs.declared.stream.Source.{Ghosts as Reading}
-use Rattle.pv_model.specs.Bytes.{Bytes}
+use Rattle.pv_model.specs.Machine.{Bytes}
 use Rattle.pv_source.specs.Given.{WritesOutput}
 use Rattle.pv_source.specs.declared.source.Output.{Output}
 use Rattle.pv_source.specs.declared.source.SourceStop.TheVariants.{Read}

@@ -16,13 +16,13 @@ use Rattle.pv_model.specs.declared.stream.Sink.{Ghosts as Writing}
 use Rattle.pv_questions.specs.Asking.{BufferedOnlyIfUnwritten as BufferedOnlyIfUnanswered}
 use Rattle.pv_questions.specs.declared.stop.AskStop.{AskStop}
 use Rattle.pv_questions.specs.declared.stop.AskStop.TheVariants.{Machine as AskedMachine, NoProcess, Audited, File, Write as AnswerWrite, Incomplete, Different}
-use Rattle.pv_run.specs.Auditing.{BufferedOnlyIfUnwritten as BufferedOnlyIfUnaudited}
-use Rattle.pv_run.specs.Listings.{BufferedOnlyIfUnlisted}
-use Rattle.pv_run.specs.Run.{BufferedOnlyIfCut}
-use Rattle.pv_run.specs.declared.auditing.AuditStop.{AuditStop}
-use Rattle.pv_run.specs.declared.auditing.AuditStop.TheVariants.{Machine, Path, Write as AuditWrite}
-use Rattle.pv_run.specs.declared.migrating.MigrateStop.{MigrateStop}
-use Rattle.pv_run.specs.declared.migrating.MigrateStop.TheVariants.{Read as MigrateRead, Refused, Write as MigrateWrite}
+use Rattle.pv_questions.specs.OfRun.Auditing.{BufferedOnlyIfUnwritten as BufferedOnlyIfUnaudited}
+use Rattle.pv_questions.specs.OfRun.Listings.{BufferedOnlyIfUnlisted}
+use Rattle.pv_questions.specs.OfRun.Run.{BufferedOnlyIfCut}
+use Rattle.pv_questions.specs.OfRun.declared.auditing.AuditStop.{AuditStop}
+use Rattle.pv_questions.specs.OfRun.declared.auditing.AuditStop.TheVariants.{Machine, Path, Write as AuditWrite}
+use Rattle.pv_questions.specs.OfRun.declared.migrating.MigrateStop.{MigrateStop}
+use Rattle.pv_questions.specs.OfRun.declared.migrating.MigrateStop.TheVariants.{Read as MigrateRead, Refused, Write as MigrateWrite}
 use Rattle.pv_source.specs.declared.source.SourceStop.{SourceStop}
 use Rattle.pv_source.specs.declared.source.SourceStop.TheVariants as unwritten
 use Rattle.pv_cli_commands.specs.declared.fault.Fault.{Fault}

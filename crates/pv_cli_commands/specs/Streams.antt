@@ -3,9 +3,7 @@ use Rattle.std.specs.Prelude.{◌≡◌, List, Option, None}
 use Rattle.pv_host_copy.specs.Hosts.{HostEntries}
 use Rattle.pv_model.specs.declared.stream.Sink.{Ghosts as Writing}
 use Rattle.pv_model.specs.declared.stream.Source.{Ghosts as Reading}
-use Rattle.pv_model.specs.Bytes.{Bytes}
-use Rattle.pv_model.specs.Manifest.{Entry}
-use Rattle.pv_model.specs.Stream.{Rose}
+use Rattle.pv_model.specs.Machine.{Bytes, Entry, Rose}
 use Rattle.pv_cli_commands.specs.declared.system.Files.{Ghosts as Filing}
 use Rattle.pv_cli_commands.specs.Created.{IsCreated, IsEmptied}
 

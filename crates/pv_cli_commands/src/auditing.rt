@@ -6,7 +6,7 @@ ghost use Rattle.pv_cli_commands.specs.Streams.{disk_of, inputs_of};
 use crate::fault::Fault;
 use crate::system::Files;
 use pv_model::RunFault;
-use pv_run::{AuditStop, audit_image};
+use pv_questions::run::{AuditStop, audit_image};
 use pv_streams::{Sink, Source};
 use std::alloc::Global;
 

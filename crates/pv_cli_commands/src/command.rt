@@ -5,7 +5,7 @@ use pv_questions::{RunQuestion, TreeQuestion};
 use pv_source::Output;
 
 /// The schedule of a run.
-#[derive(Clone, Copy, Debug, PartialEq, Eq)]
+#[derive(Clone, Copy)]
 pub enum ScheduleInput<'a> {
     /// The schedule in a file.
     File(&'a str),
@@ -14,7 +14,7 @@ pub enum ScheduleInput<'a> {
 }
 
 /// A manifest or bundle. The file `-` is the standard input.
-#[derive(Clone, Copy, Debug, PartialEq, Eq)]
+#[derive(Clone, Copy)]
 pub enum TextInput<'a> {
     /// The manifest or bundle in a file.
     Plain(&'a str),
@@ -23,7 +23,7 @@ pub enum TextInput<'a> {
 }
 
 /// The input of a run: an image with a schedule, a bundle, or a manifest with a schedule.
-#[derive(Clone, Copy, Debug, PartialEq, Eq)]
+#[derive(Clone, Copy)]
 pub enum RunInput<'a> {
     /// The image in a file, under a schedule.
     Image {
@@ -44,7 +44,7 @@ pub enum RunInput<'a> {
 }
 
 /// The input that has a tree: an image or a manifest.
-#[derive(Clone, Copy, Debug, PartialEq, Eq)]
+#[derive(Clone, Copy)]
 pub enum TreeInput<'a> {
     /// The image in a file.
     Image(&'a str),
@@ -53,7 +53,7 @@ pub enum TreeInput<'a> {
 }
 
 /// Two inputs that are compared.
-#[derive(Clone, Copy, Debug, PartialEq, Eq)]
+#[derive(Clone, Copy)]
 pub enum CompareInput<'a> {
     /// Two images.
     Images {
@@ -72,7 +72,7 @@ pub enum CompareInput<'a> {
 }
 
 /// A command.
-#[derive(Clone, Copy, Debug, PartialEq, Eq)]
+#[derive(Clone, Copy)]
 pub enum Command<'a> {
     /// Runs the bundle in a file. `-` is the standard input.
     RunTree(&'a str),

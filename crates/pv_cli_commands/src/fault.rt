@@ -6,12 +6,12 @@ ghost use Rattle.pv_cli_commands.specs.declared.fault.Fault.TheVariants.{Run as 
 use pv_host_copy::{ExportFault, ImportStop};
 use pv_model::{ImageFault, ListFault, ManifestFault, MigrateFault, RunFault};
 use pv_questions::AskStop;
-use pv_run::{AuditStop, MigrateStop};
+use pv_questions::run::{AuditStop, MigrateStop};
 use pv_source::SourceStop;
 use thiserror::Error;
 
 /// The reason why a command fails. Its `Display` is the whole message for a person, with a newline at its end.
-#[derive(Clone, Copy, Debug, PartialEq, Eq, Error)]
+#[derive(Clone, Copy, Debug, Error)]
 pub enum Fault {
     /// A run was refused or ended early, or an image was not made.
     #[error("pvsim: {0}\n")]

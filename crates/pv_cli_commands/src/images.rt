@@ -19,7 +19,7 @@ fn run_from<S: Source, W: Sink, O: Sink>(
     ensures { RunsImageFrom S.Source W.Sink O.Sink (inputs_of image.old schedule.old) (inputs_of image.new schedule.new)
         (outputs_of trace.old out.old) (outputs_of trace.new out.new) result }
 {
-    pv_run::run(alloc, image, schedule, trace, out)?;
+    pv_questions::run::run(alloc, image, schedule, trace, out)?;
     Ok(())
 }
 

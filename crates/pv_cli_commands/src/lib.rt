@@ -31,6 +31,8 @@ pub use command::{Command, CompareInput, RunInput, ScheduleInput, TextInput, Tre
 pub use directories::Directories;
 pub use fault::Fault;
 pub use performing::perform;
-pub use pv_questions::{Progress, Unshown};
+pub use pv_host_copy as host_copy;
+pub use pv_questions as questions;
+pub use pv_questions::{Progress, Unshown, run};
 pub use pv_source::Output;
 pub use system::{Files, HostSystem};

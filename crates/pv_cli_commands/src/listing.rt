@@ -5,7 +5,7 @@ ghost use Rattle.pv_cli_commands.specs.Streams.{disk_of};
 use crate::fault::Fault;
 use crate::system::Files;
 use pv_model::ListFault;
-use pv_run::list;
+use pv_questions::run::list;
 use pv_streams::{Failed, Sink, Source};
 use std::alloc::Global;
 

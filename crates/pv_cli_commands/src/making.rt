@@ -5,7 +5,7 @@ ghost use Rattle.pv_cli_commands.specs.Streams.{disk_of};
 use crate::fault::Fault;
 use crate::system::Files;
 use pv_model::RunFault;
-use pv_run::make_image;
+use pv_questions::run::make_image;
 use pv_streams::{Sink, Source};
 use std::alloc::Global;
 

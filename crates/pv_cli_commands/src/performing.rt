@@ -42,9 +42,9 @@ use std::alloc::Global;
 /// - `AuditImage` runs the schedule in a file on the image in another, and writes the verdict on the file at a path, or
 ///   on all files, to the standard output.
 /// - `WriteSource` writes the manifest or bundle of the source in a file, or on the standard input for `-`, or the
-///   lines of its programs, to the standard output, and reports at most twenty lines with an unknown promise on the
-///   standard error. If lines are in error, it writes nothing to the standard output and reports at most twenty of them
-///   on the standard error. Each report is a line with the name of the file as given.
+///   lines of its programs, to the standard output, and reports at most twenty lines with an unknown promise or
+///   permission on the standard error. If lines are in error, it writes nothing to the standard output and reports at
+///   most twenty of them on the standard error. Each report is a line with the name of the file as given.
 /// - `Ask` runs the schedule in a file on the image in another, or the bundle in a file or on the standard input for
 ///   `-`, and writes the answer to a question about that run to the standard output. A bundle or manifest may be given
 ///   by a source, whose translation is then the bundle. The lines of the source are reported as for `WriteSource`.

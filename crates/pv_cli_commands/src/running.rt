@@ -5,7 +5,7 @@ ghost use Rattle.pv_cli_commands.specs.Streams.{disk_of};
 use crate::fault::Fault;
 use crate::system::Files;
 use pv_model::RunFault;
-use pv_run::run_tree;
+use pv_questions::run::run_tree;
 use pv_streams::{Failed, Sink, Source};
 use std::alloc::Global;
 

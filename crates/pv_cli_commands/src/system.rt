@@ -48,6 +48,9 @@ pub trait Files {
     /// Returns the reason why the file with a name cannot be opened for writing, in the words of the operating system,
     /// or `None` if it can or the reason is not known. It creates no file, and leaves an existing file unchanged.
     fn write_reason(&self, alloc: Global, name: &str) -> Option<String>;
+
+    /// Returns whether the file with a name is a regular file, which gives the same bytes if it is read again.
+    fn is_regular(&self, name: &str) -> bool;
 }
 
 /// The input and output of a command.

@@ -1,22 +1,25 @@
 //! Directories of the operating system, for import.
-ghost use Rattle.std.specs.Prelude.{◌≡◌, ◌<◌, ◌^◌, None, length, option_map, vec_len, IfOk};
+ghost use Rattle.std.specs.Prelude.{◌≡◌, ◌<◌, ◌^◌, None, Some, length, option_map, vec_len, IfOk};
 ghost use Rattle.std.specs.String.{string_bytes};
 ghost use Rattle.pv_cli_host.specs.Bounds.{bound_of, entries_within, levels_below};
-ghost use Rattle.pv_host_copy.specs.Reporting.{left_below};
-ghost use Rattle.pv_model.specs.Calls.Descriptors.{is_past};
+ghost use Rattle.pv_cli_commands.specs.OfHostCopy.Reporting.{left_below};
+ghost use Rattle.pv_model.specs.Machine.{is_past};
 
 use crate::files::HostFiles;
 use crate::targets::MadeDirectory;
 use pv_cli_commands::Directories;
-use pv_host_copy::{
-    HostDirectory, HostEntry, HostFault, HostFile, HostNode, Identity, TargetFault,
+use pv_cli_commands::host_copy::{
+    HostDirectory, HostEntry, HostFault, HostFile, HostNode, Identity, SkipReason, TargetFault,
 };
 use pv_streams::Failed;
 use std::alloc::{AllocError, Global};
-use std::fs::{File, Metadata};
+use std::fs::{File, Files, Metadata};
 use std::io::{ErrorKind, Read};
 use std::os::unix::fs::MetadataExt;
 use std::{fs, io};
+
+// The number of bytes of names that are requested from a directory at a time.
+const CHUNK: usize = 65_536;
 
 // The mode bits that let a user, a group or others execute a file.
 const EXECUTE: u32 = 0o111;
@@ -51,16 +54,16 @@ impl<'a> Directories for HostFiles<'a> {
 /// entries.
 ///
 /// The names are read when the directory is opened, and each node when its name is returned, by its path. A symbolic
-/// link is reported and not followed; but if somebody replaces a directory by a link meanwhile, the link is followed. A
-/// name or a link's text that is not UTF-8 can't be read.
+/// link is reported and not followed; but if somebody replaces a directory by a link meanwhile, the link is followed.
+/// The entry of a name or of a link's text that is not UTF-8 can't be opened, and is reported with this reason.
 #[derive(Drop)]
 pub struct OpenedDirectory<'a> {
     rt: &'a HostRuntime,
     path: String,
     // The names that remain, in descending order.
-    names: Vec<String>,
+    names: Vec<Vec<u8>>,
     // The last name that was returned.
-    last: Option<String>,
+    last: Option<Vec<u8>>,
 }
 
 // Converts an error of the operating system.
@@ -72,17 +75,41 @@ fn fault_of(error: io::Error) -> HostFault {
     }
 }
 
-// Returns the names of a directory in the descending order of their bytes.
-fn names_of(rt: &HostRuntime, alloc: Global, path: &str) -> Result<Vec<String>, HostFault> {
-    let entries = fs::read_dir(rt, path).map_err(fault_of)?;
-    let mut names = Vec::new(alloc);
-    for entry in entries {
-        let entry = entry.map_err(fault_of)?;
-        names.push(String::from_str(alloc, entry.file_name())?)?;
+// Appends the names in some bytes, each ended by a zero byte, without those of a directory itself and its parent.
+fn add_names(alloc: Global, names: &mut Vec<Vec<u8>>, read: &[u8]) -> Result<(), HostFault> {
+    for name in read.split(|byte| *byte == 0) {
+        if !name.is_empty() && name != b".".as_slice() && name != b"..".as_slice() {
+            names.push(Vec::from_slice(alloc, name)?)?;
+        }
     }
-    names.sort()?;
-    names.reverse();
-    Ok(names)
+    Ok(())
+}
+
+// Returns a path with a slash at its end, so that the system follows a symbolic link to a directory.
+fn with_slash(alloc: Global, path: &str) -> Result<String, AllocError> {
+    let mut text = String::from_str(alloc, path)?;
+    if !path.is_empty() && !path.ends_with('/') {
+        text.push_str("/")?;
+    }
+    Ok(text)
+}
+
+// Returns the names of a directory in the descending order of their bytes. No read ends inside a name.
+fn names_of(rt: &HostRuntime, alloc: Global, path: &str) -> Result<Vec<Vec<u8>>, HostFault> {
+    let path = with_slash(alloc, path)?;
+    let mut directory = rt.open_dir(path.as_str()).map_err(fault_of)?;
+    let mut names = Vec::new(alloc);
+    let mut buffer = [0; CHUNK];
+    for _ in 0..u64::MAX {
+        let count = directory.read(&mut buffer).map_err(fault_of)?;
+        if count == 0 {
+            names.sort()?;
+            names.reverse();
+            return Ok(names);
+        }
+        add_names(alloc, &mut names, &buffer[..count])?;
+    }
+    Err(HostFault::Read)
 }
 
 // Returns the path of a name in a directory.
@@ -103,10 +130,13 @@ fn identity_of(metadata: &Metadata) -> Identity {
     }
 }
 
-// Returns the text of a symbolic link.
-fn text_of(rt: &HostRuntime, alloc: Global, path: &str) -> Result<Vec<u8>, HostFault> {
-    let text = fs::read_link(rt, path).map_err(fault_of)?;
-    Ok(Vec::from_slice(alloc, text.as_str().as_bytes())?)
+// Returns the text of a symbolic link, or `None` if it is not UTF-8.
+fn text_of(rt: &HostRuntime, alloc: Global, path: &str) -> Result<Option<Vec<u8>>, HostFault> {
+    match fs::read_link(rt, path) {
+        Ok(text) => Ok(Some(Vec::from_slice(alloc, text.as_str().as_bytes())?)),
+        Err(error) if error.kind() == ErrorKind::InvalidFilename => Ok(None),
+        Err(error) => Err(fault_of(error)),
+    }
 }
 
 // Opens a file.
@@ -115,13 +145,20 @@ fn file_of(rt: &HostRuntime, path: &str) -> Result<ReadFile, HostFault> {
     Ok(ReadFile { file })
 }
 
+// Returns whether a name comes before another.
+fn is_before(name: &[u8], other: &[u8]) -> bool
+    ensures { result ≡ is_past (Some name.now) other.now }
+{
+    name < other
+}
+
 // Returns whether a name comes after the last one.
-fn is_past(last: &Option<String>, name: &str) -> bool
-    ensures { result ≡ is_past (option_map string_bytes last.now) name.now }
+fn is_past(last: &Option<Vec<u8>>, name: &[u8]) -> bool
+    ensures { result ≡ is_past (option_map (λ bytes. bytes.items) last.now) name.now }
 {
     match last {
         None => true,
-        Some(last) => last.as_str().cmp(name).is_lt(),
+        Some(last) => is_before(last, name),
     }
 }
 
@@ -172,8 +209,10 @@ impl<'a> OpenedDirectory<'a> {
         }
         let identity = identity_of(&metadata);
         if metadata.is_symlink() {
-            let text = text_of(self.rt, alloc, path)?;
-            return Ok(HostNode::Link { identity, text });
+            return match text_of(self.rt, alloc, path)? {
+                Some(text) => Ok(HostNode::Link { identity, text }),
+                None => Ok(HostNode::Other(SkipReason::Text)),
+            };
         }
         if metadata.is_file() {
             let reader = file_of(self.rt, path)?;
@@ -183,7 +222,23 @@ impl<'a> OpenedDirectory<'a> {
                 reader,
             });
         }
-        Ok(HostNode::Other)
+        Ok(HostNode::Other(SkipReason::Kind))
+    }
+
+    // Returns the node of a name in this directory. A name that is not UTF-8 can't be opened.
+    #[tactic(auto, using(crate::proofs::Bounds::bound_some))]
+    fn node_of(
+        &self,
+        alloc: Global,
+        name: &[u8],
+    ) -> Result<HostNode<OpenedDirectory<'a>, ReadFile>, HostFault>
+        ensures { IfOk result (λ node. left_below (λ d. entries_within (vec_len d.names) (string_bytes d.path)) node < bound_of (levels_below (string_bytes self.now.path))) }
+    {
+        let Ok(name) = std::str::from_utf8(name) else {
+            return Ok(HostNode::Other(SkipReason::Name));
+        };
+        let path = path_of(alloc, self.path.as_str(), name)?;
+        self.node(alloc, path.as_str())
     }
 }
 
@@ -192,7 +247,7 @@ impl<'a> HostDirectory for OpenedDirectory<'a> {
 
     ghost rest = { λ _. None };
 
-    ghost last = { λ s. option_map string_bytes s.last };
+    ghost last = { λ s. option_map (λ bytes. bytes.items) s.last };
 
     ghost left = { λ s. entries_within (vec_len s.names) (string_bytes s.path) };
 
@@ -207,12 +262,11 @@ impl<'a> HostDirectory for OpenedDirectory<'a> {
             return Ok(None);
         };
         // A name that the host returned twice does not come after itself.
-        if !is_past(&self.last, name.as_str()) {
+        if !is_past(&self.last, &name) {
             return Err(HostFault::Read);
         }
-        let path = path_of(alloc, self.path.as_str(), name.as_str())?;
-        let node = self.node(alloc, path.as_str())?;
-        let bytes = Vec::from_slice(alloc, name.as_str().as_bytes())?;
+        let node = self.node_of(alloc, &name)?;
+        let bytes = Vec::from_slice(alloc, &name)?;
         self.last = Some(name);
         Ok(Some(HostEntry { name: bytes, node }))
     }

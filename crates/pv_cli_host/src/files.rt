@@ -77,6 +77,13 @@ impl<'a> Files for HostFiles<'a> {
             Err(error) => format!(in alloc; "{error}").ok(),
         }
     }
+
+    fn is_regular(&self, name: &str) -> bool {
+        match fs::metadata(self.rt, name) {
+            Ok(metadata) => metadata.is_file(),
+            Err(_) => false,
+        }
+    }
 }
 
 // Returns whether the directory that would contain the file with a name can be inspected.

@@ -14,7 +14,8 @@ pub struct Output<W: Drop> {
 impl<W: Write + Drop> Output<W> {
     /// Returns a sink over a writer, with no failures.
     pub fn new(writer: W) -> Output<W>
-        ensures { result.failures ≡ 0 }
+        ensures writer { result.writer ≡ writer }
+        ensures failures { result.failures ≡ 0 }
     {
         Output {
             writer,

@@ -27,6 +27,10 @@ pub struct Screen<'a> {
     is_free: Cell<bool>,
     // Whether a line is currently shown.
     is_shown: Cell<bool>,
+    // Whether the last byte on the standard output, if there is one, is the end of a line.
+    is_at_start: Cell<bool>,
+    // Whether a search is running.
+    is_searching: Cell<bool>,
 }
 
 impl<'a> Screen<'a> {
@@ -39,7 +43,14 @@ impl<'a> Screen<'a> {
             is_shared: rt.stdout().is_terminal(),
             is_free: Cell::new(rt.stderr().is_terminal()),
             is_shown: Cell::new(false),
+            is_at_start: Cell::new(true),
+            is_searching: Cell::new(false),
         }
+    }
+
+    /// Returns whether a search is running.
+    pub(crate) fn is_searching(&self) -> bool {
+        self.is_searching.get()
     }
 
     // Writes to the terminal. If that fails, nothing more is shown.
@@ -88,7 +99,8 @@ impl fmt::Display for Grouped {
     }
 }
 
-/// The progress of a search on a screen. It shows nothing in the first second, and then at most five reports a second.
+/// The progress of a search on a screen. It shows nothing in the first second, and then at most five reports a second,
+/// each on a line of its own.
 #[derive(Drop)]
 pub struct Shown<'a> {
     screen: &'a Screen<'a>,
@@ -124,19 +136,20 @@ impl<'a> Shown<'a> {
 
 impl Progress for Shown<'_> {
     fn show(&mut self, found: usize, left: usize) {
-        if self.screen.is_free.get() && self.is_due() {
+        self.screen.is_searching.set(true);
+        if self.screen.is_free.get() && self.screen.is_at_start.get() && self.is_due() {
             self.screen.show(found, left);
         }
     }
 
     fn end(&mut self) {
         self.due = None;
+        self.screen.is_searching.set(false);
         self.screen.wipe();
     }
 }
 
-/// A writer to the standard output. If that is a terminal, the first write erases the progress line, and nothing more
-/// is shown on the screen.
+/// A writer to the standard output. If that is a terminal, a write first erases the progress line.
 #[derive(Drop)]
 pub struct ScreenWriter<'a, W: Drop> {
     screen: &'a Screen<'a>,
@@ -155,11 +168,15 @@ impl<'a, W: Write + Drop> ScreenWriter<'a, W> {
 
 impl<W: Write + Drop> Write for ScreenWriter<'_, W> {
     fn write(&mut self, buffer: &[u8]) -> io::Result<usize> {
-        if self.screen.is_shared {
-            self.screen.is_free.set(false);
-            self.screen.wipe();
+        if !self.screen.is_shared {
+            return self.writer.write(buffer);
         }
-        self.writer.write(buffer)
+        self.screen.wipe();
+        let count = self.writer.write(buffer)?;
+        if let Some(last) = buffer.get(count.saturating_sub(1)) {
+            self.screen.is_at_start.set(*last == b'\n');
+        }
+        Ok(count)
     }
 
     fn flush(&mut self) -> io::Result<()> {

@@ -2,7 +2,7 @@
 ghost use Rattle.std.specs.Prelude.{◌≡◌, None, IfOk};
 ghost use Rattle.std.specs.String.{string_bytes};
 
-use pv_host_copy::{HostTarget, TargetFault};
+use pv_cli_commands::host_copy::{HostTarget, TargetFault};
 use std::alloc::Global;
 use std::fs::File;
 use std::io::{ErrorKind, Write};

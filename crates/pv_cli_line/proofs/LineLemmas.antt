@@ -24,12 +24,12 @@ use Rattle.pv_cli_commands.specs.declared.command.TextInput.{TextInput}
 use Rattle.pv_cli_commands.specs.declared.command.TextInput.TheVariants.{Plain, Source as OfSource}
 use Rattle.pv_cli_commands.specs.declared.command.TreeInput.{TreeInput}
 use Rattle.pv_cli_commands.specs.declared.command.TreeInput.TheVariants.{Image, Manifest}
-use Rattle.pv_questions.specs.Schedules.{are_turns}
-use Rattle.pv_questions.specs.declared.question.Question.{Question}
-use Rattle.pv_questions.specs.declared.question.Question.TheVariants.{Trace, Audit}
-use Rattle.pv_questions.specs.declared.question.TreeQuestion.TheVariants.{Listing, File, Turns, Search as OfSearch}
-use Rattle.pv_questions.specs.declared.question.Search.{Search}
-use Rattle.pv_questions.specs.declared.question.Search.TheVariants.{Explore, Access, Exposure, Policy, Graph}
+use Rattle.pv_cli_commands.specs.OfQuestions.Schedules.{are_turns}
+use Rattle.pv_cli_commands.specs.OfQuestions.declared.question.Question.{Question}
+use Rattle.pv_cli_commands.specs.OfQuestions.declared.question.Question.TheVariants.{Trace, Audit}
+use Rattle.pv_cli_commands.specs.OfQuestions.declared.question.TreeQuestion.TheVariants.{Listing, File, Turns, Search as OfSearch}
+use Rattle.pv_cli_commands.specs.OfQuestions.declared.question.Search.{Search}
+use Rattle.pv_cli_commands.specs.OfQuestions.declared.question.Search.TheVariants.{Explore, Access, Exposure, Policy, Graph}
 use Rattle.pv_cli_line.specs.declared.command.CommandLine.{CommandLine}
 use Rattle.pv_cli_line.specs.declared.command.LineFault.{LineFault}
 use Rattle.pv_cli_line.specs.declared.command.LineFault.TheVariants as line
@@ -66,18 +66,18 @@ module _ {Z : Type 0} where
       (false_from_ne_true (bytes_eq entered name) (λ same. other (ap Some ((bytes_eq-Decides entered name).0 same))))
 
 -- a line without words has no flag
-pub verbose-wordless : {A : Type 0} (text : A → Text) (default : Bool) (words : List A) → length words ≤ 1 → is_verbose_line default (map text words) ≡ default
-verbose-wordless text default [] few = refl
-verbose-wordless text default (program ∷ []) few = refl
-verbose-wordless text default (program ∷ word ∷ words) few = absurd (omega (arith, few))
+pub verbose-wordless : {A : Type 0} (text : A → Text) (words : List A) → length words ≤ 1 → is_verbose_line (map text words) ≡ true
+verbose-wordless text [] few = refl
+verbose-wordless text (program ∷ []) few = refl
+verbose-wordless text (program ∷ word ∷ words) few = absurd (omega (arith, few))
 
 -- one with words has the flags of its matches
-pub verbose-words : {A : Type 0} (text : A → Text) (default : Bool) (words : List A) (r : Result CommandLine LineFault) → 1 < length words
-    → IfOk r (λ line. line.is_verbose ≡ is_verbose_in default (matches_of pvsim_app (map text words)) (subcommand_of pvsim_app (map text words)))
-    → IfOk r (λ line. line.is_verbose ≡ is_verbose_line default (map text words))
-verbose-words text default [] r some is = absurd (omega (arith, some))
-verbose-words text default (program ∷ []) r some is = absurd (omega (arith, some))
-verbose-words text default (program ∷ word ∷ words) r some is = is
+pub verbose-words : {A : Type 0} (text : A → Text) (words : List A) (r : Result CommandLine LineFault) → 1 < length words
+    → IfOk r (λ line. line.is_verbose ≡ is_verbose_in (matches_of pvsim_app (map text words)) (subcommand_of pvsim_app (map text words)))
+    → IfOk r (λ line. line.is_verbose ≡ is_verbose_line (map text words))
+verbose-words text [] r some is = absurd (omega (arith, some))
+verbose-words text (program ∷ []) r some is = absurd (omega (arith, some))
+verbose-words text (program ∷ word ∷ words) r some is = is
 
 -- ---- if no command has its texts, there is no command
 
@@ -285,5 +285,5 @@ module _ (entered : Option (Text × List Row)) where
   no_search explores accesses exposures policies graphs (Explore kind) = explores
   no_search explores accesses exposures policies graphs (Access kind) = accesses
   no_search explores accesses exposures policies graphs (Exposure kind) = exposures
-  no_search explores accesses exposures policies graphs (Policy kind) = policies
+  no_search explores accesses exposures policies graphs (Policy kind granted) = policies
   no_search explores accesses exposures policies graphs (Graph lists_tree) = graphs

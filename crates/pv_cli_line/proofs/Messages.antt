@@ -3,8 +3,7 @@ use Rattle.std.proofs.Common.{◌≡◌, ◌++◌, ◌∷◌, ◌∙◌, ap, ref
 use Rattle.std.specs.Prelude.{Result, Ok, Err, OnOk, OnErr}
 use Rattle.pv_model.specs.declared.stream.Failed.{Failed}
 use Rattle.pv_model.specs.declared.stream.Sink.{Ghosts as Writing}
-use Rattle.pv_model.specs.Bytes.{Bytes}
-use Rattle.pv_model.specs.Stream.{Rose}
+use Rattle.pv_model.specs.Machine.{Bytes, Rose}
 use Rattle.pv_streams.specs.Sinks.{Writes, WritesPrefix, and_all}
 use Rattle.pv_streams.proofs.Sinks.{begins_whole, written_nothing}
 use Rattle.pv_streams.proofs.Reporting.{begins_first, begins_then, written_both, written_none}

@@ -4,9 +4,9 @@ use Rattle.clap.specs.Words.{Row, Text}
 use Rattle.pv_cli_commands.specs.declared.command.Command.{Command}
 use Rattle.pv_cli_commands.specs.declared.command.Command.TheVariants.{RunTree, MakeImage, ListImage, RunImage, MigrateImage, ImportDirectory, ExportImage, AuditImage, WriteSource, Ask, AskTree, Compare}
 use Rattle.pv_cli_commands.specs.declared.command.RunInput.{RunInput}
-use Rattle.pv_questions.specs.declared.question.Question.{Question}
-use Rattle.pv_questions.specs.declared.question.Question.TheVariants.{Trace, State, Reach, Explain, Needs, Audit, Reasons}
-use Rattle.pv_questions.specs.declared.question.RunQuestion.{RunQuestion}
+use Rattle.pv_cli_commands.specs.OfQuestions.declared.question.Question.{Question}
+use Rattle.pv_cli_commands.specs.OfQuestions.declared.question.Question.TheVariants.{Trace, State, Reach, Explain, Needs, Audit, Reasons}
+use Rattle.pv_cli_commands.specs.OfQuestions.declared.question.RunQuestion.{RunQuestion}
 use Rattle.pv_cli_line.specs.Line.{EncodesNumber, IsCommandIn, IsCommandOf, IsQuestionIn, IsRunIn, IsTracedIn, IsValidRunIn, LacksNumber, size_in, steps_word}
 
 no_word : (word : Option Text) → option_map size_in word ≡ None → word ≡ None
@@ -48,7 +48,7 @@ module _ (entered : Option (Text × List Row)) where
   no_question traced state explain needs audit reaches Trace run is = traced run is
   no_question traced state explain needs audit reaches State run is = state run is
   no_question traced state explain needs audit reaches (Explain errors) run is = explain run is.0
-  no_question traced state explain needs audit reaches (Needs granted lines) run is = needs run is.0
+  no_question traced state explain needs audit reaches (Needs granted) run is = needs run is.0
   no_question traced state explain needs audit reaches (Audit path) run is = audit run (option_map (λ bytes. bytes.now) path) is.0
   no_question traced state explain needs audit reaches (Reasons path) run is = audit run (option_map (λ bytes. bytes.now) path) is.0
   no_question traced state explain needs audit reaches (Reach pid) run is = reaches pid run is

@@ -2,9 +2,8 @@
 use Rattle.std.proofs.Common.{◌≡◌, ◌≢◌, ℕ, min, Option, None, Some, option_map, codes, refl, ap, sym, ◌∙◌, ⊎_elim, arith}
 use Rattle.std.specs.Prelude.{if◌then◌else◌, nat_le}
 use Rattle.std.proofs.lemmas.Bool.{le-leb, leb-true, cases_Bool}
-use Rattle.pv_model.specs.Bytes.{Bytes}
+use Rattle.pv_model.specs.Machine.{Bytes, decimal_of}
 use Rattle.pv_model.specs.Grammar.Arguments.{in_range}
-use Rattle.pv_model.specs.Grammar.Lines.{decimal_of}
 use Rattle.pv_laws_grammar.proofs.Decimals.{Decimal-decimal_of, Decimal-encoded}
 use Rattle.pv_text.specs.Reading.{held_of, up_to_greatest}
 use Rattle.pv_cli_line.specs.Line.{size_in}

@@ -6,7 +6,7 @@ use Rattle.clap.specs.declared.error.Error.{Error}
 use Rattle.clap.specs.declared.error.kind.ErrorKind.{ErrorKind}
 use Rattle.clap.specs.declared.error.kind.ErrorKind.TheVariants.{OutOfMemory, MissingRequiredArgument, ValueValidation}
 use Rattle.pv_model.specs.Grammar.Arguments.{in_range}
-use Rattle.pv_model.specs.Grammar.Lines.{decimal_of}
+use Rattle.pv_model.specs.Machine.{decimal_of}
 use Rattle.pv_model.specs.declared.version.Version.{Version}
 use Rattle.pv_model.specs.declared.version.Version.TheVariants.{V1, V2}
 use Rattle.pv_cli_commands.specs.declared.command.Command.{Command}
@@ -21,16 +21,16 @@ use Rattle.pv_cli_commands.specs.declared.command.TextInput.{TextInput}
 use Rattle.pv_cli_commands.specs.declared.command.TextInput.TheVariants.{Plain, Source as OfSource}
 use Rattle.pv_cli_commands.specs.declared.command.TreeInput.{TreeInput}
 use Rattle.pv_cli_commands.specs.declared.command.TreeInput.TheVariants.{Image, Manifest}
-use Rattle.pv_questions.specs.declared.question.Question.{Question}
-use Rattle.pv_questions.specs.declared.question.Question.TheVariants.{Trace, State, Reach, Explain, Needs, Audit, Reasons}
-use Rattle.pv_questions.specs.Schedules.{are_turns}
-use Rattle.pv_questions.specs.declared.question.RunQuestion.{RunQuestion}
-use Rattle.pv_questions.specs.declared.question.TreeQuestion.{TreeQuestion}
-use Rattle.pv_questions.specs.declared.question.TreeQuestion.TheVariants.{Listing, File, Turns, Search as OfSearch}
-use Rattle.pv_questions.specs.declared.question.Search.{Search}
-use Rattle.pv_questions.specs.declared.question.Search.TheVariants.{Explore, Access, Exposure, Policy, Graph}
-use Rattle.pv_reduced.specs.declared.kind.SearchKind.{SearchKind}
-use Rattle.pv_reduced.specs.declared.kind.SearchKind.TheVariants.{Full, Reduced}
+use Rattle.pv_cli_commands.specs.OfQuestions.declared.question.Question.{Question}
+use Rattle.pv_cli_commands.specs.OfQuestions.declared.question.Question.TheVariants.{Trace, State, Reach, Explain, Needs, Audit, Reasons}
+use Rattle.pv_cli_commands.specs.OfQuestions.Schedules.{are_turns}
+use Rattle.pv_cli_commands.specs.OfQuestions.declared.question.RunQuestion.{RunQuestion}
+use Rattle.pv_cli_commands.specs.OfQuestions.declared.question.TreeQuestion.{TreeQuestion}
+use Rattle.pv_cli_commands.specs.OfQuestions.declared.question.TreeQuestion.TheVariants.{Listing, File, Turns, Search as OfSearch}
+use Rattle.pv_cli_commands.specs.OfQuestions.declared.question.Search.{Search}
+use Rattle.pv_cli_commands.specs.OfQuestions.declared.question.Search.TheVariants.{Explore, Access, Exposure, Policy, Graph}
+use Rattle.pv_cli_commands.specs.OfReduced.declared.kind.SearchKind.{SearchKind}
+use Rattle.pv_cli_commands.specs.OfReduced.declared.kind.SearchKind.TheVariants.{Full, Reduced}
 use Rattle.pv_cli_line.specs.declared.matches.Parsed.{Parsed}
 use Rattle.pv_cli_line.specs.declared.matches.Parsed.TheVariants as found
 use Rattle.pv_cli_line.specs.declared.command.LineFault.{LineFault}
@@ -69,9 +69,9 @@ abbrev pub is_set_in : List Row → Option (Text × List Row) → Text → Bool
 is_set_in above None flag = is_set above flag
 is_set_in above (Some p) flag = is_set above flag || is_set p.1 flag
 
--- errors are explained: by default or because of the flag `verbose`, unless the flag `quiet` is set
-abbrev pub is_verbose_in : Bool → List Row → Option (Text × List Row) → Bool
-is_verbose_in default above entered = (default || is_set_in above entered (codes "verbose")) && not (is_set_in above entered (codes "quiet"))
+-- errors are explained, unless the flag `quiet` is set
+abbrev pub is_verbose_in : List Row → Option (Text × List Row) → Bool
+is_verbose_in above entered = not (is_set_in above entered (codes "quiet"))
 
 -- the number of 32 bits that a word is, in decimal without leading zeros
 unfoldable pub size_in : Text → Option ℕ
@@ -210,7 +210,7 @@ abbrev pub search_name : Search → Text
 search_name (Explore kind) = codes "explore"
 search_name (Access kind) = codes "access"
 search_name (Exposure kind) = codes "exposure"
-search_name (Policy kind) = codes "policy"
+search_name (Policy kind granted) = codes "policy"
 search_name (Graph lists_tree) = codes "graph"
 
 -- the kind of the search of a command, which the flag `reduced` chooses
@@ -222,7 +222,8 @@ abbrev pub HasFlags : Option (Text × List Row) → Search → Type 0
 HasFlags entered (Explore kind) = kind_entered entered (codes "explore") ≡ kind
 HasFlags entered (Access kind) = kind_entered entered (codes "access") ≡ kind
 HasFlags entered (Exposure kind) = kind_entered entered (codes "exposure") ≡ kind
-HasFlags entered (Policy kind) = kind_entered entered (codes "policy") ≡ kind
+HasFlags entered (Policy kind granted) =
+    (kind_entered entered (codes "policy") ≡ kind) × (is_given (entered_text entered (codes "policy") (codes "granted")) ≡ granted)
 HasFlags entered (Graph lists_tree) = is_given (entered_text entered (codes "graph") (codes "tree")) ≡ lists_tree
 
 -- a question about a tree was entered, with its input
@@ -258,7 +259,7 @@ question_name Trace = codes "run-tree"
 question_name State = codes "state"
 question_name (Reach pid) = codes "reach"
 question_name (Explain errors) = codes "explain"
-question_name (Needs granted lines) = codes "needs"
+question_name (Needs granted) = codes "needs"
 question_name (Audit path) = codes "audit"
 question_name (Reasons path) = codes "audit"
 
@@ -276,16 +277,18 @@ IsTracedIn entered (OfManifest manifest (AsTurns turns)) =
     IsTracedTextIn entered manifest × (entered_text entered (codes "run-tree") (codes "by") ≡ Some turns.now)
 IsTracedIn entered run = ⊥
 
+-- the reasons of errors are written, unless the flag `brief` is given without the flag `errors`
+abbrev pub errors_entered : Option (Text × List Row) → Bool
+errors_entered entered = is_given (entered_text entered (codes "explain") (codes "errors")) || not (is_given (entered_text entered (codes "explain") (codes "brief")))
+
 -- a question about a run was entered, with its input
 abbrev pub IsQuestionIn : Option (Text × List Row) → Question → RunInput → Type 0
 IsQuestionIn entered Trace run = IsTracedIn entered run
 IsQuestionIn entered State run = IsValidRunIn entered (codes "state") run
 IsQuestionIn entered (Reach pid) run = (word : Option Text) × IsRunIn entered (codes "reach") (codes "PID") run word × EncodesNumber word pid
-IsQuestionIn entered (Explain errors) run =
-    IsValidRunIn entered (codes "explain") run × (is_given (entered_text entered (codes "explain") (codes "errors")) ≡ errors)
-IsQuestionIn entered (Needs granted lines) run =
-    IsValidRunIn entered (codes "needs") run
-    × (is_given (entered_text entered (codes "needs") (codes "granted")) ≡ granted) × (is_given (entered_text entered (codes "needs") (codes "lines")) ≡ lines)
+IsQuestionIn entered (Explain errors) run = IsValidRunIn entered (codes "explain") run × (errors_entered entered ≡ errors)
+IsQuestionIn entered (Needs granted) run =
+    IsValidRunIn entered (codes "needs") run × (is_given (entered_text entered (codes "needs") (codes "granted")) ≡ granted)
 IsQuestionIn entered (Audit path) run =
     IsRunIn entered (codes "audit") (codes "PATH") run (option_map (λ bytes. bytes.now) path) × (is_given (entered_text entered (codes "audit") (codes "reasons")) ≡ false)
 IsQuestionIn entered (Reasons path) run =
@@ -295,8 +298,8 @@ IsQuestionIn entered (Reasons path) run =
 abbrev pub steps_word : Option (Text × List Row) → Question → Option Text
 steps_word entered question = entered_text entered (question_name question) (codes "steps")
 
--- the question about a whole run is not another command: `run-tree` of a bundle that is no source, or `audit` of an
--- image and a schedule
+-- the question about a whole run is not another command: `run-tree` of a plain bundle, or `audit` of an image
+-- and a schedule
 abbrev pub IsUnderTurns : RunInput → Type 0
 IsUnderTurns (Bundle (Plain file)) = ⊥
 IsUnderTurns run = ⊤
@@ -422,11 +425,11 @@ IsAsked (program ∷ []) command = IsWithoutWords command
 IsAsked (program ∷ word ∷ words) command = IsValidIn (subcommand_of pvsim_app (program ∷ word ∷ words)) command
 
 -- errors are explained: by default, which the flags of the words change
-abbrev pub is_verbose_line : Bool → List Text → Bool
-is_verbose_line default [] = default
-is_verbose_line default (program ∷ []) = default
-is_verbose_line default (program ∷ word ∷ words) =
-    is_verbose_in default (matches_of pvsim_app (program ∷ word ∷ words)) (subcommand_of pvsim_app (program ∷ word ∷ words))
+abbrev pub is_verbose_line : List Text → Bool
+is_verbose_line [] = true
+is_verbose_line (program ∷ []) = true
+is_verbose_line (program ∷ word ∷ words) =
+    is_verbose_in (matches_of pvsim_app (program ∷ word ∷ words)) (subcommand_of pvsim_app (program ∷ word ∷ words))
 
 -- ---- refusals
 
@@ -453,7 +456,7 @@ pub record LacksSize (entered : Option (Text × List Row)) : Type 0 where
   pub are_entered : HasTexts entered image out blocks inodes
   pub is_none : (size_in blocks ≡ None) ⊎ (size_in inodes ≡ None)
 
--- the words ask for a command with turns that are no turns
+-- the words ask for a command with invalid turns
 pub record RefusesTurns (words : List Text) (error : Error) : Type 0 where
   pub kind : kind_of error ≡ ValueValidation
   pub command : Command

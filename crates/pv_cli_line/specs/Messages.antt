@@ -2,7 +2,7 @@
 use Rattle.std.specs.Prelude.{◌≡◌, Bool, true, ◌++◌, codes, Result, OnOk, IfOk}
 use Rattle.pv_model.specs.declared.stream.Failed.{Failed}
 use Rattle.pv_model.specs.declared.stream.Sink.{Ghosts as Writing}
-use Rattle.pv_model.specs.Bytes.{Bytes}
+use Rattle.pv_model.specs.Machine.{Bytes}
 use Rattle.pv_streams.specs.Sinks.{Writes, WritesPrefix}
 
 -- the text ends in a newline, so it is not empty

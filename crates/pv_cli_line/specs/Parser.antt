@@ -88,8 +88,8 @@ schedule_apps =
     ∷ command_app (codes "audit") (question_rules ++ optional_rule (codes "PATH") ∷ flag_rule (codes "reasons") ∷ [])
     ∷ command_app (codes "state") question_rules
     ∷ command_app (codes "reach") (question_rules ++ optional_rule (codes "PID") ∷ [])
-    ∷ command_app (codes "explain") (question_rules ++ flag_rule (codes "errors") ∷ [])
-    ∷ command_app (codes "needs") (question_rules ++ flag_rule (codes "granted") ∷ flag_rule (codes "lines") ∷ [])
+    ∷ command_app (codes "explain") (question_rules ++ flag_rule (codes "errors") ∷ flag_rule (codes "brief") ∷ [])
+    ∷ command_app (codes "needs") (question_rules ++ flag_rule (codes "granted") ∷ [])
     ∷ command_app (codes "cat") (tree_rules ++ optional_rule (codes "PATH") ∷ [])
     ∷ command_app (codes "turns") (tree_rules ++ long_rule (codes "slice") ∷ long_rule (codes "steps") ∷ [])
     ∷ []
@@ -100,7 +100,7 @@ search_apps =
     command_app (codes "explore") kind_rules
     ∷ command_app (codes "access") kind_rules
     ∷ command_app (codes "exposure") kind_rules
-    ∷ command_app (codes "policy") kind_rules
+    ∷ command_app (codes "policy") (kind_rules ++ flag_rule (codes "granted") ∷ [])
     ∷ command_app (codes "compare") (bundle_rule ∷ optional_rule (codes "IMAGE") ∷ optional_rule (codes "OTHER") ∷ long_rule (codes "states") ∷ [])
     ∷ command_app (codes "graph") (search_rules ++ flag_rule (codes "tree") ∷ [])
     ∷ command_app (codes "migrate")

@@ -3,7 +3,7 @@ use Rattle.std.specs.Prelude.{◌≡◌, ◌≢◌, ℕ, Bool, true, false, ◌&
 use Rattle.pv_model.specs.declared.stream.Failed.{Failed}
 use Rattle.pv_model.specs.declared.stream.Sink.{Ghosts as Writing}
 use Rattle.pv_model.specs.declared.stream.Source.{Ghosts as Reading}
-use Rattle.pv_model.specs.Bytes.{Bytes}
+use Rattle.pv_model.specs.Machine.{Bytes}
 use Rattle.pv_cli_commands.specs.declared.command.Command.{Command}
 use Rattle.pv_cli_commands.specs.declared.fault.Fault.{Fault as CommandFault}
 use Rattle.pv_cli_commands.specs.declared.fault.Fault.TheVariants.{Importing, Source}
@@ -12,7 +12,7 @@ use Rattle.pv_cli_commands.specs.Commands.{KeepsErrors, Performs, ReadsFiles, Wr
 use Rattle.pv_cli_commands.specs.Faults.{Answer}
 use Rattle.pv_cli_commands.specs.Status.{Flushes, is_reported as is_reported_by_command}
 use Rattle.pv_cli_commands.specs.Streams.{Disk, Host}
-use Rattle.pv_host_copy.specs.declared.image.ImportStop.TheVariants.{Refused}
+use Rattle.pv_cli_commands.specs.OfHostCopy.declared.image.ImportStop.TheVariants.{Refused}
 use Rattle.pv_source.specs.declared.source.SourceStop.TheVariants.{Refused as RefusedSource}
 use Rattle.pv_cli_line.specs.declared.command.LineFault.{LineFault}
 use Rattle.pv_cli_line.specs.declared.command.LineFault.TheVariants.{Number}
@@ -97,19 +97,19 @@ is_number fault = false
 
 -- the words ask for a command, which was carried out, with status 0; or it ended early, or the words are refused, and
 -- the error was reported, with its status
-abbrev pub ComesTo : {F R V T I O E : Type 0} → Disk F R V → Host F T → Reading I → Writing O → Writing E → Bool → List Bytes → HostSystem F I O E → HostSystem F I O E → ℕ
+abbrev pub ComesTo : {F R V T I O E : Type 0} → Disk F R V → Host F T → Reading I → Writing O → Writing E → List Bytes → HostSystem F I O E → HostSystem F I O E → ℕ
     → Result (Unit {0}) Fault → Type 0
-ComesTo disk host reading writing reporting default words before after status (Ok done) =
+ComesTo disk host reading writing reporting words before after status (Ok done) =
     (status ≡ 0) × Runs disk host reading writing reporting words before after (Ok done)
-ComesTo {F} {R} {V} {T} {I} {O} {E} disk host reading writing reporting default words before after status (Err (OfCommand fault)) =
+ComesTo {F} {R} {V} {T} {I} {O} {E} disk host reading writing reporting words before after status (Err (OfCommand fault)) =
     (ended : HostSystem F I O E) × Runs disk host reading writing reporting words before ended (Err fault)
-    × ReportsAll writing reporting (OfCommand fault) (is_verbose_line default words && is_explained fault) ended after status
-ComesTo disk host reading writing reporting default words before after status (Err (Line fault)) =
+    × ReportsAll writing reporting (OfCommand fault) (is_verbose_line words && is_explained fault) ended after status
+ComesTo disk host reading writing reporting words before after status (Err (Line fault)) =
     RefusesLine words fault × ReportsAll writing reporting (Line fault) (is_number fault) before after status
-ComesTo disk host reading writing reporting default words before after status (Err Words) = ⊥
-ComesTo disk host reading writing reporting default words before after status (Err Write) = ⊥
+ComesTo disk host reading writing reporting words before after status (Err Words) = ⊥
+ComesTo disk host reading writing reporting words before after status (Err Write) = ⊥
 
--- the result of a whole run, with its status, where errors are explained by default or not
-abbrev pub EndsWith : {F R V T I O E : Type 0} → Disk F R V → Host F T → Reading I → Writing O → Writing E → Bool → List Bytes → HostSystem F I O E → HostSystem F I O E → ℕ → Type 0
-EndsWith disk host reading writing reporting default words before after status =
-    (result : Result (Unit {0}) Fault) × ComesTo disk host reading writing reporting default words before after status result
+-- the result of a whole run, with its status
+abbrev pub EndsWith : {F R V T I O E : Type 0} → Disk F R V → Host F T → Reading I → Writing O → Writing E → List Bytes → HostSystem F I O E → HostSystem F I O E → ℕ → Type 0
+EndsWith disk host reading writing reporting words before after status =
+    (result : Result (Unit {0}) Fault) × ComesTo disk host reading writing reporting words before after status result

@@ -12,8 +12,8 @@ use crate::superfluous::{Superfluous, superfluous_in};
 use crate::texts::is_verbose;
 use clap::error::ErrorKind;
 use clap::{ArgMatches, Command as Parser, Error as ParserError};
+use pv_cli_commands::questions::is_turns;
 use pv_cli_commands::{Command, RunInput, ScheduleInput};
-use pv_questions::is_turns;
 use std::alloc::{AllocError, Global};
 use std::convert::AsStr;
 use thiserror::Error;
@@ -66,7 +66,7 @@ impl From<ParserError> for LineFault {
 }
 
 /// A parsed command line.
-#[derive(Clone, Copy, Debug, PartialEq, Eq)]
+#[derive(Clone, Copy)]
 pub struct CommandLine<'a> {
     /// The command.
     pub command: Command<'a>,
@@ -94,7 +94,7 @@ fn turns_of(command: Command<'_>) -> Option<&str>
     }
 }
 
-// Returns turns that are no turns, if a command has such.
+// Returns the turns of a command if they are invalid.
 fn faulty_turns(alloc: Global, command: Command<'_>) -> Result<Option<&str>, AllocError>
     ensures { IfOk result (λ turns. AreFaultyTurns command.entry (option_map (λ text. text.now) turns)) }
 {
@@ -107,7 +107,7 @@ fn faulty_turns(alloc: Global, command: Command<'_>) -> Result<Option<&str>, All
     Ok(Some(turns))
 }
 
-// Returns the error for turns that are no turns.
+// Returns the error for invalid turns.
 fn turns_fault(
     alloc: Global,
     parser: &mut Parser<'_>,
@@ -173,26 +173,17 @@ fn no_command(
 }
 
 // Parses the words of a command line.
-fn parsed<'a, S: AsStr>(
-    alloc: Global,
-    words: &'a [S],
-    by_default: bool,
-) -> Result<CommandLine<'a>, LineFault>
+fn parsed<'a, S: AsStr>(alloc: Global, words: &'a [S]) -> Result<CommandLine<'a>, LineFault>
     ensures asked { IfOk result (λ line. IsValidIn (subcommand_of pvsim_app (map S.text words.entry.now)) line.command) }
     ensures verbose { IfOk result (λ line. line.is_verbose
-        ≡ is_verbose_in by_default (matches_of pvsim_app (map S.text words.entry.now)) (subcommand_of pvsim_app (map S.text words.entry.now))) }
+        ≡ is_verbose_in (matches_of pvsim_app (map S.text words.entry.now)) (subcommand_of pvsim_app (map S.text words.entry.now))) }
     ensures refused { IfErr result (RefusesWords (map S.text words.entry.now)) }
 {
     let mut parser = parser(alloc)?;
     let matches = parser.try_get_matches_from_mut(words)?;
     match found_in(&matches) {
         Some(Parsed::Command(command)) => {
-            checked(
-                alloc,
-                &mut parser,
-                command,
-                is_verbose(&matches, by_default),
-            )
+            checked(alloc, &mut parser, command, is_verbose(&matches))
         }
         Some(Parsed::Number) => Err(LineFault::Number),
         None => Err(LineFault::Parser(no_command(alloc, &mut parser, &matches)?)),
@@ -201,7 +192,7 @@ fn parsed<'a, S: AsStr>(
 
 /// Parses the words of a command line. The first word is the name of the program. Without further words, the command is
 /// to run the bundle on the standard input. Otherwise it is the command in the parser's matches of the words, with its
-/// arguments. Errors are explained by default or because of the flag `verbose`, unless the flag `quiet` is set.
+/// arguments. Errors are explained, unless the flag `quiet` is set.
 ///
 /// # Errors
 ///
@@ -212,19 +203,18 @@ fn parsed<'a, S: AsStr>(
 pub fn command_line_of<'a, S: AsStr>(
     alloc: Global,
     words: &'a [S],
-    by_default: bool,
 ) -> Result<CommandLine<'a>, LineFault>
     ensures asked { IfOk result (λ line. IsAsked (map S.text words.entry.now) line.command) }
-    ensures verbose { IfOk result (λ line. line.is_verbose ≡ is_verbose_line by_default (map S.text words.entry.now)) }
+    ensures verbose { IfOk result (λ line. line.is_verbose ≡ is_verbose_line (map S.text words.entry.now)) }
     ensures refused { IfErr result (RefusesLine (map S.text words.entry.now)) }
 {
     if words.len() <= 1 {
         return Ok(CommandLine {
             command: Command::RunTree("-"),
-            is_verbose: by_default,
+            is_verbose: true,
         });
     }
-    parsed(alloc, words, by_default)
+    parsed(alloc, words)
 }
 
 /// Returns the command that the words of a command line ask for. The first word is the name of the program. Without
@@ -237,7 +227,7 @@ pub fn command_of<'a, S: AsStr>(alloc: Global, words: &'a [S]) -> Result<Command
     ensures asked { IfOk result (IsAsked (map S.text words.entry.now)) }
     ensures refused { IfErr result (RefusesLine (map S.text words.entry.now)) }
 {
-    match command_line_of(alloc, words, false) {
+    match command_line_of(alloc, words) {
         Ok(line) => Ok(line.command),
         Err(fault) => Err(fault),
     }

@@ -1,21 +1,23 @@
-//! The explanation of an error for `--verbose`: the file, the reason of the operating system, the line, and its
-//! expected form.
+//! The explanation of an error: the file, the reason of the operating system, the line, and its expected form.
 //!
 //! A contract says only that an explanation is written to the standard error. Each of its lines begins with two spaces.
 ghost use Rattle.std.specs.Prelude.{◌≡◌};
 ghost use Rattle.pv_cli_line.specs.Messages.{WritesMore};
 ghost use Rattle.pv_cli_line.specs.Program.{is_explained};
 
+use crate::kinds::{Kind, has_typographic_quotes, kind_of, push_encoding};
 use crate::lines::{push_line, push_reason, push_shown};
+use crate::names::{Names, names_of};
+use crate::places::{push_path, push_process};
 use crate::readings::{push_directory, push_readings};
-use pv_cli_commands::{
-    Command, CompareInput, Fault, Files, RunInput, ScheduleInput, TextInput, TreeInput,
+use pv_cli_commands::host_copy::{ExportFault, ImportStop};
+use pv_cli_commands::questions::{AskStop, TreeQuestion, Unshown, ask_tree};
+use pv_cli_commands::run::{AuditStop, MigrateStop};
+use pv_cli_commands::{Command, Fault, Files};
+use pv_model::{
+    AuditFault, ImageFault, Layout, ListFault, ManifestFault, MigrateFault, RunFault, Version,
 };
-use pv_host_copy::{ExportFault, ImportStop};
-use pv_model::{ImageFault, Layout, ListFault, ManifestFault, MigrateFault, RunFault, Version};
-use pv_questions::{AskStop, Format, TreeQuestion, Unshown, ask_manifest, ask_tree};
-use pv_run::{AuditStop, MigrateStop};
-use pv_source::{SourceStop, faults_of};
+use pv_source::{Faults, SourceStop, faults_of};
 use pv_streams::{Gathered, SOURCE_BYTES, Sink, read_whole, write_through};
 use pv_text::lines::split_line;
 use std::alloc::{AllocError, Global};
@@ -37,8 +39,16 @@ enum Cause {
     Text(Option<u32>),
     // This line of a schedule.
     Schedule(u32),
-    // An image, a path or a process.
+    // This line of the program of process 1, or 0 if its file is not executable.
+    Init(u16),
+    // An image.
     Image,
+    // The sizes of a new image.
+    Sizes,
+    // A path in a tree.
+    Path(AuditFault),
+    // A process.
+    Process,
     // The entries of a directory that an image cannot hold.
     Entries,
     // The lines of a source, which are already reported.
@@ -58,7 +68,8 @@ fn run_cause(fault: RunFault) -> Cause {
         | RunFault::Manifest(ManifestFault::Memory) => Cause::Nothing,
         RunFault::Image(_) => Cause::Image,
         RunFault::Schedule(line) => Cause::Schedule(line),
-        RunFault::Init(_) | RunFault::Manifest(ManifestFault::Size) => Cause::Text(None),
+        RunFault::Init(line) => Cause::Init(line),
+        RunFault::Manifest(ManifestFault::Size) => Cause::Text(None),
         RunFault::Manifest(
             ManifestFault::Form(line)
             | ManifestFault::Parent(line)
@@ -105,181 +116,11 @@ fn cause_of(fault: Fault) -> Cause {
         ) => Cause::Nothing,
         Fault::Listing(ListFault::Image(_))
         | Fault::Exporting(ExportFault::Image(_))
-        | Fault::Migrating(MigrateStop::Refused(_))
-        | Fault::Auditing(AuditStop::Path(_))
-        | Fault::Asking(AskStop::NoProcess | AskStop::Audited(_) | AskStop::File(_)) => {
-            Cause::Image
-        }
-    }
-}
-
-// The files of a command.
-#[derive(Clone, Copy)]
-struct Names<'a> {
-    // The file of the bundle, the manifest, the source or the image.
-    first: &'a str,
-    // Whether that file is a text.
-    is_text: bool,
-    // Whether that text is a source, which is translated first.
-    is_source: bool,
-    // Whether `-` means the standard input.
-    has_input: bool,
-    // The file of the schedule.
-    schedule: Option<&'a str>,
-    // The file that is written.
-    out: Option<&'a str>,
-}
-
-// Returns the files of a command that reads a text, possibly from the standard input.
-fn text_named<'a>(text: TextInput<'a>, schedule: Option<&'a str>) -> Names<'a> {
-    let (first, is_source) = match text {
-        TextInput::Plain(name) => (name, false),
-        TextInput::Source(name) => (name, true),
-    };
-    Names {
-        first,
-        is_text: true,
-        is_source,
-        has_input: true,
-        schedule,
-        out: None,
-    }
-}
-
-// Returns the files of a command that reads an image.
-fn image_named<'a>(first: &'a str, schedule: Option<&'a str>, out: Option<&'a str>) -> Names<'a> {
-    Names {
-        first,
-        is_text: false,
-        is_source: false,
-        has_input: false,
-        schedule,
-        out,
-    }
-}
-
-// Returns the files of the input of a run.
-fn run_named(run: RunInput<'_>) -> Names<'_> {
-    match run {
-        RunInput::Image { image, schedule } => image_named(image, file_of(schedule), None),
-        RunInput::Bundle(bundle) => text_named(bundle, None),
-        RunInput::Manifest { manifest, schedule } => text_named(manifest, file_of(schedule)),
-    }
-}
-
-// Returns the file of a schedule.
-fn file_of(schedule: ScheduleInput<'_>) -> Option<&str> {
-    match schedule {
-        ScheduleInput::File(name) => Some(name),
-        ScheduleInput::Turns(_) => None,
-    }
-}
-
-// Returns whether the machine on the tree of an input starts.
-fn starts<F: Files>(alloc: Global, files: &F, format: Format, name: &str) -> bool {
-    let Ok(mut reader) = files.open(name) else {
-        return false;
-    };
-    let question = TreeQuestion::Turns { slice: 1, steps: 1 };
-    let mut turns = Gathered::new(alloc);
-    let end = match format {
-        Format::Image => ask_tree(alloc, question, &mut reader, &mut Unshown, &mut turns),
-        Format::Manifest => ask_manifest(alloc, question, &mut reader, &mut Unshown, &mut turns),
-    };
-    end.is_ok()
-}
-
-// Returns the files of a comparison of images. The one at fault comes first.
-fn images_named<'a, F: Files>(
-    alloc: Global,
-    files: &F,
-    first: &'a str,
-    second: &'a str,
-) -> Names<'a> {
-    if starts(alloc, files, Format::Image, first) {
-        image_named(second, Some(first), None)
-    } else {
-        image_named(first, Some(second), None)
-    }
-}
-
-// Returns the files of a comparison of bundles. The one at fault comes first.
-fn bundles_named<'a, F: Files>(
-    alloc: Global,
-    files: &F,
-    first: &'a str,
-    second: &'a str,
-) -> Names<'a> {
-    if first == "-" && starts(alloc, files, Format::Manifest, second) {
-        return text_named(TextInput::Plain(first), Some(second));
-    }
-    if first == "-" {
-        return text_named(TextInput::Plain(second), None);
-    }
-    if starts(alloc, files, Format::Manifest, first) {
-        return text_named(TextInput::Plain(second), Some(first));
-    }
-    let other = if second == "-" { None } else { Some(second) };
-    text_named(TextInput::Plain(first), other)
-}
-
-// Returns the files of a command.
-fn names_of<'a, F: Files>(alloc: Global, files: &F, command: Command<'a>) -> Names<'a> {
-    match command {
-        Command::Compare {
-            inputs: CompareInput::Images { first, second },
-            ..
-        } => images_named(alloc, files, first, second),
-        Command::Compare {
-            inputs: CompareInput::Bundles { first, second },
-            ..
-        } => bundles_named(alloc, files, first, second),
-        Command::RunTree(name) | Command::WriteSource { source: name, .. } => text_named(
-            TextInput::Plain(name),
-            None,
-        ),
-        Command::AskTree {
-            tree: TreeInput::Manifest(manifest),
-            ..
-        } => text_named(manifest, None),
-        Command::MakeImage { manifest, image } => Names {
-            has_input: false,
-            out: Some(image),
-            ..text_named(TextInput::Plain(manifest), None)
-        },
-        Command::ListImage(image)
-        | Command::AskTree {
-            tree: TreeInput::Image(image),
-            ..
-        } => image_named(image, None, None),
-        Command::RunImage {
-            image,
-            schedule,
-            out,
-        } => image_named(image, Some(schedule), Some(out)),
-        Command::ImportDirectory {
-            directory,
-            image,
-            ..
-        } => image_named(directory, None, Some(image)),
-        Command::MigrateImage { image, out, .. } => image_named(image, None, Some(out)),
-        Command::ExportImage { image, directory } => image_named(image, None, Some(directory)),
-        Command::AuditImage {
-            image,
-            schedule,
-            ..
-        } => image_named(image, Some(schedule), None),
-        Command::Ask { run, .. } => run_named(run),
-    }
-}
-
-impl<'a> Names<'a> {
-    // Returns the first file, or `None` if it is the standard input.
-    fn first_file(self) -> Option<&'a str> {
-        if self.has_input && self.first == "-" {
-            return None;
-        }
-        Some(self.first)
+        | Fault::Migrating(MigrateStop::Refused(MigrateFault::Image(_))) => Cause::Image,
+        Fault::Migrating(MigrateStop::Refused(MigrateFault::Small)) => Cause::Sizes,
+        Fault::Auditing(AuditStop::Path(fault))
+        | Fault::Asking(AskStop::Audited(fault) | AskStop::File(fault)) => Cause::Path(fault),
+        Fault::Asking(AskStop::NoProcess) => Cause::Process,
     }
 }
 
@@ -294,25 +135,17 @@ fn line_at(text: &[u8], number: u32) -> Option<&[u8]> {
     Some(line)
 }
 
-// Returns the bytes of a file, if it can be read.
+// Returns the bytes of a file, if it can be read again.
 fn bytes_of<F: Files>(alloc: Global, files: &F, name: &str) -> Option<Vec<u8>> {
+    if !files.is_regular(name) {
+        return None;
+    }
     let mut reader = files.open(name).ok()?;
     read_whole(alloc, &mut reader).ok()
 }
 
 // The message for a bundle that ends before its schedule.
 const UNSCHEDULED: &str = "the line 'schedule' is missing; expected it and a schedule below it";
-
-// Returns whether a line of a text ends in CR LF.
-fn has_crlf(text: &[u8]) -> bool {
-    text.windows(2).any(|pair| pair == b"\r\n".as_slice())
-}
-
-// Appends that the lines of a text end in CR LF.
-fn push_crlf(alloc: Global, out: &mut Vec<u8>, name: &str) -> Result<(), AllocError> {
-    let line = format!(in alloc; "{name}: the lines end in CR LF; use LF")?;
-    push_line(out, line.as_str())
-}
 
 // Returns the message for a line that only a source may have, or for a text that ends before the line.
 fn wanted_of(shown: Option<&[u8]>) -> &'static str {
@@ -342,6 +175,35 @@ fn push_named(
     }
 }
 
+// Appends the first of the lines in error that has typographic quotation marks, if there is one.
+fn push_quotes(
+    alloc: Global,
+    out: &mut Vec<u8>,
+    name: &str,
+    text: &[u8],
+    faults: &Faults,
+) -> Result<(), AllocError> {
+    for fault in faults.reported() {
+        let line = fault.line;
+        if has_typographic_quotes(line_at(text, line).unwrap_or(b"")) {
+            let change = "typographic quotes; write '\"' and save as UTF-8 without BOM";
+            return push_line(out, format!(in alloc; "{name}:{line}: {change}")?.as_str());
+        }
+    }
+    Ok(())
+}
+
+// Returns the lines in error of a text, at most twenty, or none if the text is too long.
+fn faults_in(alloc: Global, text: &[u8]) -> Result<Faults, AllocError> {
+    if text.len() > SOURCE_BYTES {
+        return Ok(Faults::new(alloc));
+    }
+    match faults_of(alloc, text) {
+        Ok(faults) => Ok(faults),
+        Err(_) => Err(AllocError),
+    }
+}
+
 // Appends the lines in error of a text, each with its expected form. The line that the error names comes first, if a
 // source may have it.
 fn push_faults(
@@ -351,12 +213,7 @@ fn push_faults(
     text: &[u8],
     named: Option<u32>,
 ) -> Result<(), AllocError> {
-    if text.len() > SOURCE_BYTES {
-        return push_line(out, name);
-    }
-    let Ok(faults) = faults_of(alloc, text) else {
-        return Err(AllocError);
-    };
+    let faults = faults_in(alloc, text)?;
     match named {
         Some(line) if !faults.reported().iter().any(|fault| fault.line == line) => {
             push_named(alloc, out, name, text, line)?;
@@ -373,7 +230,49 @@ fn push_faults(
             push_shown(alloc, out, shown)?;
         }
     }
-    Ok(())
+    push_quotes(alloc, out, name, text, &faults)
+}
+
+// Appends that a file is of another kind than expected, and returns whether it is.
+fn push_kind(
+    alloc: Global,
+    out: &mut Vec<u8>,
+    name: &str,
+    kind: Kind,
+    wanted: &str,
+    hint: &str,
+) -> Result<bool, AllocError> {
+    let Some(words) = kind.words() else {
+        return Ok(false);
+    };
+    let hint = if matches!(kind, Kind::Image | Kind::Manifest) {
+        hint
+    } else {
+        ""
+    };
+    push_line(
+        out,
+        format!(in alloc; "{name}: {words}: expected {wanted}{hint}")?.as_str(),
+    )?;
+    Ok(true)
+}
+
+// Appends that a text is of another kind or encoding than expected, and returns whether it is.
+fn push_unlike(
+    alloc: Global,
+    out: &mut Vec<u8>,
+    names: &Names<'_>,
+    name: &str,
+    text: &[u8],
+) -> Result<bool, AllocError> {
+    let kind = kind_of(alloc, text)?;
+    if kind == Kind::Manifest {
+        return push_encoding(alloc, out, name, text);
+    }
+    if push_kind(alloc, out, name, kind, names.wanted, names.hint)? {
+        return Ok(true);
+    }
+    push_encoding(alloc, out, name, text)
 }
 
 // Appends the explanation of an error in a text.
@@ -393,11 +292,13 @@ fn push_text<F: Files>(
     if names.is_source && named.is_some() {
         return push_line(out, format!(in alloc; "{name}: {UNSCHEDULED}")?.as_str());
     }
-    match bytes_of(alloc, files, name) {
-        Some(bytes) if has_crlf(&bytes) => push_crlf(alloc, out, name),
-        Some(bytes) => push_faults(alloc, out, name, &bytes, named),
-        None => push_line(out, name),
+    let Some(bytes) = bytes_of(alloc, files, name) else {
+        return push_line(out, name);
+    };
+    if push_unlike(alloc, out, names, name, &bytes)? {
+        return Ok(());
     }
+    push_faults(alloc, out, name, &bytes, named)
 }
 
 // Appends the explanation of an error in a source whose lines in error are already reported.
@@ -410,10 +311,13 @@ fn push_source<F: Files>(
     let Some(name) = names.first_file() else {
         return Ok(());
     };
-    match bytes_of(alloc, files, name) {
-        Some(bytes) if has_crlf(&bytes) => push_crlf(alloc, out, name),
-        _ => Ok(()),
+    let Some(bytes) = bytes_of(alloc, files, name) else {
+        return Ok(());
+    };
+    if push_unlike(alloc, out, names, name, &bytes)? {
+        return Ok(());
     }
+    push_quotes(alloc, out, name, &bytes, &faults_in(alloc, &bytes)?)
 }
 
 // Appends the explanation of an error in a line of a schedule.
@@ -424,9 +328,14 @@ fn push_turn<F: Files>(
     name: &str,
     line: u32,
 ) -> Result<(), AllocError> {
-    let bytes = bytes_of(alloc, files, name).unwrap_or(Vec::new(alloc));
-    if has_crlf(&bytes) {
-        return push_crlf(alloc, out, name);
+    let Some(bytes) = bytes_of(alloc, files, name) else {
+        return push_line(out, format!(in alloc; "{name}:{line}")?.as_str());
+    };
+    let kind = kind_of(alloc, &bytes)?;
+    if push_kind(alloc, out, name, kind, "a schedule", "")?
+        || push_encoding(alloc, out, name, &bytes)?
+    {
+        return Ok(());
     }
     let wanted =
         "expected PID or PID COUNT, each from 1 to 99999, with one blank between, on at most 65536 lines";
@@ -435,6 +344,93 @@ fn push_turn<F: Files>(
         Some(shown) => push_shown(alloc, out, shown),
         None => Ok(()),
     }
+}
+
+// Returns the bytes of `/init` in an image, if the image can be read again and has that file.
+fn init_of<F: Files>(alloc: Global, files: &F, name: &str) -> Option<Vec<u8>> {
+    if !files.is_regular(name) {
+        return None;
+    }
+    let mut reader = files.open(name).ok()?;
+    let mut init = Gathered::new(alloc);
+    let question = TreeQuestion::File(b"/init");
+    ask_tree(alloc, question, &mut reader, &mut Unshown, &mut init).ok()?;
+    Some(init.bytes)
+}
+
+// Appends the explanation of an error in the program of process 1: in a text, or in the file `/init` of an image.
+fn push_init<F: Files>(
+    alloc: Global,
+    out: &mut Vec<u8>,
+    files: &F,
+    names: &Names<'_>,
+    line: u16,
+) -> Result<(), AllocError> {
+    if names.is_text {
+        return push_text(alloc, out, files, names, None);
+    }
+    let name = names.first;
+    if line == 0 {
+        let what = "'/init' is not an executable file";
+        return push_line(out, format!(in alloc; "{name}: {what}")?.as_str());
+    }
+    let what = format!(in alloc;
+        "line {line} of '/init': expected an instruction, on at most 256 lines"
+    )?;
+    let what = what.as_str();
+    push_line(out, format!(in alloc; "{name}: {what}")?.as_str())?;
+    let Some(init) = init_of(alloc, files, name) else {
+        return Ok(());
+    };
+    match line_at(&init, u32::from(line)) {
+        Some(shown) => push_shown(alloc, out, shown),
+        None => Ok(()),
+    }
+}
+
+// Appends the explanation of an error in an image.
+fn push_image<F: Files>(
+    alloc: Global,
+    out: &mut Vec<u8>,
+    files: &F,
+    names: &Names<'_>,
+    command: Command<'_>,
+) -> Result<(), AllocError> {
+    let name = names.first;
+    let Some(bytes) = bytes_of(alloc, files, name) else {
+        return push_line(out, name);
+    };
+    let kind = kind_of(alloc, &bytes)?;
+    let is_later = bytes.starts_with(Version::V2.magic());
+    let what = match kind {
+        Kind::Image if is_later && matches!(command, Command::MigrateImage { .. }) => {
+            "this is an image of version 2: expected one of version 1"
+        }
+        Kind::Image => "this image is damaged: expected one that pvsim wrote",
+        Kind::Other => "expected an image, which begins with PVIMAGE1 or PVIMAGE2",
+        _ => {
+            let _is_pushed = push_kind(alloc, out, name, kind, names.wanted, names.hint)?;
+            return Ok(());
+        }
+    };
+    push_line(out, format!(in alloc; "{name}: {what}")?.as_str())
+}
+
+// Appends the explanation of sizes that a new image cannot have.
+fn push_sizes(alloc: Global, out: &mut Vec<u8>, command: Command<'_>) -> Result<(), AllocError> {
+    let Command::MigrateImage {
+        image,
+        blocks,
+        inodes,
+        ..
+    } = command
+    else {
+        return Ok(());
+    };
+    let line = format!(in alloc;
+        "BLOCKS {blocks}, INODES {inodes}: expected at most 65535 and at most 4096, not fewer inodes than {image}, and room for its tree"
+    )?;
+    push_line(out, line.as_str())
 }
 
 // Appends what an image of this version holds, and, for version 1, the option for version 2.
@@ -469,6 +465,32 @@ fn push_ways_out(alloc: Global, out: &mut Vec<u8>, command: Command<'_>) -> Resu
     )
 }
 
+// Appends the explanation of an error in what a command reads.
+fn push_input<F: Files>(
+    alloc: Global,
+    out: &mut Vec<u8>,
+    files: &F,
+    names: &Names<'_>,
+    command: Command<'_>,
+    cause: Cause,
+) -> Result<(), AllocError> {
+    match cause {
+        Cause::Reading => push_readings(alloc, out, files, names.first_file(), names.schedule),
+        Cause::Directory => push_directory(alloc, out, files, names.first),
+        Cause::Text(named) => push_text(alloc, out, files, names, named),
+        Cause::Schedule(line) => match names.schedule {
+            Some(name) => push_turn(alloc, out, files, name, line),
+            None => push_text(alloc, out, files, names, None),
+        },
+        Cause::Init(line) => push_init(alloc, out, files, names, line),
+        Cause::Image => push_image(alloc, out, files, names, command),
+        Cause::Path(fault) => push_path(alloc, out, command, names.first_words(), fault),
+        Cause::Process => push_process(alloc, out, command, names.first_words()),
+        Cause::Source => push_source(alloc, out, files, names),
+        _ => Ok(()),
+    }
+}
+
 // Returns the explanation of an error of a command.
 fn explanation<F: Files>(
     alloc: Global,
@@ -478,35 +500,18 @@ fn explanation<F: Files>(
 ) -> Result<Vec<u8>, AllocError> {
     let names = &names_of(alloc, files, command);
     let mut out = Vec::new(alloc);
-    match cause {
-        Cause::Reading => {
-            push_readings(alloc, &mut out, files, names.first_file(), names.schedule)?;
+    match (cause, names.out) {
+        (Cause::Writing, Some(name)) => {
+            push_reason(alloc, &mut out, name, files.write_reason(alloc, name))?;
         }
-        Cause::Writing => {
-            if let Some(name) = names.out {
-                push_reason(alloc, &mut out, name, files.write_reason(alloc, name))?;
-            }
+        (Cause::Target, Some(name)) => {
+            let wanted = "expected a directory that is empty or does not exist";
+            push_line(&mut out, format!(in alloc; "{name}: {wanted}")?.as_str())?;
         }
-        Cause::Target => {
-            if let Some(name) = names.out {
-                let wanted = "expected a directory that is empty or does not exist";
-                push_line(&mut out, format!(in alloc; "{name}: {wanted}")?.as_str())?;
-            }
-        }
-        Cause::Output => push_line(&mut out, "standard output")?,
-        Cause::Text(named) => push_text(alloc, &mut out, files, names, named)?,
-        Cause::Schedule(line) => match names.schedule {
-            Some(name) => push_turn(alloc, &mut out, files, name, line)?,
-            None => push_text(alloc, &mut out, files, names, None)?,
-        },
-        Cause::Directory => push_directory(alloc, &mut out, files, names.first)?,
-        Cause::Image => match names.first_file() {
-            Some(name) => push_line(&mut out, name)?,
-            None => push_line(&mut out, "standard input")?,
-        },
-        Cause::Entries => push_ways_out(alloc, &mut out, command)?,
-        Cause::Source => push_source(alloc, &mut out, files, names)?,
-        Cause::Nothing => {}
+        (Cause::Output, _) => push_line(&mut out, "standard output")?,
+        (Cause::Entries, _) => push_ways_out(alloc, &mut out, command)?,
+        (Cause::Sizes, _) => push_sizes(alloc, &mut out, command)?,
+        _ => push_input(alloc, &mut out, files, names, command, cause)?,
     }
     Ok(out)
 }

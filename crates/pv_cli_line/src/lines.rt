@@ -21,10 +21,32 @@ pub(crate) fn push_bytes(alloc: Global, out: &mut Vec<u8>, bytes: &[u8]) -> Resu
     Ok(())
 }
 
-// Appends a line of a text.
+// The maximum length of an excerpt, in bytes as it is shown.
+const EXCERPT: usize = 60;
+
+// Appends an excerpt of bytes of the input: all of them, or the first with `...` in place of the rest.
+pub(crate) fn push_excerpt(
+    alloc: Global,
+    out: &mut Vec<u8>,
+    bytes: &[u8],
+) -> Result<(), AllocError> {
+    let mut shown = Vec::new(alloc);
+    for byte in bytes {
+        let mut more = Vec::new(alloc);
+        push_bytes(alloc, &mut more, &[*byte])?;
+        if shown.len().saturating_add(more.len()) > EXCERPT {
+            out.extend_from_slice(&shown)?;
+            return out.extend_from_slice(b"...");
+        }
+        shown.extend_from_slice(&more)?;
+    }
+    out.extend_from_slice(&shown)
+}
+
+// Appends an excerpt of a line of a text.
 pub(crate) fn push_shown(alloc: Global, out: &mut Vec<u8>, line: &[u8]) -> Result<(), AllocError> {
     out.extend_from_slice(b"  ")?;
-    push_bytes(alloc, out, line)?;
+    push_excerpt(alloc, out, line)?;
     out.extend_from_slice(b"\n")
 }
 

@@ -1,17 +1,17 @@
 //! The command in the matches of the parser.
 ghost use Rattle.std.specs.Prelude.{◌≡◌, ◌⊎◌, ℕ, List, codes, Option, None, Some, IfSome};
 ghost use Rattle.clap.specs.Words.{subcommand_rows_of as entered};
-ghost use Rattle.pv_cli_line.specs.Line.{AreComparedIn, AreMigrationTextsIn, HasFlags, HasTexts, IsCommandIn, IsCommandOf, IsFoundIn, IsMigrationOf, IsPlain, IsQuestionIn, IsRunIn, IsTracedIn, IsTracedTextIn, IsTreeIn, IsValidRunIn, IsValidTreeIn, IsWithoutNumbers, Never, NeverBoth, entered_text, kind_entered, output_entered, question_name, search_name, size_in};
+ghost use Rattle.pv_cli_line.specs.Line.{AreComparedIn, AreMigrationTextsIn, HasFlags, HasTexts, IsCommandIn, IsCommandOf, IsFoundIn, IsMigrationOf, IsPlain, IsQuestionIn, IsRunIn, IsTracedIn, IsTracedTextIn, IsTreeIn, IsValidRunIn, IsValidTreeIn, IsWithoutNumbers, Never, NeverBoth, entered_text, errors_entered, kind_entered, output_entered, question_name, search_name, size_in};
 
 use crate::texts::{
     RunTexts, TreeTexts, count_of, is_flag_given, run_in, run_texts_in, size_of, states_of,
     text_of, tree_in, tree_texts_in, version_of,
 };
 use clap::ArgMatches;
+use pv_cli_commands::questions::{Question, RunQuestion, Search, SearchKind, TreeQuestion};
 use pv_cli_commands::{
     Command, CompareInput, Output, RunInput, ScheduleInput, TextInput, TreeInput,
 };
-use pv_questions::{Question, RunQuestion, Search, SearchKind, TreeQuestion};
 
 // Returns the `mkimg` command, if the matches are of it.
 fn make_image_in<'a>(matches: &ArgMatches<'a>) -> Option<Command<'a>>
@@ -121,7 +121,7 @@ fn name_of(question: Question<'_>) -> &'static str
     }
 }
 
-// Returns the command of the trace of a whole run. That of a bundle that is no source is a command of its own.
+// Returns the command of the trace of a whole run. The trace of a plain bundle is a command of its own.
 fn whole_trace<'a>(question: RunQuestion<'a>, run: RunInput<'a>) -> Command<'a>
     requires trace { question.question ≡ Question.Trace }
     requires whole { question.steps ≡ None }
@@ -260,11 +260,15 @@ fn needs_in<'a>(matches: &ArgMatches<'a>) -> Option<Parsed<'a>>
     ensures none { result ≡ None → Never (IsValidRunIn (entered matches.now) (codes "needs")) }
 {
     let run = run_in(matches, "needs")?;
-    let question = Question::Needs {
-        granted: is_flag_given(matches, "needs", "granted"),
-        lines: is_flag_given(matches, "needs", "lines"),
-    };
-    Some(with_steps(matches, question, run))
+    let granted = is_flag_given(matches, "needs", "granted");
+    Some(with_steps(matches, Question::Needs { granted }, run))
+}
+
+// Returns whether the reasons of errors are written: they are, unless `brief` is given without `errors`.
+fn are_errors_explained(matches: &ArgMatches<'_>) -> bool
+    ensures { result ≡ errors_entered (entered matches.now) }
+{
+    is_flag_given(matches, "explain", "errors") || !is_flag_given(matches, "explain", "brief")
 }
 
 // Returns the `explain` command, if the matches are of it.
@@ -273,7 +277,7 @@ fn explain_in<'a>(matches: &ArgMatches<'a>) -> Option<Parsed<'a>>
     ensures none { result ≡ None → Never (IsValidRunIn (entered matches.now) (codes "explain")) }
 {
     let run = run_in(matches, "explain")?;
-    let errors = is_flag_given(matches, "explain", "errors");
+    let errors = are_errors_explained(matches);
     Some(with_steps(matches, Question::Explain { errors }, run))
 }
 
@@ -354,7 +358,7 @@ fn name_of_search(search: Search) -> &'static str
         Search::Explore(_) => "explore",
         Search::Access(_) => "access",
         Search::Exposure(_) => "exposure",
-        Search::Policy(_) => "policy",
+        Search::Policy { .. } => "policy",
         Search::Graph { .. } => "graph",
     }
 }
@@ -404,7 +408,10 @@ fn search_in<'a>(matches: &ArgMatches<'a>) -> Option<Parsed<'a>>
     if let Some(found) = search_by(matches, exposure) {
         return Some(found);
     }
-    let policy = Search::Policy(kind_in(matches, "policy"));
+    let policy = Search::Policy {
+        kind: kind_in(matches, "policy"),
+        granted: is_flag_given(matches, "policy", "granted"),
+    };
     if let Some(found) = search_by(matches, policy) {
         return Some(found);
     }

@@ -1,7 +1,7 @@
 //! The explanation of a numeric argument that is not a number: its name, the word, and its expected form.
 ghost use Rattle.pv_cli_line.specs.Messages.{WritesMore};
 
-use crate::lines::push_bytes;
+use crate::lines::push_excerpt;
 use crate::parser::parser;
 use crate::texts::{RunTexts, count_of, is_verbose, run_texts_in, size_of, states_of, version_of};
 use clap::ArgMatches;
@@ -127,22 +127,18 @@ fn faulty_in<'a>(matches: &ArgMatches<'a>) -> Option<Faulty<'a>> {
 fn push_faulty(alloc: Global, out: &mut Vec<u8>, faulty: Faulty<'_>) -> Result<(), AllocError> {
     let Faulty { shown, word, form } = faulty;
     out.extend_from_slice(format!(in alloc; "  {shown} '")?.as_bytes())?;
-    push_bytes(alloc, out, word.as_bytes())?;
+    push_excerpt(alloc, out, word.as_bytes())?;
     let wanted = form.words();
     out.extend_from_slice(format!(in alloc; "': {wanted}\n")?.as_bytes())
 }
 
 // Returns the explanation of a numeric argument that is not a number, if the words ask for one.
-fn explanation<S: AsStr>(
-    alloc: Global,
-    words: &[S],
-    by_default: bool,
-) -> Result<Vec<u8>, AllocError> {
+fn explanation<S: AsStr>(alloc: Global, words: &[S]) -> Result<Vec<u8>, AllocError> {
     let mut out = Vec::new(alloc);
     let Ok(matches) = parser(alloc)?.try_get_matches_from_mut(words) else {
         return Ok(out);
     };
-    if !is_verbose(&matches, by_default) {
+    if !is_verbose(&matches) {
         return Ok(out);
     }
     if let Some(faulty) = faulty_in(&matches) {
@@ -154,15 +150,10 @@ fn explanation<S: AsStr>(
 // Writes the explanation of a numeric argument that is not a number, if the words ask for one. If there is no memory or
 // a write fails, nothing more is written.
 #[tactic(auto, using(crate::proofs::Messages::more_written, crate::proofs::Messages::more_nothing))]
-pub(crate) fn explain_number<S: AsStr, E: Sink>(
-    alloc: Global,
-    words: &[S],
-    by_default: bool,
-    errors: &mut E,
-)
+pub(crate) fn explain_number<S: AsStr, E: Sink>(alloc: Global, words: &[S], errors: &mut E)
     ensures { WritesMore E.Sink errors.old errors.new }
 {
-    let Ok(text) = explanation(alloc, words, by_default) else {
+    let Ok(text) = explanation(alloc, words) else {
         return;
     };
     let _written = write_through(errors, &text);

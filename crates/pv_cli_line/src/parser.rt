@@ -38,25 +38,26 @@ enum Argument {
 
 use Argument::{Flag, Named, Optional, Renamed, Required};
 
-// A command: its name, its help, and its arguments in order.
+// A command: its name, its help, the example at the end of its help, and its arguments in order.
 struct CommandRow {
     name: &'static str,
     about: &'static str,
+    example: &'static str,
     arguments: &'static [Argument],
 }
 
-// The flag that asks for an explanation of errors. It may be given before or after the name of a command.
+// The flag that once asked for an explanation of errors. It may be given before or after the name of a command.
 const VERBOSE: Argument = Flag {
     name: "verbose",
     short: Some('v'),
-    help: "explain an error: the file, the system's reason, the line and the expected form",
+    help: "explain an error, which is the default",
 };
 
 // The flag that turns explanations off. It may be given before or after the name of a command.
 const QUIET: Argument = Flag {
     name: "quiet",
     short: Some('q'),
-    help: "do not explain an error; without -q it is explained if standard error is a terminal",
+    help: "do not explain an error; without -q the file, the system's reason, the line and the expected form follow it",
 };
 
 // The option that names a bundle, in place of an image and a schedule.
@@ -133,11 +134,19 @@ const REDUCED: Argument = Flag {
     help: "visit fewer states: identify those that differ only in numbers of open files and in values that are never read, and make steps on registers together",
 };
 
+// The flag of a question about needs that leaves refused calls out.
+const GRANTED: Argument = Flag {
+    name: "granted",
+    short: None,
+    help: "leave out the calls that a promise or an unveil table refused",
+};
+
 // The commands on a tree and on one run, in the order in which the help lists them.
 const RUNS: &[CommandRow] = &[
     CommandRow {
         name: "run-tree",
         about: "Run a bundle and write its trace",
+        example: "Example, with the files of examples/:\n  pvsim run-tree motd.bundle",
         arguments: &[
             Flag {
                 name: "source",
@@ -155,6 +164,7 @@ const RUNS: &[CommandRow] = &[
     CommandRow {
         name: "source",
         about: "Convert a source to a manifest or bundle, or report its errors",
+        example: "Example, with the files of examples/:\n  pvsim source sources/motd",
         arguments: &[
             Required(
                 "FILE",
@@ -170,6 +180,7 @@ const RUNS: &[CommandRow] = &[
     CommandRow {
         name: "mkimg",
         about: "Make an image from a manifest",
+        example: "Example, with the files of examples/:\n  pvsim mkimg motd.manifest image",
         arguments: &[
             Required(
                 "MANIFEST",
@@ -181,11 +192,13 @@ const RUNS: &[CommandRow] = &[
     CommandRow {
         name: "ls",
         about: "List the tree of an image",
+        example: "Example, with the files of examples/:\n  pvsim ls -b motd.bundle",
         arguments: &[BUNDLE, SOURCE, IMAGE],
     },
     CommandRow {
         name: "run",
         about: "Run an image under a schedule, and write the trace and the final image",
+        example: "Example, with the files of examples/:\n  pvsim run image motd.schedule out",
         arguments: &[
             Required("IMAGE", "the image"),
             Required("SCHEDULE", "the schedule: the turns of the processes"),
@@ -195,6 +208,7 @@ const RUNS: &[CommandRow] = &[
     CommandRow {
         name: "audit",
         about: "Run an image under a schedule, and report which files are sealed",
+        example: "Example, with the files of examples/:\n  pvsim audit -b sealed.bundle",
         arguments: &[
             BUNDLE,
             SOURCE,
@@ -213,11 +227,13 @@ const RUNS: &[CommandRow] = &[
     CommandRow {
         name: "state",
         about: "Run an image under a schedule, and print the state of each process",
+        example: "Example, with the files of examples/:\n  pvsim state -b privsep.bundle --steps 9",
         arguments: &[BUNDLE, SOURCE, BY, FIRST, IMAGE, SCHEDULE],
     },
     CommandRow {
         name: "reach",
         about: "Run an image under a schedule, and print the operations that each process may perform at each place",
+        example: "Example, with the files of examples/:\n  pvsim reach -b daemon.bundle",
         arguments: &[
             BUNDLE,
             SOURCE,
@@ -231,6 +247,7 @@ const RUNS: &[CommandRow] = &[
     CommandRow {
         name: "explain",
         about: "Run an image under a schedule, and write the trace with the reason for each result",
+        example: "Example, with the files of examples/:\n  pvsim explain -b error.bundle",
         arguments: &[
             BUNDLE,
             SOURCE,
@@ -241,35 +258,25 @@ const RUNS: &[CommandRow] = &[
             Flag {
                 name: "errors",
                 short: None,
-                help: "also say why each call failed that neither a promise nor an unveil table refused",
+                help: "say why each call failed that neither a promise nor an unveil table refused: the default, unless --brief is given",
+            },
+            Flag {
+                name: "brief",
+                short: None,
+                help: "say why a call failed only if a promise or an unveil table refused it",
             },
         ],
     },
     CommandRow {
         name: "needs",
         about: "Run an image under a schedule, and print the promises and paths that each program used",
-        arguments: &[
-            BUNDLE,
-            SOURCE,
-            BY,
-            FIRST,
-            IMAGE,
-            SCHEDULE,
-            Flag {
-                name: "granted",
-                short: None,
-                help: "leave out the calls that a promise or an unveil table refused",
-            },
-            Flag {
-                name: "lines",
-                short: None,
-                help: "print the unveil and pledge calls for each program, in C and in the format of programs",
-            },
-        ],
+        example: "Example, with the files of examples/:\n  pvsim needs -b motd.bundle",
+        arguments: &[BUNDLE, SOURCE, BY, FIRST, IMAGE, SCHEDULE, GRANTED],
     },
     CommandRow {
         name: "cat",
         about: "Write the contents of a file in an image",
+        example: "Example, with the files of examples/:\n  pvsim cat -b motd.bundle /etc/motd",
         arguments: &[
             BUNDLE,
             SOURCE,
@@ -280,6 +287,7 @@ const RUNS: &[CommandRow] = &[
     CommandRow {
         name: "turns",
         about: "Write a schedule that runs the processes of an image in turn",
+        example: "Example, with the files of examples/:\n  pvsim turns -b privsep.bundle --slice 3",
         arguments: &[
             BUNDLE,
             SOURCE,
@@ -305,31 +313,37 @@ const SEARCHES: &[CommandRow] = &[
     CommandRow {
         name: "explore",
         about: "Print everything that can happen under any schedule of an image, each with a shortest schedule",
+        example: "Example, with the files of examples/:\n  pvsim explore -b race-first.bundle",
         arguments: &[BUNDLE, SOURCE, IMAGE, STATES, REDUCED],
     },
     CommandRow {
         name: "access",
         about: "Print which process can access which file under any schedule, each with a shortest schedule",
+        example: "Example, with the files of examples/:\n  pvsim access -b race-first.bundle",
         arguments: &[BUNDLE, SOURCE, IMAGE, STATES, REDUCED],
     },
     CommandRow {
         name: "exposure",
         about: "Print at which lines of each program a process could still reach each file, whatever it called next",
+        example: "Example, with the files of examples/:\n  pvsim exposure -b privsep.bundle",
         arguments: &[BUNDLE, SOURCE, IMAGE, STATES, REDUCED],
     },
     CommandRow {
         name: "policy",
         about: "Print the promises and permissions that each program needs under any schedule, and those that it never uses",
-        arguments: &[BUNDLE, SOURCE, IMAGE, STATES, REDUCED],
+        example: "Example, with the files of examples/:\n  pvsim policy -b daemon.bundle",
+        arguments: &[BUNDLE, SOURCE, IMAGE, STATES, REDUCED, GRANTED],
     },
     CommandRow {
         name: "compare",
         about: "Say whether two images let the same happen under any schedule, calls of pledge and unveil aside",
+        example: "Example, with the files of examples/:\n  pvsim compare -b motd.bundle motd.manifest",
         arguments: &[FIRST_BUNDLE, FIRST_IMAGE, OTHER, PAIRS],
     },
     CommandRow {
         name: "graph",
         about: "Write the states that an image can reach under any schedule, and the steps between them",
+        example: "Example, with the files of examples/:\n  pvsim graph -b race-first.bundle",
         arguments: &[
             BUNDLE,
             SOURCE,
@@ -345,6 +359,7 @@ const SEARCHES: &[CommandRow] = &[
     CommandRow {
         name: "migrate",
         about: "Convert an image from version 1 to version 2, and keep the inode numbers",
+        example: "Example, with the files of examples/:\n  pvsim migrate image larger 1024 256",
         arguments: &[
             Required("IMAGE", "an image of version 1"),
             Required("OUT", "the image file to write"),
@@ -361,6 +376,7 @@ const SEARCHES: &[CommandRow] = &[
     CommandRow {
         name: "import",
         about: "Make an image from a host directory: directories, files, symbolic links and hard links",
+        example: "Example, with the files of examples/:\n  pvsim import . image --image-version 2",
         arguments: &[
             Required("DIR", "the host directory"),
             Required("IMAGE", "the image file to write"),
@@ -380,6 +396,7 @@ const SEARCHES: &[CommandRow] = &[
     CommandRow {
         name: "export",
         about: "Make a host directory from an image: directories, files, symbolic links and hard links",
+        example: "Example, with the files of examples/:\n  pvsim export image tree",
         arguments: &[
             Required("IMAGE", "the image"),
             Required(
@@ -461,7 +478,9 @@ fn with_flags<'a>(alloc: Global, parser: Parser<'a>) -> Result<Parser<'a>, Alloc
 fn command_parser<'a>(alloc: Global, row: &CommandRow) -> Result<Parser<'a>, AllocError>
     ensures { IfOk result (IsParserOf (app_of_row row.now)) }
 {
-    let bare = Parser::new(alloc, row.name).about(row.about);
+    let bare = Parser::new(alloc, row.name)
+        .about(row.about)
+        .after_help(row.example);
     let mut parser = with_flags(alloc, bare)?;
     for argument in row.arguments {
         parser = parser.arg(argument_of(alloc, argument)?)?;

@@ -66,12 +66,11 @@ fn report_all<F: Files + Drop, I: Drop, O: Sink + Drop, E: Sink + Drop>(
     status
 }
 
-// Reports an error in the command line, with the word that is not a number if an explanation is requested, and returns
-// the exit status.
+// Reports an error in the command line, with the word that is not a number unless the words have the flag `quiet`, and
+// returns the exit status.
 fn report_words<S: AsStr, F: Drop, I: Drop, O: Sink + Drop, E: Sink + Drop>(
     alloc: Global,
     words: &[S],
-    by_default: bool,
     fault: LineFault,
     system: &mut HostSystem<F, I, O, E>,
 ) -> u8
@@ -81,7 +80,7 @@ fn report_words<S: AsStr, F: Drop, I: Drop, O: Sink + Drop, E: Sink + Drop>(
     let is_number = fault.is_number();
     let status = report(&Fault::Line(fault), system);
     if is_number {
-        explain_number(alloc, words, by_default, &mut system.errors);
+        explain_number(alloc, words, &mut system.errors);
     }
     status
 }
@@ -90,9 +89,8 @@ fn report_words<S: AsStr, F: Drop, I: Drop, O: Sink + Drop, E: Sink + Drop>(
 /// a person, and returns the exit status.
 ///
 /// The status is 0 on success and after help or the version, 1 if the input is invalid, 2 for an error in the command
-/// line, 3 if there is no memory, 4 if a read or a write fails, and 5 if a search left a state out. By default, or if the
-/// words have the flag `verbose`, and if they do not have the flag `quiet`, an error is explained in lines that begin
-/// with two spaces. If the standard output had nothing buffered and the status is not 4, it has nothing buffered
+/// line, 3 if there is no memory, 4 if a read or a write fails, and 5 if a search left a state out. Unless the words have
+/// the flag `quiet`, an error is explained in lines that begin with two spaces. If the standard output had nothing buffered and the status is not 4, it has nothing buffered
 /// afterwards. A search of states reports to `progress`.
 pub fn run<
     S: AsStr,
@@ -101,20 +99,14 @@ pub fn run<
     O: Sink + Drop,
     E: Sink + Drop,
     P: Progress,
->(
-    alloc: Global,
-    words: &[S],
-    by_default: bool,
-    system: &mut HostSystem<F, I, O, E>,
-    progress: &mut P,
-) -> u8
+>(alloc: Global, words: &[S], system: &mut HostSystem<F, I, O, E>, progress: &mut P) -> u8
     ensures ends { EndsWith (disk_of F.Files F.Reader.Source F.Writer.Sink) (host_of F.entries F.target_of F.Target.made) I.Source O.Sink E.Sink
-        by_default (map S.text words.now) system.old system.new result }
+        (map S.text words.now) system.old system.new result }
     ensures flushed { O.buffered system.old.output ≡ 0 → result ≢ 4 → O.buffered system.new.output ≡ 0 }
 {
-    let line = match command_line_of(alloc, words, by_default) {
+    let line = match command_line_of(alloc, words) {
         Ok(line) => line,
-        Err(fault) => return report_words(alloc, words, by_default, fault, system),
+        Err(fault) => return report_words(alloc, words, fault, system),
     };
     match perform(alloc, line.command, system, progress) {
         Ok(()) => 0,

@@ -25,6 +25,9 @@ fn has_too_many<S: Source>(source: &mut S) -> bool {
 
 // Returns whether a file has more bytes than an input may have.
 fn is_too_long<F: Files>(files: &F, name: &str) -> bool {
+    if !files.is_regular(name) {
+        return false;
+    }
     match files.open(name) {
         Ok(mut reader) => has_too_many(&mut reader),
         Err(Failed) => false,

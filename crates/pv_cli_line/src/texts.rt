@@ -41,11 +41,11 @@ fn is_set_in(matches: &ArgMatches<'_>, flag: &str) -> bool
     }
 }
 
-// Returns whether errors are explained: by default or because of the flag `verbose`, unless the flag `quiet` is set.
-pub(crate) fn is_verbose(matches: &ArgMatches<'_>, by_default: bool) -> bool
-    ensures { result ≡ is_verbose_in by_default (rows_of (found_of matches.now)) (entered matches.now) }
+// Returns whether errors are explained: unless the flag `quiet` is set. The flag `verbose` changes nothing.
+pub(crate) fn is_verbose(matches: &ArgMatches<'_>) -> bool
+    ensures { result ≡ is_verbose_in (rows_of (found_of matches.now)) (entered matches.now) }
 {
-    (by_default || is_set_in(matches, "verbose")) && !is_set_in(matches, "quiet")
+    !is_set_in(matches, "quiet")
 }
 
 // Parses a number of 32 bits.

@@ -7,13 +7,9 @@ use Rattle.pv_compare.specs.Plan.{compared_pairs}
 use Rattle.pv_compare.proofs.Searched.{comparison-planned}
 use Rattle.pv_compare.specs.declared.differences.Difference.{Difference}
 use Rattle.pv_compare.specs.declared.pairs.Pairs.{Pairs}
-use Rattle.pv_model.specs.Answers.Compare.{Comparison, PairMove, alike, alike_text, comparison, comparison_lines, different, pairs_line, side_lines}
-use Rattle.pv_model.specs.Answers.Explore.{witness_text}
-use Rattle.pv_model.specs.Answers.Lines.{AnswerLine, answer_bytes, answer_line, answer_line_bytes, of_trace}
-use Rattle.pv_model.specs.Bytes.{Bytes}
-use Rattle.pv_model.specs.Grammar.Programs.{program_of}
-use Rattle.pv_model.specs.State.{State}
-use Rattle.pv_model.specs.Trace.{Line, line_bytes, trace_bytes}
+use Rattle.pv_model.specs.Machine.{Comparison, PairMove, alike, comparison, different, witness_text, AnswerLine, answer_bytes, answer_line, answer_line_bytes, of_trace, Bytes, program_of, State, Line, trace_bytes}
+use Rattle.pv_model.specs.Answers.Compare.{alike_text, comparison_lines, pairs_line, side_lines}
+use Rattle.pv_model.specs.Trace.{line_bytes}
 
 trace-lines : (ls : List Line) → answer_bytes (map of_trace ls) ≡ trace_bytes ls
 trace-lines [] = refl

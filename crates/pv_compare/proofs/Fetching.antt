@@ -1,8 +1,8 @@
 -- The next step of a process, if it is no call.
 use Rattle.std.proofs.Common.{◌≡◌, ◌∙◌, ◌⊎◌, inl, inr, false, ap, sym, subst, Option}
-use Rattle.pv_answers.proofs.NextOnes.{register-next}
+use Rattle.pv_explore.proofs.OfAnswers.NextOnes.{register-next}
 use Rattle.pv_model.specs.Answers.Compare.{is_restraint, restrains}
-use Rattle.pv_model.specs.State.{Process}
+use Rattle.pv_model.specs.Machine.{Process}
 use Rattle.pv_procs.specs.Turns.{IsFetched}
 use Rattle.pv_procs.specs.declared.processes.Fetched.{Fetched}
 use Rattle.pv_procs.specs.declared.processes.Fetched.TheVariants.{Gone, Register}

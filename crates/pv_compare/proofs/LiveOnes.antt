@@ -8,12 +8,11 @@ use Rattle.std.proofs.lemmas.List.Elements.{filter-append}
 use Rattle.std.proofs.lemmas.List.Folds.{list_any-append}
 use Rattle.pv_explore.proofs.Ranges.{among-most, range-suc}
 use Rattle.pv_laws_answers.proofs.Lists.{Among, among-any, among-map, any-among, map-among}
-use Rattle.pv_laws_answers.proofs.LiveOnes.{listed-live, live-listed}
+use Rattle.pv_laws_answers.proofs.LiveProcesses.{listed-live, live-listed}
 use Rattle.pv_laws_states.proofs.Members.{find_number-list_all, live-found}
-use Rattle.pv_laws_states.specs.States.{IsValid, is_number}
+use Rattle.pv_laws_states.specs.States.{IsValid, is_process_number}
 use Rattle.pv_model.specs.Answers.Compare.{Pair, is_live, live_in_either}
-use Rattle.pv_model.specs.Held.{among, live_processes}
-use Rattle.pv_model.specs.State.{Process, State, live, process_at}
+use Rattle.pv_model.specs.Machine.{among, live_processes, Process, State, live, process_at}
 
 abbrev pub live_numbers : State → List ℕ
 live_numbers s = map (λ p. p.0) (live_processes s.processes)
@@ -46,7 +45,7 @@ live-within s pid whole is = by (process_at s pid) refl is
     by : (o : Option Process) → process_at s pid ≡ o → is_some o ≡ true → pid ≤ s.last_process
     by None at some = cc
     by (Some p) at some =
-        let number = find_number-list_all (is_number s.last_process) pid (live p) s.processes whole.processes.numbers (live-found s pid p at) in
+        let number = find_number-list_all (is_process_number s.last_process) pid (live p) s.processes whole.processes.numbers (live-found s pid p at) in
         leb-true pid s.last_process (and_parts (nat_le 1 pid) (nat_le pid s.last_process) number).1
 
 -- ---- the greatest number

@@ -9,9 +9,8 @@ use Rattle.pv_compare.specs.declared.differences.Difference.{Difference}
 use Rattle.pv_compare.specs.declared.pairs.Pairs.{Pairs}
 use Rattle.pv_explore.proofs.VisitedStates.{get-left}
 use Rattle.pv_compare.proofs.Moved.{compared_left, extends-none, extends-then, left-end, left-next, left-none, moved-none, moved-some, pair-at, visited-extends}
-use Rattle.pv_model.specs.Answers.Compare.{Comparison, FoundPair, PairMove, alike, different, differs, live_in_either, pair_move, pair_moves}
-use Rattle.pv_model.specs.Grammar.Programs.{program_of}
-use Rattle.pv_model.specs.State.{State}
+use Rattle.pv_model.specs.Machine.{Comparison, FoundPair, PairMove, alike, different, differs, pair_moves, program_of, State}
+use Rattle.pv_model.specs.Answers.Compare.{live_in_either, pair_move}
 
 abbrev Rest : Type 0
 Rest = List FoundPair → Bool → Comparison

@@ -7,13 +7,9 @@ use Rattle.pv_compare.specs.Observing.{compared_texts, is_marked, mark_if, texts
 use Rattle.pv_compare.specs.Pairs.{Extends, PairsFound, found_in, is_visited, move_in, pair_in, visited}
 use Rattle.pv_compare.specs.Plan.{compared_moves, compared_pairs}
 use Rattle.pv_compare.specs.Stopping.{is_left_out, result_at}
-use Rattle.pv_model.specs.Answers.Compare.{Comparison, FoundPair, PairMove, alike, different, differs, found_by, is_found, is_restraint, pair_moves, same_pair}
+use Rattle.pv_model.specs.Machine.{Comparison, FoundPair, PairMove, alike, different, differs, pair_moves, Bytes, program_of, State, process_at, Run, Stepped, step, run, trace_bytes}
+use Rattle.pv_model.specs.Answers.Compare.{found_by, is_found, is_restraint, same_pair}
 use Rattle.pv_model.specs.Answers.Search.{with_move}
-use Rattle.pv_model.specs.Bytes.{Bytes}
-use Rattle.pv_model.specs.Grammar.Programs.{program_of}
-use Rattle.pv_model.specs.State.{State, process_at}
-use Rattle.pv_model.specs.Step.{Run, Stepped, step, run}
-use Rattle.pv_model.specs.Trace.{trace_bytes}
 use Rattle.pv_model.proofs.Runs.{run-append}
 
 -- ---- texts

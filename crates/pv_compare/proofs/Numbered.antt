@@ -15,11 +15,8 @@ use Rattle.pv_explore.proofs.Planned.{packed-test, same-known}
 use Rattle.pv_explore.proofs.Rows.{among-later, number-later, same-number}
 use Rattle.pv_laws_answers.proofs.Lists.{each-append}
 use Rattle.pv_laws_trees.proofs.Entries.{bytes_eq-same, bytes_eq-itself}
-use Rattle.pv_model.specs.Answers.Compare.{FoundPair, same_pair}
-use Rattle.pv_model.specs.Answers.Numbers.{same_state}
-use Rattle.pv_model.specs.Bytes.{Bytes}
-use Rattle.pv_model.specs.Grammar.Programs.{program_of}
-use Rattle.pv_model.specs.State.{State}
+use Rattle.pv_model.specs.Machine.{FoundPair, same_state, Bytes, program_of, State}
+use Rattle.pv_model.specs.Answers.Compare.{same_pair}
 
 -- ---- states and their encodings
 

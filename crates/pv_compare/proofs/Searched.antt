@@ -1,11 +1,9 @@
 -- The search of pairs as it is made gives the comparison of the definition.
 use Rattle.std.proofs.Common.{◌≡◌, ◌∙◌, ap, ap₂, ℕ, ◌≤◌, Bool, true, false, ◌&&◌, ◌||◌, if◌then◌else◌, List, [], ◌∷◌, ◌++◌, length, flat_map, Option, refl}
 use Rattle.std.proofs.lemmas.List.Folds.{list_any-append}
-use Rattle.pv_model.specs.Answers.Compare.{Comparison, FoundPair, PairMove, alike, different, differs, compared_from, comparison, found_by, is_found, pair_after, pair_moves, same_pair}
-use Rattle.pv_model.specs.Answers.Numbers.{state_numbers}
+use Rattle.pv_model.specs.Machine.{Comparison, FoundPair, PairMove, alike, different, differs, comparison, pair_moves, state_numbers, Bytes, Program, State}
+use Rattle.pv_model.specs.Answers.Compare.{compared_from, found_by, is_found, pair_after, same_pair}
 use Rattle.pv_model.specs.Answers.Search.{search, with_move}
-use Rattle.pv_model.specs.Bytes.{Bytes}
-use Rattle.pv_model.specs.State.{Program, State}
 use Rattle.pv_laws_trees.proofs.Entries.{bytes_eq-itself}
 use Rattle.pv_compare.specs.Plan.{pair_at, planned}
 use Rattle.pv_compare.specs.Stopping.{result_of}

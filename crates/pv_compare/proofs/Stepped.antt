@@ -15,11 +15,8 @@ use Rattle.pv_explore.specs.Sides.{IsNumbered}
 use Rattle.pv_explore.specs.VisitedStates.{HasNumber}
 use Rattle.pv_explore.specs.Witnesses.{longer}
 use Rattle.pv_explore.proofs.Sides.{has-number}
-use Rattle.pv_model.specs.Answers.Compare.{FoundPair, PairMove, differs}
-use Rattle.pv_model.specs.Bytes.{Bytes}
-use Rattle.pv_model.specs.Grammar.Programs.{program_of}
-use Rattle.pv_model.specs.State.{State}
-use Rattle.pv_session.specs.Running.{stepped}
+use Rattle.pv_model.specs.Machine.{FoundPair, PairMove, differs, Bytes, program_of, State}
+use Rattle.pv_explore.specs.OfSession.Running.{stepped}
 use Rattle.pv_laws_trees.proofs.Generic.{all-at}
 
 -- ---- the numbers of a visited pair

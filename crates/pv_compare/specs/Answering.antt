@@ -3,10 +3,8 @@ use Rattle.std.specs.Prelude.{ℕ, Bool, true, false, ◌++◌, codes, Option, N
 use Rattle.pv_compare.specs.declared.compare.Compared.{Compared}
 use Rattle.pv_compare.specs.declared.compare.Compared.TheVariants.{Same, Incomplete, Different}
 use Rattle.pv_compare.specs.declared.differences.Difference.{Difference}
-use Rattle.pv_model.specs.Answers.Compare.{Comparison, alike, alike_text, different, pairs_line}
-use Rattle.pv_model.specs.Answers.Explore.{witness_text}
-use Rattle.pv_model.specs.Answers.Lines.{answer_line, answer_line_bytes}
-use Rattle.pv_model.specs.Bytes.{Bytes}
+use Rattle.pv_model.specs.Machine.{Comparison, alike, different, witness_text, answer_line, answer_line_bytes, Bytes}
+use Rattle.pv_model.specs.Answers.Compare.{alike_text, pairs_line}
 
 abbrev pub side_line : Bytes → Bytes
 side_line side = answer_line_bytes (answer_line 0 (codes "SIDE") side)

@@ -2,14 +2,10 @@
 use Rattle.std.specs.Prelude.{◌≡◌, ℕ, Bool, true, false, not, ◌&&◌, if◌then◌else◌, List, [], ◌∷◌, bytes_eq}
 use Rattle.std.proofs.Common.{ap, ap₂, sym}
 use Rattle.pv_model.specs.Answers.Compare.{is_restraint}
-use Rattle.pv_model.specs.Answers.Observed.{Observer}
-use Rattle.pv_model.specs.Bytes.{Bytes}
-use Rattle.pv_model.specs.Grammar.Programs.{program_of}
-use Rattle.pv_model.specs.State.{process_at}
-use Rattle.pv_model.specs.Trace.{trace_bytes}
+use Rattle.pv_model.specs.Machine.{Observer, Bytes, program_of, process_at, trace_bytes}
 use Rattle.pv_explore.proofs.SeenProcess.{process-seen}
 use Rattle.pv_laws_steps.proofs.SeenSteps.{steps-by_seen}
-use Rattle.pv_step_cache.specs.Cached.{DependsOnSeen}
+use Rattle.pv_explore.specs.OfStepCache.Cached.{DependsOnSeen}
 
 -- a note, if the step is a call of pledge or unveil
 abbrev pub mark_if : Bool → List Bytes

@@ -8,12 +8,9 @@ use Rattle.pv_compare.specs.Plan.{compared_moves, compared_pairs, pair_at, pairs
 use Rattle.pv_explore.specs.Plan.{state_key}
 use Rattle.pv_explore.specs.Rows.{number_in, IsAmong}
 use Rattle.pv_explore.specs.Witnesses.{longer}
-use Rattle.pv_model.specs.Answers.Compare.{Comparison, FoundPair, PairMove, alike, different, differs, is_found, pair_move, pair_moves, same_pair}
-use Rattle.pv_model.specs.Bytes.{Bytes}
-use Rattle.pv_model.specs.Grammar.Programs.{program_of}
-use Rattle.pv_model.specs.State.{State}
-use Rattle.pv_model.specs.Trace.{trace_bytes}
-use Rattle.pv_state_encoding.specs.Packed.{packed_all}
+use Rattle.pv_model.specs.Machine.{Comparison, FoundPair, PairMove, alike, different, differs, pair_moves, Bytes, program_of, State, trace_bytes}
+use Rattle.pv_model.specs.Answers.Compare.{is_found, pair_move, same_pair}
+use Rattle.pv_explore.specs.OfStateEncoding.Packed.{packed_all}
 
 -- ---- the pairs
 

@@ -1,9 +1,7 @@
 -- The search of pairs as it is made: the steps of both machines in each visited pair, up to the first that differs.
 use Rattle.std.specs.Prelude.{ℕ, Bool, true, List, [], ◌∷◌, map, Option}
-use Rattle.pv_model.specs.Answers.Compare.{Comparison, FoundPair, PairMove, alike, different, differs, found_by, is_found, pair_moves}
-use Rattle.pv_model.specs.Bytes.{Bytes}
-use Rattle.pv_model.specs.State.{Program, State}
-use Rattle.pv_model.specs.Step.{run}
+use Rattle.pv_model.specs.Machine.{Comparison, FoundPair, PairMove, alike, different, differs, pair_moves, Bytes, Program, State, run}
+use Rattle.pv_model.specs.Answers.Compare.{found_by, is_found}
 use Rattle.pv_compare.specs.Stopping.{result_from, result_of_moves}
 
 module _ (program_of : Bytes → Option Program) (s t : State) where

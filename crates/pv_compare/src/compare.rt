@@ -3,18 +3,17 @@ ghost use Rattle.std.specs.Prelude.{◌≡◌, ◌≤◌, option_map, IfOk, OnOk
 ghost use Rattle.pv_compare.specs.Answering.{compared_by, compared_of, difference_text, result_text};
 ghost use Rattle.pv_compare.specs.Pairs.{AreCounted, IsCompared, IsWhole, found_in, pairs_of};
 ghost use Rattle.pv_compare.specs.Plan.{compared_pairs};
-ghost use Rattle.pv_model.specs.Answers.Compare.{alike_text, comparison, comparison_lines, pairs_line};
-ghost use Rattle.pv_model.specs.Answers.Lines.{answer_bytes, answer_line_bytes};
-ghost use Rattle.pv_model.specs.Grammar.Programs.{program_of};
-ghost use Rattle.pv_session.specs.Running.{FailsBy};
+ghost use Rattle.pv_model.specs.Machine.{comparison, answer_bytes, answer_line_bytes, program_of};
+ghost use Rattle.pv_model.specs.Answers.Compare.{alike_text, comparison_lines, pairs_line};
+ghost use Rattle.pv_explore.specs.OfSession.Running.{FailsBy};
 ghost use Rattle.pv_streams.specs.Sinks.{Writes, WritesOr};
 
 use crate::differences::Difference;
 use crate::pairs::Pairs;
-use pv_answers::{Fragment, Line, Plain};
+use pv_explore::answers::{Fragment, Line, Plain};
+use pv_explore::session::Stop;
 use pv_explore::{Count, FirstMachine, Progress, Witness};
 use pv_model::StepFault;
-use pv_session::Stop;
 use pv_streams::{Failed, Sink};
 use std::alloc::Global;
 

@@ -12,3 +12,4 @@ mod pairs;
 mod search;
 
 pub use compare::{Compared, write_compare};
+pub use pv_explore as explore;

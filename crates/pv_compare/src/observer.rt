@@ -2,15 +2,15 @@
 ghost use Rattle.std.specs.Prelude.{◌≡◌, ◌++◌, IfOk, OnOk};
 ghost use Rattle.pv_compare.specs.Observing.{mark_if};
 ghost use Rattle.pv_model.specs.Answers.Compare.{is_restraint};
-ghost use Rattle.pv_model.specs.State.{process_at};
-ghost use Rattle.pv_step_cache.specs.Steps.{texts_in};
+ghost use Rattle.pv_model.specs.Machine.{process_at};
+ghost use Rattle.pv_explore.specs.OfStepCache.Steps.{texts_in};
 
-use pv_answers::{is_pledge, is_unveil};
+use pv_explore::answers::{is_pledge, is_unveil};
+use pv_explore::session::Session;
 use pv_explore::{Observer, TraceLines};
 use pv_model::StepFault;
 use pv_procs::Fetched;
 use pv_script::CallTexts;
-use pv_session::Session;
 use std::alloc::{AllocError, Global};
 
 /// An observer of the trace lines of each step, as one text. If the step is a call of pledge(2) or unveil(2), a note

@@ -6,10 +6,10 @@ ghost use Rattle.pv_explore.specs.Witnesses.{longer};
 ghost use Rattle.pv_model.specs.Answers.Compare.{live_in_either};
 
 use crate::observer::ComparedLines;
+use pv_explore::state_encoding::push_number;
+use pv_explore::step_cache::tables::Keys;
 use pv_explore::{FirstMachine, Side, Witnesses, ascending};
 use pv_model::StepFault;
-use pv_state_encoding::push_number;
-use pv_step_cache::tables::Keys;
 use std::alloc::{AllocError, Global};
 
 /// The numbers of the two states of a pair.

@@ -2,8 +2,7 @@
 ghost use Rattle.std.specs.Prelude.{◌≡◌, ◌<◌, [], get_or, length, slice_get, IfOk, OnOk, Some};
 ghost use Rattle.pv_compare.specs.Pairs.{AreCounted, AreMoved, IsCompared, IsMoved, IsWhole, found_in, pair_in, pairs_of};
 ghost use Rattle.pv_compare.specs.Plan.{compared_pairs};
-ghost use Rattle.pv_model.specs.Answers.Compare.{pair_moves};
-ghost use Rattle.pv_model.specs.Grammar.Programs.{program_of};
+ghost use Rattle.pv_model.specs.Machine.{pair_moves, program_of};
 
 use crate::differences::{Difference, differ, difference_of};
 use crate::pairs::Pairs;

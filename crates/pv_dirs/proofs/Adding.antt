@@ -3,9 +3,7 @@ use Rattle.std.proofs.Common.{◌≡◌, ℕ, suc, ◌*◌, ◌+◌, IsTrue, tru
 use Rattle.std.specs.FinMap.Entries.{find, put}
 use Rattle.pv_model.specs.declared.kind.Kind.TheVariants.{Directory}
 use Rattle.pv_model.specs.declared.version.Version.{Version}
-use Rattle.pv_model.specs.Bytes.{Bytes}
-use Rattle.pv_model.specs.Room.{entry_length}
-use Rattle.pv_model.specs.Tree.{directory_node, is_directory_at, entries_at, find_entry, is_name, with_node, with_entry}
+use Rattle.pv_model.specs.Machine.{Bytes, entry_length, directory_node, is_directory_at, entries_at, find_entry, is_name, with_node, with_entry}
 use Rattle.pv_inodes.specs.Files.{Files, bytes_at, with_bytes, written}
 use Rattle.pv_inodes.proofs.Edits.{written-some}
 use Rattle.pv_dirs.specs.Slots.{slot_number, slot_name, slot_entries, in_order}

@@ -5,8 +5,7 @@ use Rattle.std.specs.FinMap.{nat_cmp-IsAntisymmetric}
 use Rattle.std.specs.Ordering.{nat_cmp, ordering_then, ordering_reverse}
 use Rattle.std.specs.declared.cmp.Ordering.TheVariants.{Less, Equal, Greater}
 use Rattle.std.proofs.lemmas.Cmp.{nat_cmp_total}
-use Rattle.pv_model.specs.Bytes.{Bytes}
-use Rattle.pv_model.specs.Calls.Descriptors.{is_past}
+use Rattle.pv_model.specs.Machine.{Bytes, is_past}
 use Rattle.pv_dirs.specs.Listing.{is_before, better_of, IsShared}
 use Rattle.pv_dirs.specs.Slots.{slot_name}
 use Rattle.pv_dirs.proofs.Entries.{by_name}

@@ -3,8 +3,7 @@ use Rattle.std.proofs.Common.{◌≡◌, ℕ, zero, suc, ◌<◌, ◌≤◌, Boo
 use Rattle.std.specs.FinMap.Entries.{find, where_key, find-where_key, find-append, is_sorted-where_key}
 use Rattle.std.proofs.lemmas.List.{get_or_append_left, get_or_at, set-append_left, take_at, take-set, length-set}
 use Rattle.std.proofs.lemmas.Bool.{cases_lt}
-use Rattle.pv_model.specs.Bytes.{Bytes}
-use Rattle.pv_model.specs.Tree.{Entries}
+use Rattle.pv_model.specs.Machine.{Bytes, Entries}
 use Rattle.pv_dirs.specs.Slots.{in_order, IsDistinct}
 use Rattle.pv_dirs.proofs.Entries.{by_name, total, same_name, tied, tied-bytes_eq, tied-same, sorted-in_order, find-in_order, same_order, missed, neither, turned}
 

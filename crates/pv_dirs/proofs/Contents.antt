@@ -5,9 +5,7 @@ use Rattle.pv_model.specs.declared.kind.Kind.{Kind}
 use Rattle.pv_model.specs.declared.kind.Kind.TheVariants.{Directory, File, Executable, Symlink}
 use Rattle.pv_model.specs.declared.version.Version.{Version}
 use Rattle.pv_model.specs.declared.version.Version.TheVariants.{V1, V2}
-use Rattle.pv_model.specs.Bytes.{Bytes}
-use Rattle.pv_model.specs.Effect.{overwrite, resize, size_of}
-use Rattle.pv_model.specs.Tree.{Node, node_at, is_directory, is_directory_at, with_node}
+use Rattle.pv_model.specs.Machine.{Bytes, overwrite, resize, size_of, Node, node_at, is_directory, is_directory_at, with_node}
 use Rattle.pv_inodes.specs.Files.{Contained, Files, held, IsUsed, bytes_at, bytes_of, sort_at, LacksRoom, with_bytes, written, cut, with_new}
 use Rattle.pv_inodes.proofs.Edits.{some_is}
 use Rattle.pv_dirs.specs.Slots.{slot_count, slot_entries, in_order, IsDistinct, IsSlotted}

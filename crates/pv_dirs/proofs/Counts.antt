@@ -5,8 +5,7 @@ use Rattle.std.specs.Ordering.{is_eq}
 use Rattle.std.specs.declared.cmp.Ordering.TheVariants.{Less, Equal, Greater}
 use Rattle.std.proofs.lemmas.Bool.{cases_eq, eq-eqb, ne_eqb, lt-ltb}
 use Rattle.std.proofs.lemmas.List.{get_or-set_same, get_or-set_other, length-take-le, take_more}
-use Rattle.pv_model.specs.Bytes.{Bytes}
-use Rattle.pv_model.specs.Tree.{Entries}
+use Rattle.pv_model.specs.Machine.{Bytes, Entries}
 use Rattle.pv_dirs.specs.Counts.{count_in}
 use Rattle.pv_dirs.specs.Slots.{in_order, IsDistinct}
 use Rattle.pv_dirs.proofs.Entries.{by_name, find-in_order}

@@ -3,8 +3,7 @@ use Rattle.std.proofs.Common.{◌≡◌, ℕ, suc, ◌+◌, ◌-◌, ◌≤◌, 
 use Rattle.std.specs.Prelude.{option_map}
 use Rattle.std.specs.List.{sum_by}
 use Rattle.std.proofs.lemmas.List.{length-replicate}
-use Rattle.pv_model.specs.Image.{inode_blocks, greatest_blocks}
-use Rattle.pv_model.specs.Numbered.{Numbered, at_number, present}
+use Rattle.pv_model.specs.Machine.{inode_blocks, greatest_blocks, Numbered, at_number, present}
 use Rattle.pv_inodes.specs.Files.{Contained, Files, room_of, total_room}
 use Rattle.pv_dirs.specs.Trees.{node_of, tree_of, IsHolding}
 use Rattle.pv_dirs.proofs.Mapped.{at_number-none, present-none, map-none}

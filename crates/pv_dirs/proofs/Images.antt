@@ -11,13 +11,10 @@ use Rattle.std.proofs.lemmas.List.Sorted.{Contains-permutation}
 use Rattle.pv_model.specs.declared.kind.Kind.TheVariants.{Directory, File, Executable, Symlink}
 use Rattle.pv_model.specs.declared.version.Version.{Version}
 use Rattle.pv_model.specs.declared.version.Version.TheVariants.{V1, V2}
-use Rattle.pv_model.specs.Bytes.{Bytes}
+use Rattle.pv_model.specs.Machine.{Bytes, field, magic, greatest_blocks, inode_blocks, size, content, used_content, used_index, used_blocks, AreSlots, Holds, HoldsAny, IsImageOf, kind, Numbered, at_number, numbered_from, greatest_length, Entries, Node, directory_node, file_node, link_node, Tree, node_at, is_name, is_node}
 use Rattle.pv_model.specs.Effect.{sort_number}
-use Rattle.pv_model.specs.Image.{field, magic, greatest_blocks, inode_blocks, size, content, used_content, used_index, used_blocks, AreSlots, HasContent, Holds, HoldsAny, IsImageOf}
-use Rattle.pv_model.specs.Mount.{kind, used_by}
-use Rattle.pv_model.specs.Numbered.{Numbered, at_number, numbered_from}
-use Rattle.pv_model.specs.Room.{greatest_length}
-use Rattle.pv_model.specs.Tree.{Entries, Node, directory_node, file_node, link_node, Tree, node_at, is_name, is_node}
+use Rattle.pv_model.specs.Image.{HasContent}
+use Rattle.pv_model.specs.Mount.{used_by}
 use Rattle.pv_inodes.proofs.Numbers.{at_number-get_or, at_number-within}
 use Rattle.pv_inodes.specs.Files.{Contained, Files, held, sort_of}
 use Rattle.pv_inodes.specs.Images.{all_used, AreInodes, contained, files_in}

@@ -5,11 +5,7 @@ use Rattle.std.proofs.lemmas.Bool.{cases_eq, cases_lt}
 use Rattle.pv_model.specs.declared.kind.Kind.{Kind}
 use Rattle.pv_model.specs.declared.kind.Kind.TheVariants.{Directory}
 use Rattle.pv_model.specs.declared.version.Version.{Version}
-use Rattle.pv_model.specs.Bytes.{Bytes}
-use Rattle.pv_model.specs.Effect.{overwrite}
-use Rattle.pv_model.specs.Numbered.{Numbered, at_number, with_number}
-use Rattle.pv_model.specs.Room.{entry_length}
-use Rattle.pv_model.specs.Tree.{is_directory_at}
+use Rattle.pv_model.specs.Machine.{Bytes, overwrite, Numbered, at_number, with_number, entry_length, is_directory_at}
 use Rattle.pv_inodes.specs.Files.{Contained, Files, held, bytes_at, with_bytes, written, with_new, without}
 use Rattle.pv_inodes.proofs.Edits.{with_bytes-is}
 use Rattle.pv_inodes.proofs.Numbers.{at_number-within}

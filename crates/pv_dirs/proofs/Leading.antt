@@ -6,7 +6,7 @@ use Rattle.std.proofs.Math.Nat.{mod-le}
 use Rattle.std.proofs.lemmas.Nat.{and_le_r}
 use Rattle.std.specs.Prelude.{bit_and}
 use Rattle.std.proofs.lemmas.List.{get_or_default, get_or-set_same, get_or-take, length-take-le, get_or-set_other}
-use Rattle.pv_model.specs.Bytes.{Bytes}
+use Rattle.pv_model.specs.Machine.{Bytes}
 use Rattle.pv_dirs.specs.declared.index.Index.{Index}
 use Rattle.pv_dirs.specs.declared.index.Bucket.{Bucket}
 use Rattle.pv_dirs.specs.declared.index.Bucket.TheVariants.{Empty, Slot}

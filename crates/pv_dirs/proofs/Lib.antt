@@ -33,3 +33,4 @@ pub mod Stored
 pub mod Strides
 pub mod TreeOf
 pub mod Viewed
+pub use Rattle.pv_inodes.proofs as OfInodes

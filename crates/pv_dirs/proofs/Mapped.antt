@@ -3,7 +3,7 @@ use Rattle.std.proofs.Common.{◌≡◌, ◌≢◌, ℕ, zero, suc, ◌<◌, [],
 use Rattle.std.specs.List.{sum_by}
 use Rattle.std.specs.Prelude.{option_map}
 use Rattle.std.proofs.lemmas.List.Sums.{sum_by-cons}
-use Rattle.pv_model.specs.Numbered.{Numbered, at_number, with_number, without_number, least_free, present}
+use Rattle.pv_model.specs.Machine.{Numbered, at_number, with_number, without_number, least_free, present}
 
 module _ {X Y : Type 0} (g : X → Y) where
   pub at_number-map : (xs : Numbered X) (n : ℕ) → at_number (map (option_map g) xs) n ≡ option_map g (at_number xs n)

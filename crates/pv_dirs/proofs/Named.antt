@@ -3,9 +3,7 @@ use Rattle.std.proofs.Common.{◌≡◌, ◌≢◌, ℕ, ◌+◌, ◌<◌, Bool,
 use Rattle.std.proofs.lemmas.Bool.{cases_eq}
 use Rattle.std.specs.Ordering.{is_lt}
 use Rattle.pv_model.specs.declared.version.Version.{Version}
-use Rattle.pv_model.specs.Bytes.{Bytes}
-use Rattle.pv_model.specs.Calls.Descriptors.{is_past}
-use Rattle.pv_model.specs.Tree.{Tree, is_directory_at, find_entry}
+use Rattle.pv_model.specs.Machine.{Bytes, is_past, Tree, is_directory_at, find_entry}
 use Rattle.pv_inodes.specs.Files.{Files, bytes_at}
 use Rattle.pv_dirs.specs.Listing.{better_of, IsNextOf, IsNextNameOf}
 use Rattle.pv_dirs.specs.Slots.{slot_at, slot_count, slot_name, slot_number, slot_entries, IsInSlots}

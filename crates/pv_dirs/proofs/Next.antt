@@ -7,9 +7,7 @@ use Rattle.std.specs.Cmp.Lexicographic.{slice_cmp, slice_partial_cmp, lists_agre
 use Rattle.std.specs.FinMap.Entries.{find, put, is_sorted, below_all, by_order}
 use Rattle.std.specs.declared.cmp.Ordering.{Ordering}
 use Rattle.std.specs.declared.cmp.Ordering.TheVariants.{Less, Equal, Greater}
-use Rattle.pv_model.specs.Bytes.{Bytes}
-use Rattle.pv_model.specs.Calls.Descriptors.{is_past, next_name}
-use Rattle.pv_model.specs.Tree.{Entries}
+use Rattle.pv_model.specs.Machine.{Bytes, is_past, next_name, Entries}
 use Rattle.pv_dirs.specs.Slots.{in_order, IsDistinct}
 use Rattle.pv_dirs.specs.Listing.{is_before, IsListed, IsLeastPast, IsNextName}
 use Rattle.pv_dirs.proofs.Closing.{distinct_before}

@@ -4,9 +4,7 @@ use Rattle.std.specs.Ordering.{is_lt, ordering_reverse}
 use Rattle.std.specs.declared.cmp.Ordering.{Ordering}
 use Rattle.std.specs.declared.cmp.Ordering.TheVariants.{Less, Equal, Greater}
 use Rattle.pv_model.specs.declared.version.Version.{Version}
-use Rattle.pv_model.specs.Bytes.{Bytes}
-use Rattle.pv_model.specs.Calls.Descriptors.{is_past, next_name}
-use Rattle.pv_model.specs.Tree.{Entries}
+use Rattle.pv_model.specs.Machine.{Bytes, is_past, next_name, Entries}
 use Rattle.pv_dirs.specs.Slots.{slot_at, slot_count, slot_name, slot_entry, slot_entries, in_order, IsDistinct}
 use Rattle.pv_dirs.specs.Listing.{better_of, IsListed, IsNextName}
 use Rattle.pv_dirs.proofs.SlotBytes.{length-slot_entries, get_or-slot_entries}

@@ -2,10 +2,7 @@
 use Rattle.std.proofs.Common.{◌≡◌, ℕ, suc, ◌+◌, ◌*◌, ◌≤◌, true, not, bytes_eq, length, sym, ap, ◌∙◌}
 use Rattle.std.specs.FinMap.Entries.{where_key}
 use Rattle.pv_model.specs.declared.kind.Kind.TheVariants.{Directory}
-use Rattle.pv_model.specs.Bytes.{Bytes}
-use Rattle.pv_model.specs.Effect.{overwrite, resize}
-use Rattle.pv_model.specs.Room.{entry_length}
-use Rattle.pv_model.specs.Tree.{directory_node, is_directory_at, with_node, without_entry}
+use Rattle.pv_model.specs.Machine.{Bytes, overwrite, resize, entry_length, directory_node, is_directory_at, with_node, without_entry}
 use Rattle.pv_inodes.specs.Files.{Files, bytes_at, with_bytes}
 use Rattle.pv_inodes.proofs.Bytes.{length-overwrite}
 use Rattle.pv_inodes.proofs.Edits.{with_bytes-with_bytes, bytes_at-with_bytes}

@@ -3,8 +3,7 @@ use Rattle.std.proofs.Common.{◌≡◌, ℕ, ◌+◌, ◌-◌, ◌*◌, ◌≤�
 use Rattle.std.proofs.lemmas.Bool.{cases_lt}
 use Rattle.std.proofs.lemmas.List.{drop-take, drop-drop, drop_all, length-take, length-drop, take_min, take-take}
 use Rattle.pv_model.specs.declared.version.Version.{Version}
-use Rattle.pv_model.specs.Bytes.{Bytes}
-use Rattle.pv_model.specs.Room.{entry_length}
+use Rattle.pv_model.specs.Machine.{Bytes, entry_length}
 use Rattle.pv_dirs.specs.Slots.{slot_at, slot_name, slot_number, IsRun}
 use Rattle.pv_dirs.proofs.SlotBytes.{front_number}
 use Rattle.pv_dirs.proofs.Strides.{slot_least}

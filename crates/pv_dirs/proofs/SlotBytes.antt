@@ -5,10 +5,7 @@ use Rattle.std.proofs.lemmas.Bool.{cases_lt, cases_eq}
 use Rattle.std.proofs.lemmas.List.{same_lists, append-nil, length-append, length-set, length-take-le, length-drop, get_or-take, get_or-drop, get_or_append_left, get_or-append_right, get_or_push, get_or-set_same, get_or-set_other, take_all, drop_all, drop-take, take_more}
 use Rattle.std.proofs.lemmas.List.FromFn.{get_or-map-range_with_len, length-map-range_with_len}
 use Rattle.pv_model.specs.declared.version.Version.{Version}
-use Rattle.pv_model.specs.Bytes.{Bytes}
-use Rattle.pv_model.specs.Effect.{overwrite, resize}
-use Rattle.pv_model.specs.Room.{entry_length}
-use Rattle.pv_model.specs.Tree.{Entries, is_name}
+use Rattle.pv_model.specs.Machine.{Bytes, overwrite, resize, entry_length, Entries, is_name}
 use Rattle.pv_inodes.proofs.Bytes.{same_bytes, overwrite-over, length-resize_shorter, get_or-resize_shorter, length-overwrite}
 use Rattle.pv_inodes.proofs.Splices.{over, get_or-over_below, get_or-over_within, get_or-over_above}
 use Rattle.pv_dirs.specs.Slots.{slot_at, slot_count, slot_number, slot_name, slot_entry, slot_entries, in_order, IsDistinct, IsSlotted}

@@ -3,10 +3,8 @@ use Rattle.std.proofs.Common.{◌≡◌, ℕ, zero, suc, ◌+◌, ◌*◌, ◌/�
 use Rattle.std.specs.Prelude.{slice_index}
 use Rattle.std.proofs.lemmas.List.{same_lists, length-append, length-drop, length-take-le, get_or_append_left, get_or-append_right, take_at, take-append-drop}
 use Rattle.pv_model.specs.declared.version.Version.{Version}
-use Rattle.pv_model.specs.Bytes.{Bytes}
-use Rattle.pv_model.specs.Image.{number_of, IsSlot, AreSlots, no_slot, one_more}
-use Rattle.pv_model.specs.Room.{entry_length}
-use Rattle.pv_model.specs.Tree.{Entries}
+use Rattle.pv_model.specs.Machine.{Bytes, number_of, AreSlots, entry_length, Entries}
+use Rattle.pv_model.specs.Image.{IsSlot, no_slot, one_more}
 use Rattle.pv_dirs.specs.Slots.{slot_at, slot_count, slot_name, slot_number, slot_entries, IsSlotted}
 use Rattle.pv_dirs.proofs.SlotBytes.{length-slot_entries, get_or-slot_entries, slot_at-is, slot_at-same}
 use Rattle.pv_dirs.proofs.Strides.{slot_some, slot_least, no_entries, none_counted, none_left, component_within, components_of, components_more, whole_more, whole_is}

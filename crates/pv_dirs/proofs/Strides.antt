@@ -6,9 +6,7 @@ use Rattle.std.proofs.lemmas.Bool.{and_parts, leb-true}
 use Rattle.std.proofs.Math.Nat.{add-div_right, add-mod_right, div-add-mod, mod-lt, mul-div_cancel_left, mul-div-le, mul-mod_right}
 use Rattle.pv_model.specs.declared.version.Version.{Version}
 use Rattle.pv_model.specs.declared.version.Version.TheVariants.{V1, V2}
-use Rattle.pv_model.specs.Bytes.{Bytes, is_empty}
-use Rattle.pv_model.specs.Room.{entry_length, greatest_entries, greatest_length}
-use Rattle.pv_model.specs.Tree.{greatest_name, is_name, is_name_byte}
+use Rattle.pv_model.specs.Machine.{Bytes, is_empty, entry_length, greatest_entries, greatest_length, greatest_name, is_name, is_name_byte}
 use Rattle.pv_dirs.specs.Slots.{slot_count, slot_entries}
 
 -- ---- slots of a version

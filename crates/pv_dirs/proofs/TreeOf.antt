@@ -6,11 +6,7 @@ use Rattle.std.proofs.lemmas.List.{length-map, drop-map}
 use Rattle.pv_model.specs.declared.kind.Kind.{Kind}
 use Rattle.pv_model.specs.declared.kind.Kind.TheVariants.{Directory, File, Executable, Symlink}
 use Rattle.pv_model.specs.declared.version.Version.{Version}
-use Rattle.pv_model.specs.Bytes.{Bytes}
-use Rattle.pv_model.specs.Image.{inode_blocks, greatest_blocks}
-use Rattle.pv_model.specs.Numbered.{Numbered, with_number, without_number, least_free}
-use Rattle.pv_model.specs.Room.{entry_length, node_length, need}
-use Rattle.pv_model.specs.Tree.{Node, entries_of, node_at, is_directory, is_directory_at, entries_at, find_entry, with_node, new_number as new_number_in}
+use Rattle.pv_model.specs.Machine.{Bytes, inode_blocks, greatest_blocks, Numbered, with_number, without_number, least_free, entry_length, node_length, need, Node, entries_of, node_at, is_directory, is_directory_at, entries_at, find_entry, with_node, new_number as new_number_in}
 use Rattle.pv_inodes.specs.Files.{bytes_of, Contained, Files, held, IsUsed, bytes_at, room_of, total_room, with_bytes, without, new_number}
 use Rattle.pv_inodes.proofs.Edits.{with_bytes-is}
 use Rattle.pv_inodes.proofs.Numbers.{at_number-within}

@@ -2,8 +2,7 @@
 use Rattle.std.proofs.Common.{◌≡◌, ℕ, true, false, length, refl, sym, ap, subst, ◌∙◌, [], ◌∷◌, arith}
 use Rattle.std.specs.Prelude.{IsSome}
 use Rattle.std.specs.FinMap.Entries.{find}
-use Rattle.pv_model.specs.Bytes.{Bytes}
-use Rattle.pv_model.specs.Tree.{Entries, Tree, node_at, is_directory_at, entries_at, find_entry}
+use Rattle.pv_model.specs.Machine.{Bytes, Entries, Tree, node_at, is_directory_at, entries_at, find_entry}
 use Rattle.pv_inodes.specs.Files.{Contained, Files, IsUsed, bytes_at}
 use Rattle.pv_dirs.specs.Slots.{slot_count, slot_entries, in_order}
 use Rattle.pv_dirs.specs.Trees.{tree_of, IsHolding, bytes_at as bytes_in}

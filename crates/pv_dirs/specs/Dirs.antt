@@ -1,8 +1,7 @@
 -- A directory as slots.
 use Rattle.std.specs.Prelude.{◌≡◌, ℕ, ◌-◌, ◌≤◌, Option, IfSome}
 use Rattle.std.specs.Borrow.{Bor}
-use Rattle.pv_model.specs.Bytes.{Bytes}
-use Rattle.pv_model.specs.Tree.{Entries}
+use Rattle.pv_model.specs.Machine.{Bytes, Entries}
 use Rattle.pv_inodes.specs.Files.{bytes_at}
 use Rattle.pv_dirs.specs.declared.dir.Dir.{Dir}
 use Rattle.pv_dirs.specs.declared.index.Index.{Index}

@@ -1,9 +1,7 @@
 -- Bytes that are an image.
 use Rattle.std.specs.Prelude.{◌≡◌, ℕ}
 use Rattle.pv_model.specs.declared.version.Version.{Version}
-use Rattle.pv_model.specs.Bytes.{Bytes}
-use Rattle.pv_model.specs.Image.{IsImageOf}
-use Rattle.pv_model.specs.Tree.{Tree}
+use Rattle.pv_model.specs.Machine.{Bytes, IsImageOf, Tree}
 
 -- the bytes are an image of this version with this number of inodes
 pub record IsImage (v : Version) (inodes : ℕ) (bytes : Bytes) : Type 0 where

@@ -6,7 +6,7 @@ use Rattle.std.specs.declared.cmp.Ordering.TheVariants.{Less}
 use Rattle.pv_model.specs.declared.kind.Kind.TheVariants.{Directory}
 use Rattle.pv_model.specs.declared.limits.TheConstants.{INODES}
 use Rattle.pv_model.specs.declared.version.Version.{Version}
-use Rattle.pv_model.specs.Bytes.{Bytes}
+use Rattle.pv_model.specs.Machine.{Bytes}
 use Rattle.pv_inodes.specs.Files.{Contained, Files, held}
 use Rattle.pv_dirs.specs.declared.index.Index.{Index}
 use Rattle.pv_dirs.specs.declared.index.TheConstants.{PLACES, FACTOR}

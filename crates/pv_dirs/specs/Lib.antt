@@ -7,3 +7,4 @@ pub mod Sizes
 pub mod Slots
 pub mod Stored
 pub mod Trees
+pub use Rattle.pv_inodes.specs as OfInodes

@@ -4,9 +4,7 @@ use Rattle.std.specs.Cmp.Lexicographic.{slice_cmp}
 use Rattle.std.specs.FinMap.Entries.{find}
 use Rattle.std.specs.Ordering.{nat_cmp, is_lt}
 use Rattle.std.specs.declared.cmp.Ordering.TheVariants.{Less}
-use Rattle.pv_model.specs.Bytes.{Bytes}
-use Rattle.pv_model.specs.Calls.Descriptors.{is_past}
-use Rattle.pv_model.specs.Tree.{Entries, Tree, find_entry}
+use Rattle.pv_model.specs.Machine.{Bytes, is_past, Entries, Tree, find_entry}
 
 -- the first name if there is one, else the second
 abbrev pub first_of : Option Bytes → Option Bytes → Option Bytes

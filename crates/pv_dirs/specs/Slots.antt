@@ -6,9 +6,7 @@ use Rattle.std.specs.List.{range_with_len}
 use Rattle.std.specs.Ordering.{nat_cmp}
 use Rattle.byteorder.specs.Endian.{little_number}
 use Rattle.pv_model.specs.declared.version.Version.{Version}
-use Rattle.pv_model.specs.Bytes.{Bytes}
-use Rattle.pv_model.specs.Room.{entry_length}
-use Rattle.pv_model.specs.Tree.{Entries, is_name}
+use Rattle.pv_model.specs.Machine.{Bytes, entry_length, Entries, is_name}
 
 -- slot k
 unfoldable pub slot_at : Version → Bytes → ℕ → Bytes

@@ -1,10 +1,7 @@
 -- The slots of a directory and the image format's definition of its entries.
 use Rattle.std.specs.Prelude.{◌≡◌, ◌%◌, length}
 use Rattle.pv_model.specs.declared.version.Version.{Version}
-use Rattle.pv_model.specs.Bytes.{Bytes}
-use Rattle.pv_model.specs.Image.{AreSlots}
-use Rattle.pv_model.specs.Room.{entry_length}
-use Rattle.pv_model.specs.Tree.{Entries}
+use Rattle.pv_model.specs.Machine.{Bytes, AreSlots, entry_length, Entries}
 use Rattle.pv_dirs.specs.Slots.{slot_entries, IsSlotted}
 
 -- the entries in the slots of a directory are those that its bytes encode

@@ -3,12 +3,7 @@ use Rattle.std.specs.Prelude.{◌≡◌, ℕ, ◌+◌, ◌*◌, ◌-◌, ◌<◌
 use Rattle.pv_model.specs.declared.kind.Kind.{Kind}
 use Rattle.pv_model.specs.declared.kind.Kind.TheVariants.{Directory, File, Executable, Symlink}
 use Rattle.pv_model.specs.declared.version.Version.{Version}
-use Rattle.pv_model.specs.Bytes.{Bytes}
-use Rattle.pv_model.specs.Effect.{overwrite, resize}
-use Rattle.pv_model.specs.Image.{inode_blocks, greatest_blocks}
-use Rattle.pv_model.specs.Numbered.{without_number, present}
-use Rattle.pv_model.specs.Room.{entry_length, node_length, need}
-use Rattle.pv_model.specs.Tree.{Node, directory_node, file_node, link_node, Tree, node_at, entries_at, with_node}
+use Rattle.pv_model.specs.Machine.{Bytes, overwrite, resize, inode_blocks, greatest_blocks, without_number, present, entry_length, node_length, need, Node, directory_node, file_node, link_node, Tree, node_at, entries_at, with_node}
 use Rattle.pv_inodes.specs.Files.{Contained, Files, held}
 use Rattle.pv_dirs.specs.Slots.{slot_entries, in_order, IsSlotted}
 

@@ -1,7 +1,7 @@
 //! The best name that a scan of a directory has met: the least name that follows a given one.
 ghost use Rattle.std.specs.Prelude.{◌≡◌, ◌<◌, ◌≤◌, ◌↔◌, ◌&&◌, length, take, slice_index, IsTrue, None, Some, IfNone, IfSome};
 ghost use Rattle.std.specs.Option.{option_copied};
-ghost use Rattle.pv_model.specs.Calls.Descriptors.{is_past};
+ghost use Rattle.pv_model.specs.Machine.{is_past};
 ghost use Rattle.pv_model.specs.declared.limits.TheConstants.{NAME_V2};
 ghost use Rattle.pv_dirs.specs.Listing.{is_before, better_of, IsShared};
 ghost use Rattle.pv_dirs.specs.Slots.{slot_name};

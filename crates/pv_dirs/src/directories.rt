@@ -2,11 +2,7 @@
 ghost use Rattle.std.specs.Prelude.{◌≡◌, ◌+◌, ◌-◌, ◌*◌, ◌%◌, ◌<◌, ◌≤◌, ◌↔◌, suc, min, false, [], ◌++◌, length, take, drop, replicate, vec_len, All, IsTrue, None, Some, IsSome, IsNone, IfNone, IfSome, IfOk, OnOk, OnErr, option_map};
 ghost use Rattle.std.specs.Option.{option_copied};
 ghost use Rattle.pv_model.specs.declared.limits.TheConstants.{BLOCK};
-ghost use Rattle.pv_model.specs.Calls.Descriptors.{next_name};
-ghost use Rattle.pv_model.specs.Effect.{size_of};
-ghost use Rattle.pv_model.specs.Image.{inode_blocks, greatest_blocks};
-ghost use Rattle.pv_model.specs.Room.{greatest_length};
-ghost use Rattle.pv_model.specs.Tree.{node_at, entries_at, is_directory_at, find_entry, is_name, with_node, with_entry, without_entry, new_number};
+ghost use Rattle.pv_model.specs.Machine.{next_name, size_of, inode_blocks, greatest_blocks, greatest_length, node_at, entries_at, is_directory_at, find_entry, is_name, with_node, with_entry, without_entry, new_number};
 ghost use Rattle.pv_inodes.specs.Sizes.{AreImageSizes};
 ghost use Rattle.pv_dirs.specs.Listing.{IsNextName, IsNextNameOf};
 ghost use Rattle.pv_dirs.specs.Sizes.{HaveSameSizes};

@@ -1,6 +1,6 @@
 //! An index of the entries of directories by name.
 ghost use Rattle.std.specs.Prelude.{◌≡◌, ◌≢◌, ◌↔◌, ◌<◌, ◌≤◌, ℕ, true, IsTrue};
-ghost use Rattle.pv_model.specs.Bytes.{Bytes};
+ghost use Rattle.pv_model.specs.Machine.{Bytes};
 ghost use Rattle.pv_model.specs.declared.limits.TheConstants.{INODES};
 ghost use Rattle.pv_dirs.specs.declared.index.TheConstants.{PLACES};
 ghost use Rattle.pv_dirs.specs.Index.{place_of, said, recorded_count, known, Leads};

@@ -21,3 +21,4 @@ mod slot;
 mod sorting;
 
 pub use directories::Directories;
+pub use pv_inodes as inodes;

@@ -5,7 +5,7 @@ ghost use Rattle.std.specs.FinMap.Entries.{find};
 ghost use Rattle.std.specs.Ordering.{nat_cmp};
 ghost use Rattle.std.specs.declared.cmp.Ordering.TheVariants.{Less};
 ghost use Rattle.pv_model.specs.declared.version.Version.TheVariants.{V2};
-ghost use Rattle.pv_model.specs.Room.{greatest_entries};
+ghost use Rattle.pv_model.specs.Machine.{greatest_entries};
 ghost use Rattle.pv_dirs.specs.Dirs.{slots_in, name_in, entries_in, IsRunIn, AscendIn, IsLedBy};
 
 use crate::dir::{Dir, rest_of};

@@ -1,8 +1,7 @@
 //! The encoding of a slot.
 ghost use Rattle.std.specs.Prelude.{◌≡◌, ◌≤◌, length, drop, slice_index};
 ghost use Rattle.pv_model.specs.declared.limits.TheConstants.{NAME_V2};
-ghost use Rattle.pv_model.specs.Room.{entry_length};
-ghost use Rattle.pv_model.specs.Tree.{greatest_name};
+ghost use Rattle.pv_model.specs.Machine.{entry_length, greatest_name};
 ghost use Rattle.pv_dirs.specs.Slots.{slot_name, slot_number};
 
 use byteorder::{ByteOrder, LittleEndian};

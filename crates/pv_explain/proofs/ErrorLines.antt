@@ -8,24 +8,15 @@ use Rattle.pv_model.specs.declared.errno.Errno.{Errno}
 use Rattle.pv_model.specs.declared.outcome.Cause.TheVariants.{Plain, Promise as ByPromise, Unveil as ByUnveil, Locked}
 use Rattle.pv_model.specs.declared.outcome.Outcome.{Outcome}
 use Rattle.pv_model.specs.declared.outcome.Outcome.TheVariants.{Value, Text, Failed, Killed, Exited, Blocked, Gone}
-use Rattle.pv_model.specs.Answer.{Answered, answer}
-use Rattle.pv_model.specs.Answers.Lines.{AnswerLine, answer_line}
-use Rattle.pv_model.specs.Bytes.{Bytes}
-use Rattle.pv_model.specs.CallRef.{call_of}
-use Rattle.pv_model.specs.Effect.{descriptor_at, directory_of_file, open_file, open_file_of, start_directory}
-use Rattle.pv_model.specs.Grammar.Programs.{program_of}
-use Rattle.pv_model.specs.Numbered.{Numbered, at_number}
-use Rattle.pv_model.specs.State.{Descriptor, OpenFile, Process, State, process_at}
-use Rattle.pv_model.specs.Tree.{Tree, is_directory_at}
-use Rattle.pv_model.specs.Walk.{is_absolute}
-use Rattle.pv_model.specs.Walks.{Walk, walks_of}
+use Rattle.pv_model.specs.Machine.{Answered, answer, AnswerLine, answer_line, Bytes, call_of, descriptor_at, directory_of_file, open_file, open_file_of, start_directory, program_of, Numbered, at_number, Descriptor, OpenFile, Process, State, process_at, Tree, is_directory_at, is_absolute, Walk, walks_of}
 use Rattle.pv_laws_states.specs.Calls.{IsUnharmed}
 use Rattle.pv_laws_states.proofs.Outcomes.{refused-unharmed}
-use Rattle.pv_explain.specs.declared.making.MadeCall.{MadeCall}
-use Rattle.pv_explain.specs.declared.making.MadeStep.{MadeStep}
-use Rattle.pv_explain.specs.declared.making.MadeStep.TheVariants.{Gone as GoneStep, Register, Call as CallMade}
+use Rattle.pv_step_lines.specs.declared.making.MadeCall.{MadeCall}
+use Rattle.pv_step_lines.specs.declared.making.MadeStep.{MadeStep}
+use Rattle.pv_step_lines.specs.declared.making.MadeStep.TheVariants.{Gone as GoneStep, Register, Call as CallMade}
 use Rattle.pv_explain.specs.Errors.{PrefixEnd, Reason, opened, one_path, two_paths, added_by, argument_reason, arrives, descriptor_reason, descriptor_used, error_line, error_lines, error_lines_by, error_lines_next, error_lines_of, file_reason, is_of_path, misfits, path_reason, plain_error, prefix_end, reason_of, reason_text, start_of, walk_prefix, walks_reason, words_reason}
-use Rattle.pv_explain.specs.Made.{IsMade, IsMadeCall, error_after, error_of_step}
+use Rattle.pv_step_lines.specs.Made.{IsMade, IsMadeCall}
+use Rattle.pv_explain.specs.Made.{error_after, error_of_step}
 
 -- ---- states with the same tree and open files, and processes with the same directory and descriptors
 

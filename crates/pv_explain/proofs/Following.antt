@@ -11,17 +11,13 @@ use Rattle.pv_model.specs.declared.call.Call.TheVariants.{Fork, Unveil, Execve}
 use Rattle.pv_model.specs.declared.outcome.Outcome.{Outcome}
 use Rattle.pv_model.specs.declared.outcome.Outcome.TheVariants.{Value}
 use Rattle.pv_model.specs.declared.place.Place.{Place}
-use Rattle.pv_model.specs.Answer.{answer}
-use Rattle.pv_model.specs.Answers.Explain.{settings_by, settings_of_step, settings_next}
-use Rattle.pv_model.specs.Answers.Settings.{Setting, Settings, settings_of, settings_after, table_entry, entry_given, after_unveil, after_execve}
-use Rattle.pv_model.specs.Grammar.Programs.{program_of}
-use Rattle.pv_model.specs.Program.{Next, inside, calls_for, next}
-use Rattle.pv_model.specs.State.{Process, State, process_at}
-use Rattle.pv_model.specs.Step.{Stepped, step, step_by}
-use Rattle.pv_model.specs.Unveil.{target_of}
+use Rattle.pv_model.specs.Machine.{answer, settings_next, Setting, Settings, settings_of, program_of, Next, inside, calls_for, next, Process, State, process_at, Stepped, step, step_by, target_of}
+use Rattle.pv_model.specs.Answers.Explain.{settings_by, settings_of_step}
+use Rattle.pv_model.specs.Answers.Settings.{settings_after, table_entry, entry_given, after_unveil, after_execve}
 use Rattle.pv_laws_access.specs.Growth.{IsInOrder}
 use Rattle.pv_laws_access.proofs.Ends.{step-is, step-gone}
-use Rattle.pv_explain.specs.Keeping.{IsLive, Agree, target_before, entry_at, set_now, reported_settings}
+use Rattle.pv_step_lines.specs.Before.{target_before}
+use Rattle.pv_explain.specs.Keeping.{IsLive, Agree, entry_at, set_now, reported_settings}
 use Rattle.pv_explain.proofs.Newcomers.{answered-comes, inside-comes}
 
 -- ---- by the entry whose permissions were set

@@ -1,30 +1,19 @@
 -- A step, as in the definitions: its number and line, and the records after it.
-use Rattle.std.proofs.Common.{◌≡◌, ◌∙◌, ℕ, Bool, List, ◌++◌, Some, ap, ap₂, sym, subst}
+use Rattle.std.proofs.Common.{◌≡◌, ◌∙◌, ℕ, Bool, List, ◌++◌, Some, ap, ap₂, sym}
 use Rattle.std.specs.Prelude.{codes}
 use Rattle.std.specs.Fmt.{decimal}
-use Rattle.pv_model.specs.Answer.{Answered}
-use Rattle.pv_model.specs.Answers.Explain.{settings_next, location_at, step_line}
-use Rattle.pv_model.specs.Answers.Lines.{AnswerLine, answer_line, answer_bytes, answer_line_bytes}
-use Rattle.pv_model.specs.Answers.Settings.{Setting, Settings, settings_of, settings_after}
-use Rattle.pv_model.specs.Bytes.{Bytes}
-use Rattle.pv_model.specs.CallRef.{call_of}
-use Rattle.pv_model.specs.Grammar.Programs.{program_of}
-use Rattle.pv_model.specs.State.{State, process_at}
-use Rattle.pv_model.specs.Step.{Stepped, step, step_by}
-use Rattle.pv_laws_states.specs.States.{IsValid}
-use Rattle.pv_laws_states.proofs.BySteps.{step-keeps_whole}
-use Rattle.pv_laws_access.proofs.Ends.{step-is, step-gone}
-use Rattle.pv_laws_runs.proofs.Ranges.{program_of-encodes}
-use Rattle.pv_explain.specs.declared.making.MadeCall.{MadeCall}
-use Rattle.pv_explain.specs.declared.making.MadeStep.{MadeStep}
-use Rattle.pv_explain.specs.declared.making.MadeStep.TheVariants.{Gone, Register, Call as CallMade}
+use Rattle.pv_model.specs.Machine.{Answered, settings_next, AnswerLine, answer_line, answer_bytes, answer_line_bytes, Setting, Settings, settings_of, Bytes, call_of, program_of, State, process_at}
+use Rattle.pv_model.specs.Answers.Explain.{location_at, step_line}
+use Rattle.pv_model.specs.Answers.Settings.{settings_after}
+use Rattle.pv_step_lines.specs.declared.making.MadeStep.{MadeStep}
+use Rattle.pv_step_lines.specs.declared.making.MadeStep.TheVariants.{Gone, Register, Call as CallMade}
 use Rattle.pv_explain.specs.Keeping.{entry_at, reported_settings}
-use Rattle.pv_explain.specs.Made.{IsMadeCall, IsMade, error_of_step, line_of, made_lines, settings_made}
-use Rattle.pv_explain.specs.Parts.{location_text, step_text}
-use Rattle.pv_explain.specs.Steps.{step_lines}
+use Rattle.pv_step_lines.specs.Made.{IsMade, line_of, made_lines}
+use Rattle.pv_explain.specs.Made.{error_of_step, settings_made}
+use Rattle.pv_explain.specs.Steps.{location_text, step_lines, step_text}
 use Rattle.pv_explain.proofs.ErrorLines.{error-is}
 use Rattle.pv_explain.proofs.Following.{reported-is, next-gone, next-inside, next-called}
-use Rattle.pv_explain.proofs.MadeLines.{made-is}
+use Rattle.pv_step_lines.proofs.MadeLines.{made-is}
 
 appeared : (s : State) (pid : ℕ) (made : MadeStep) (after : State) → IsMade s pid made after → location_text (line_of made) ≡ location_at program_of (process_at s pid)
 appeared s pid Gone after is = sym (ap (location_at program_of) is.0)
@@ -45,16 +34,6 @@ module _ (s : State) (pid : ℕ) (made : MadeStep) (after : State) (is : IsMade 
       ∙ ap (λ (own : List Setting). answer_line_bytes (step_line program_of k s pid) ++ answer_bytes (made_lines pid own made after ++ error)) same
       ∙ ap₂ (λ (ls others : List AnswerLine). answer_line_bytes (step_line program_of k s pid) ++ answer_bytes (ls ++ others)) (made-is s pid (settings_of all pid) made after is)
       (error-is errors s pid made after is)
-
-pub left-by : (s : State) (pid : ℕ) (made : MadeStep) (after : State) → IsMade s pid made after → after ≡ (step program_of s pid).after
-left-by s pid Gone after is = is.1 ∙ sym (ap (λ (w : Stepped). w.after) (step-gone program_of s pid is.0))
-left-by s pid (Register n) after is = is.left ∙ sym (ap (λ (w : Stepped). w.after) (step-is program_of s pid is.me is.lives ∙ ap (step_by program_of s pid is.me) is.comes))
-left-by s pid (CallMade m) after is =
-    sym (ap (λ (w : Stepped). w.after) (step-is program_of s pid is.me is.lives ∙ ap (step_by program_of s pid is.me) is.comes) ∙ ap (λ (a : Answered). a.after) is.answered)
-
--- the state after a call is valid
-pub whole-made : (s : State) (pid : ℕ) (m : MadeCall) (after : State) → IsValid s → IsMadeCall s pid m after → IsValid after
-whole-made s pid m after whole is = subst IsValid (sym (left-by s pid (CallMade m) after is)) (step-keeps_whole program_of program_of-encodes s pid whole)
 
 -- the records after a step
 pub settings-made : (s : State) (pid : ℕ) (made : MadeStep) (after : State) (all : Settings) → IsMade s pid made after → settings_made pid made after all ≡ settings_next program_of s pid all

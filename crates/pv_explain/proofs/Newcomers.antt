@@ -9,22 +9,15 @@ use Rattle.pv_model.specs.declared.errno.Errno.TheVariants.{ENOSYS}
 use Rattle.pv_model.specs.declared.outcome.Cause.TheVariants.{Promise as ByPromise}
 use Rattle.pv_model.specs.declared.outcome.Outcome.{Outcome}
 use Rattle.pv_model.specs.declared.outcome.Outcome.TheVariants.{Value}
-use Rattle.pv_model.specs.Answer.{Answered, answer, answer_by_attempt, at_next_line, with_front, update, update_live, effect}
-use Rattle.pv_model.specs.Attempt.{Attempt, done, refused}
-use Rattle.pv_model.specs.Bytes.{Bytes}
-use Rattle.pv_model.specs.Calls.Processes.{with_program, with_result, child, end_process}
-use Rattle.pv_model.specs.Effect.{Effect, Reply, returns, returns_bytes, ends, waits}
-use Rattle.pv_model.specs.Errno.{errno_number}
-use Rattle.pv_model.specs.Held.{collect}
-use Rattle.pv_model.specs.State.{Program, Process, live, ended_record, State, process_at, with_process}
+use Rattle.pv_model.specs.Machine.{Answered, answer, answer_by_attempt, at_next_line, with_front, update, update_live, effect, Attempt, done, refused, Bytes, with_program, with_result, child, end_process, Effect, Reply, returns, returns_bytes, ends, waits, errno_number, collect, Program, Process, live, ended_record, State, process_at, with_process}
 use Rattle.pv_laws_states.proofs.Attempts.{Leads}
-use Rattle.pv_laws_states.proofs.Ending.{adopted, mapped, map-adopt, sorted-mapped, found-filtered, found-mapped, live-adopted}
+use Rattle.pv_laws_states.proofs.ValidEnds.{adopted, mapped, map-adopt, sorted-mapped, found-filtered, found-mapped, live-adopted}
 use Rattle.pv_laws_states.proofs.Members.{live-found, found-live}
 use Rattle.pv_laws_states.proofs.Outcomes.{at_call, by_answer}
 use Rattle.pv_laws_states.proofs.Processes.{process_at-other, find-put_same, find-put_other}
-use Rattle.pv_laws_states.proofs.Whole.{sorted-put_number}
+use Rattle.pv_laws_states.proofs.ValidStates.{sorted-put_number}
 use Rattle.pv_laws_access.specs.Growth.{IsInOrder}
-use Rattle.pv_laws_access.proofs.HasEffect.{HasEffect, stays, restrains, begins, closes, copies, forks, reaps, moves, cuts, writes_bytes, makes, links, unlinks, renames, opens, creates, Did}
+use Rattle.pv_laws_access.proofs.CallEffects.{HasEffect, stays, restrains, begins, closes, copies, forks, reaps, moves, cuts, writes_bytes, makes, links, unlinks, renames, opens, creates, Did}
 use Rattle.pv_laws_access.proofs.EffectByCall.{does-effect}
 use Rattle.pv_laws_access.proofs.Ends.{process_at-collect, in_order-call, ended-not_live, put_away, heir, claimed}
 use Rattle.pv_explain.specs.Keeping.{IsLive}
@@ -143,7 +136,7 @@ module _ (program_of : Bytes → Option Program) (s : State) (pid : ℕ) (order 
     attempted (done walks (after, ends status)) does k lives = inl (back k (ended k lives))
       where
         same : after ≡ x
-        same = Rattle.pv_laws_access.proofs.HasEffect.ends-stays x pid now call after (ends status) status does refl
+        same = Rattle.pv_laws_access.proofs.CallEffects.ends-stays x pid now call after (ends status) status does refl
 
         ended : (k : ℕ) → IsLive (collect (end_process after pid now status)) k → IsLive x k
         ended k lives = ended-lives x pid now status x_order.ascending k (subst (λ (y : State). IsLive (end_process y pid now status) k) same (collect-lives (end_process after pid now status) k lives))

@@ -8,16 +8,16 @@ use Rattle.std.specs.Ordering.{nat_cmp, eq_by_cmp}
 use Rattle.std.proofs.lemmas.Bool.{and_parts, and_from, eqb-true, eq-eqb, ne_eqb}
 use Rattle.std.proofs.lemmas.Cmp.{nat_cmp_total}
 use Rattle.std.proofs.lemmas.Map.Lookups.{exact_unsigned}
-use Rattle.pv_model.specs.Answers.Settings.{Setting, Settings, settings_of, set_at, of_earlier_program, after_execve}
+use Rattle.pv_model.specs.Machine.{Setting, Settings, settings_of, Process, ProcessRecord as StateRecord, live_process, Table}
+use Rattle.pv_model.specs.Answers.Settings.{set_at, of_earlier_program, after_execve}
 use Rattle.pv_model.specs.declared.limits.TheConstants.{PROCESSES}
-use Rattle.pv_model.specs.State.{Process, ProcessRecord as StateRecord, live_process}
-use Rattle.pv_model.specs.Unveil.{Table}
 use Rattle.pv_procs.specs.declared.record.ProcessRecord.{ProcessRecord}
 use Rattle.pv_procs.specs.Parts.{record_of}
 use Rattle.pv_procs.specs.ProcessTable.{ProcessTable, IsProcessTable, process_in}
 use Rattle.pv_explain.specs.declared.origins.ProcessOrigins.{ProcessOrigins}
-use Rattle.pv_explain.specs.declared.origins.Origin.{Origin}
-use Rattle.pv_explain.specs.Keeping.{aged, setting_of, settings_in, origins_of_process, all_of, is_once}
+use Rattle.pv_step_lines.specs.declared.origin.Origin.{Origin}
+use Rattle.pv_step_lines.specs.Origin.{setting_of, settings_in}
+use Rattle.pv_explain.specs.Keeping.{aged, origins_of_process, all_of, is_once}
 
 -- ---- the origins of one process
 

@@ -3,27 +3,21 @@ use Rattle.std.proofs.Common.{◌≡◌, ◌<◌, ◌≤◌, ◌+◌, ◌-◌, �
 use Rattle.std.specs.Prelude.{replicate}
 use Rattle.std.proofs.lemmas.Grind.{flat_map-append}
 use Rattle.std.proofs.lemmas.List.{take-append-drop, append-nil, length-replicate, replicate-append-replicate}
-use Rattle.pv_model.specs.Answers.Explain.{explained_of, explained_step, explain_from, explain_lines, set_text, settings_next, step_line}
-use Rattle.pv_model.specs.Answers.Lines.{AnswerLine, answer_bytes, answer_line_bytes}
-use Rattle.pv_model.specs.Answers.ProcessRecord.{locations}
-use Rattle.pv_model.specs.Answers.Settings.{Settings, settings_of}
-use Rattle.pv_model.specs.Bytes.{Bytes}
-use Rattle.pv_model.specs.Grammar.Programs.{program_of}
-use Rattle.pv_model.specs.State.{Process, State, process_at}
-use Rattle.pv_model.specs.Step.{Schedule, run, step, steps_of}
+use Rattle.pv_model.specs.Machine.{explained_step, settings_next, AnswerLine, answer_bytes, answer_line_bytes, locations, Settings, settings_of, Bytes, program_of, Process, State, process_at, Schedule, run, step, steps_of}
+use Rattle.pv_model.specs.Answers.Explain.{explained_of, explain_from, explain_lines, set_text, step_line}
 use Rattle.pv_model.proofs.Runs.{run-append}
 use Rattle.pv_laws_states.specs.States.{IsValid}
 use Rattle.pv_laws_states.proofs.BySteps.{step-keeps_whole}
 use Rattle.pv_laws_access.proofs.Ends.{whole-in_order}
-use Rattle.pv_laws_runs.proofs.Ranges.{program_of-encodes}
-use Rattle.pv_session.specs.declared.session.Stop.{Stop}
-use Rattle.pv_session.specs.declared.session.Stop.TheVariants.{Memory, Write}
-use Rattle.pv_session.specs.Stopping.{NextLoads}
-use Rattle.pv_session.proofs.Turns.{replicate_more, steps_more}
-use Rattle.pv_session.specs.Running.{FailsBy}
+use Rattle.pv_step_lines.proofs.OfLawsRuns.Ranges.{program_of-encodes}
+use Rattle.pv_step_lines.specs.OfSession.declared.session.Stop.{Stop}
+use Rattle.pv_step_lines.specs.OfSession.declared.session.Stop.TheVariants.{Memory, Write}
+use Rattle.pv_step_lines.specs.OfSession.Stopping.{NextLoads}
+use Rattle.pv_step_lines.proofs.OfSession.Turns.{replicate_more, steps_more}
+use Rattle.pv_step_lines.specs.OfSession.Running.{FailsBy}
 use Rattle.pv_streams.specs.Sinks.{and_all, Writes, WritesOr}
 use Rattle.pv_streams.proofs.Reporting.{written_both, written_none}
-use Rattle.pv_answers.proofs.Writing.{or_as, or_both, or_longer, or_written, writes_as, writes_both, writes_none, writes_ok}
+use Rattle.pv_step_lines.proofs.OfAnswers.Writing.{or_as, or_both, or_longer, or_written, writes_as, writes_both, writes_none, writes_ok}
 use Rattle.pv_model.specs.declared.stream.Sink.{Ghosts as Writing}
 use Rattle.pv_explain.specs.Errors.{added_by, explain_adding, explained_lines, explain_with_errors_lines, no_lines}
 use Rattle.pv_explain.specs.Keeping.{Agree}

@@ -13,14 +13,9 @@ use Rattle.pv_model.specs.declared.follow.Follow.{Follow}
 use Rattle.pv_model.specs.declared.follow.Follow.TheVariants.{Last}
 use Rattle.pv_model.specs.declared.open_flags.OpenFlags.{OpenFlags}
 use Rattle.pv_model.specs.declared.place.Place.{Place}
-use Rattle.pv_model.specs.Bytes.{Bytes}
-use Rattle.pv_model.specs.Effect.{directory_of_file, end_of, open_file, start_directory}
+use Rattle.pv_model.specs.Machine.{Bytes, directory_of_file, end_of, open_file, start_directory, OpenFile, Process, State, is_directory_at, is_absolute, resolve, Walk, walks_of}
 use Rattle.pv_model.specs.Perms.{permission_of}
 use Rattle.pv_model.specs.Promises.{keywords, promise_of}
-use Rattle.pv_model.specs.State.{OpenFile, Process, State}
-use Rattle.pv_model.specs.Tree.{is_directory_at}
-use Rattle.pv_model.specs.Walk.{is_absolute, resolve}
-use Rattle.pv_model.specs.Walks.{Walk, walks_of}
 use Rattle.pv_explain.proofs.ProcessOrigins.{is-none}
 use Rattle.pv_explain.specs.Errors.{Holds, IsPrefixEnd, PrefixEnd, Reason, no_descriptor, opened, unknown_keyword, unknown_permission, one_path, two_paths, in_words, argument_reason, arrives, condition, descriptor_reason, descriptor_used, end_after, file_reason, is_of_path, is_path_errno, is_valid_link, misfits, path_reason, prefix_end, reason_of, start_of, stop, unknown_byte, unknown_in, walk_prefix, walks_reason, words_reason}
 

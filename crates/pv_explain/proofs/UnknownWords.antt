@@ -2,7 +2,7 @@
 use Rattle.std.proofs.Common.{◌≡◌, ◌<◌, ◌≤◌, ◌+◌, ◌∙◌, ℕ, Bool, true, false, if◌then◌else◌, List, length, get_or, drop, Option, None, Some, ap, sym}
 use Rattle.std.specs.Prelude.{find, is_none}
 use Rattle.std.proofs.lemmas.List.{at_drop_more, at_drop_all}
-use Rattle.pv_model.specs.Bytes.{Bytes}
+use Rattle.pv_model.specs.Machine.{Bytes}
 use Rattle.pv_model.specs.Promises.{keywords, promise_of}
 
 abbrev pub is_unknown : Bytes → Bool

@@ -6,10 +6,7 @@ use Rattle.pv_model.specs.declared.errno.Errno.{Errno}
 use Rattle.pv_model.specs.declared.errno.Errno.TheVariants.{ENOENT, EBADF, EEXIST, ENOTDIR, EINVAL, ELOOP, ECHILD, EBUSY, ENOTEMPTY}
 use Rattle.pv_model.specs.declared.open_flags.Mode.TheVariants.{Read as ReadMode}
 use Rattle.pv_model.specs.declared.version.Version.TheVariants.{V1}
-use Rattle.pv_model.specs.Bytes.{Bytes}
-use Rattle.pv_model.specs.OnLiterals.{machine_on_literals}
-use Rattle.pv_model.specs.State.{Process, State, first_process, first_state}
-use Rattle.pv_model.specs.Tree.{Tree, directory_node, file_node, link_node}
+use Rattle.pv_model.specs.Machine.{Bytes, machine_on_literals, Process, State, first_process, first_state, Tree, directory_node, file_node, link_node}
 use Rattle.pv_explain.specs.Errors.{prefix_end, reason_of, reason_text}
 
 -- a directory `d` with a file, a file `f`, and a link `l` to itself

@@ -3,7 +3,7 @@ use Rattle.std.specs.Prelude.{codes}
 use Rattle.pv_model.specs.declared.call.Start.{Start}
 use Rattle.pv_model.specs.declared.kind.Kind.{Kind}
 use Rattle.pv_model.specs.declared.kind.Kind.TheVariants.{Directory, File, Executable, Symlink}
-use Rattle.pv_model.specs.Bytes.{Bytes}
+use Rattle.pv_model.specs.Machine.{Bytes}
 use Rattle.pv_explain.specs.declared.errors.ErrorReason.{ErrorReason}
 use Rattle.pv_explain.specs.declared.errors.ErrorReason.TheVariants.{NoDescriptor, Opened, Keyword, Permission, OnePath, TwoPaths, Words}
 use Rattle.pv_explain.specs.declared.errors.PathPrefix.{PathPrefix}

@@ -18,32 +18,18 @@ use Rattle.pv_model.specs.declared.outcome.Outcome.{Outcome}
 use Rattle.pv_model.specs.declared.outcome.Outcome.TheVariants.{Failed}
 use Rattle.pv_model.specs.declared.place.Place.{Place}
 use Rattle.pv_model.specs.declared.place.Place.TheVariants.{At, Node as Unnamed}
-use Rattle.pv_model.specs.Answer.{answer}
-use Rattle.pv_model.specs.Answers.Explain.{explain_lines, explained_step, set_text, settings_next, step_line}
-use Rattle.pv_model.specs.Answers.Lines.{AnswerLine, answer_line}
-use Rattle.pv_model.specs.Answers.ProcessRecord.{locations}
-use Rattle.pv_model.specs.Answers.Settings.{Settings, settings_of}
-use Rattle.pv_model.specs.Bytes.{Bytes, is_empty}
-use Rattle.pv_model.specs.Calls.Paths.{is_directory_there}
-use Rattle.pv_model.specs.Effect.{end_of, node_of, open_file, size_of, start_directory}
-use Rattle.pv_model.specs.Grammar.Programs.{program_of}
+use Rattle.pv_model.specs.Machine.{answer, explained_step, settings_next, AnswerLine, answer_line, locations, Settings, settings_of, Bytes, is_empty, is_directory_there, end_of, node_of, open_file, size_of, start_directory, program_of, Next, inside, calls_for, next, OpenFile, Process, State, reads, writes, process_at, step, mode_text, quote, Node, directory_node, file_node, link_node, Tree, is_directory_at, node_at, begins_walk, is_absolute, resolve, Walk, walks_of}
+use Rattle.pv_model.specs.Answers.Explain.{explain_lines, set_text, step_line}
 use Rattle.pv_model.specs.Perms.{permission_of}
-use Rattle.pv_model.specs.Program.{Next, inside, calls_for, next}
 use Rattle.pv_model.specs.Promises.{keywords, promise_of}
-use Rattle.pv_model.specs.State.{OpenFile, Process, State, reads, writes, process_at}
-use Rattle.pv_model.specs.Step.{step}
-use Rattle.pv_model.specs.Trace.{mode_text, quote}
-use Rattle.pv_model.specs.Tree.{Node, directory_node, file_node, link_node, Tree, is_directory_at, node_at}
-use Rattle.pv_model.specs.Walk.{begins_walk, is_absolute, resolve}
-use Rattle.pv_model.specs.Walks.{Walk, walks_of}
 
 -- a prefix of a path, and the end of the walk along it
 pub record PrefixEnd : Type 0 where
   pub path : Bytes
   pub end : Result Place Errno
 
--- what is so: a descriptor is not open, or is open in a mode on a node; a word or a byte of an argument is unknown; the
--- ends of walks; or the condition of the error, as its manual page states it
+-- facts behind an error: a descriptor is not open, or is open in a mode on a node; a word or a byte of an argument is
+-- unknown; the ends of walks; or the condition of the error, as its manual page states it
 pub data Reason : Type 0 where
   no_descriptor : (d : ℤ) → Reason
   opened : (d : ℤ) (node : ℕ) (mode : Mode) → Reason

@@ -1,5 +1,5 @@
 -- The origins of table entries, as recorded for live processes.
-use Rattle.std.specs.Prelude.{◌≡◌, ℕ, ◌&&◌, Bool, true, false, List, [], ◌∷◌, map, is_none, Option, None, Some, option_map}
+use Rattle.std.specs.Prelude.{◌≡◌, ℕ, ◌&&◌, Bool, true, false, List, [], ◌∷◌, map, is_none, Option, None, Some}
 use Rattle.std.specs.FinMap.Entries.{find, put}
 use Rattle.std.specs.Ordering.{nat_cmp}
 use Rattle.pv_model.specs.declared.call.Call.{Call}
@@ -7,23 +7,11 @@ use Rattle.pv_model.specs.declared.call.Call.TheVariants.{Fork, Unveil, Execve}
 use Rattle.pv_model.specs.declared.outcome.Outcome.{Outcome}
 use Rattle.pv_model.specs.declared.outcome.Outcome.TheVariants.{Value}
 use Rattle.pv_model.specs.declared.target.Target.{Target}
-use Rattle.pv_model.specs.Answers.Settings.{Setting, Settings, settings_of, set_at, after_execve}
-use Rattle.pv_model.specs.Bytes.{Bytes}
-use Rattle.pv_model.specs.Calls.Restraints.{entries_of_table}
-use Rattle.pv_model.specs.Effect.{end_of}
-use Rattle.pv_model.specs.Perms.{no_permissions}
-use Rattle.pv_model.specs.State.{Process, State, process_at}
-use Rattle.pv_model.specs.Touch.{place_found}
-use Rattle.pv_model.specs.Unveil.{entry_for, target_of}
-use Rattle.pv_model.specs.Walks.{unveil_walk}
+use Rattle.pv_model.specs.Machine.{Setting, Settings, settings_of, entries_of_table, Process, State, process_at, entry_for}
+use Rattle.pv_model.specs.Answers.Settings.{set_at, after_execve}
 use Rattle.pv_explain.specs.declared.origins.ProcessOrigins.{ProcessOrigins}
-use Rattle.pv_explain.specs.declared.origins.Origin.{Origin}
-
-abbrev pub setting_of : Origin → Setting
-setting_of o = record { line = o.line; earlier = o.earlier }
-
-abbrev pub settings_in : List Origin → List Setting
-settings_in os = map setting_of os
+use Rattle.pv_step_lines.specs.declared.origin.Origin.{Origin}
+use Rattle.pv_step_lines.specs.Origin.{settings_in}
 
 -- the origin, marked as of an earlier program
 abbrev pub aged : Origin → Origin
@@ -50,19 +38,6 @@ abbrev pub Agree : State → Settings → Settings → Type 0
 Agree s all others = (pid : ℕ) → IsLive s pid → settings_of all pid ≡ settings_of others pid
 
 -- ---- the records after a call, given the entry whose permissions an unveil(2) set
-
--- the path argument of an unveil(2)
-abbrev pub path_unveiled : Call → Option Bytes
-path_unveiled (Unveil path permissions) = path
-path_unveiled call = None
-
-abbrev pub target_at : State → Process → Option Bytes → Option Target
-target_at s p None = None
-target_at s p (Some path) = option_map (target_of s.tree) (place_found (end_of s p (unveil_walk path no_permissions)))
-
--- the unveil target of the path of a call
-abbrev pub target_before : State → Process → Call → Option Target
-target_before s p call = target_at s p (path_unveiled call)
 
 abbrev pub entry_at : Option Target → Option Process → Option ℕ
 entry_at (Some target) (Some after) = entry_for (entries_of_table after.table) target

@@ -1,9 +1,5 @@
-pub mod Basis
-pub mod Before
 pub mod ErrorParts
 pub mod Errors
 pub mod Keeping
 pub mod Made
-pub mod Moved
-pub mod Parts
 pub mod Steps

@@ -1,17 +1,21 @@
 -- The lines of several steps, the records after them, and the point at which they stop.
-use Rattle.std.specs.Prelude.{◌≡◌, ⊤, ℕ, ◌+◌, Bool, List, [], ◌∷◌, ◌++◌, Option}
-use Rattle.pv_model.specs.Answers.Explain.{explained_step, set_text, settings_next, step_line}
-use Rattle.pv_model.specs.Answers.Lines.{AnswerLine, answer_bytes}
-use Rattle.pv_model.specs.Answers.Settings.{Settings, settings_of}
-use Rattle.pv_model.specs.Bytes.{Bytes}
-use Rattle.pv_model.specs.Grammar.Programs.{program_of}
-use Rattle.pv_model.specs.State.{State}
-use Rattle.pv_model.specs.Step.{run, step}
-use Rattle.pv_session.specs.declared.session.Stop.{Stop}
-use Rattle.pv_session.specs.declared.session.Stop.TheVariants.{Memory, Write}
-use Rattle.pv_session.specs.Stopping.{NextLoads}
+use Rattle.std.specs.Prelude.{◌≡◌, ⊤, ℕ, ◌+◌, Bool, List, [], ◌∷◌, ◌++◌, codes, Option, None, Some}
+use Rattle.std.specs.Fmt.{decimal}
+use Rattle.pv_model.specs.Machine.{explained_step, settings_next, AnswerLine, answer_bytes, Settings, settings_of, Bytes, program_of, State, run, step}
+use Rattle.pv_model.specs.Answers.Explain.{set_text, step_line}
+use Rattle.pv_step_lines.specs.OfSession.declared.session.Stop.{Stop}
+use Rattle.pv_step_lines.specs.OfSession.declared.session.Stop.TheVariants.{Memory, Write}
+use Rattle.pv_step_lines.specs.OfSession.Stopping.{NextLoads}
 use Rattle.pv_streams.specs.Sinks.{and_all}
 use Rattle.pv_explain.specs.Errors.{added_by}
+
+abbrev pub location_text : Option ℕ → Bytes
+location_text None = []
+location_text (Some line) = codes ", line " ++ decimal line
+
+-- the number of a step, and the line of its process
+abbrev pub step_text : ℕ → Option ℕ → Bytes
+step_text number line = decimal number ++ location_text line
 
 module _ (errors : Bool) where
   -- the lines of a step, with the reason of its error if `errors`

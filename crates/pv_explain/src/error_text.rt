@@ -5,18 +5,14 @@ ghost use Rattle.pv_explain.specs.ErrorParts.{reason_in, words_of_kind};
 ghost use Rattle.pv_explain.specs.Errors.{entry_text, failure_text, node_facts, plain_error, reason_text};
 ghost use Rattle.pv_explain.specs.Made.{error_after};
 ghost use Rattle.pv_laws_states.specs.States.{IsValid};
-ghost use Rattle.pv_model.specs.Answers.Lines.{answer_bytes, answer_line, answer_line_bytes};
-ghost use Rattle.pv_model.specs.CallRef.{call_of};
-ghost use Rattle.pv_model.specs.State.{process_at};
-ghost use Rattle.pv_model.specs.Trace.{mode_text, quote};
-ghost use Rattle.pv_model.specs.Tree.{node_at};
+ghost use Rattle.pv_model.specs.Machine.{answer_bytes, answer_line, answer_line_bytes, call_of, process_at, mode_text, quote, node_at};
 ghost use Rattle.pv_streams.specs.Sinks.{Writes};
 
 use crate::errors::{ErrorReason, PathPrefix, reason_of};
 use itoa::Buffer;
-use pv_answers::{Decimal, Fragment, Line as AnswerLine, ModeLetters, Plain, Quoted};
-use pv_calls_state::Parts;
 use pv_model::{CallRef, Cause, Errno, Kind, Mode, Outcome, Place};
+use pv_step_lines::answers::{Decimal, Fragment, Line as AnswerLine, ModeLetters, Plain, Quoted};
+use pv_step_lines::calls_state::Parts;
 use pv_streams::{Failed, Sink, write_whole};
 use pv_tree::Tree;
 

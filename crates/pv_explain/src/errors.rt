@@ -4,21 +4,17 @@ ghost use Rattle.std.specs.Option.{option_or};
 ghost use Rattle.pv_explain.specs.ErrorParts.{prefix_in, reason_in};
 ghost use Rattle.pv_explain.specs.Errors.{ReasonsHold, argument_reason, arrives, condition, descriptor_reason, descriptor_used, end_after, ends_component, file_reason, invalid_argument, is_EISDIR, is_of_path, is_path_errno, is_valid_link, leads_to_directory, misfits, path_reason, prefix_end, reason_of, start_descriptor, start_of, start_used, stop, stops_at, two_walks, unknown_byte, unknown_in, unknown_keyword, unknown_permission, walk_prefix, words_reason};
 ghost use Rattle.pv_laws_states.specs.States.{IsValid};
-ghost use Rattle.pv_model.specs.CallRef.{call_of, walk_of};
-ghost use Rattle.pv_model.specs.Effect.{open_file, start_directory};
+ghost use Rattle.pv_model.specs.Machine.{call_of, walk_of, open_file, start_directory, promise_name, Process, process_at, reads, is_directory_at};
 ghost use Rattle.pv_model.specs.Perms.{permission_of};
-ghost use Rattle.pv_model.specs.Promise.{promise_name};
 ghost use Rattle.pv_model.specs.Promises.{promise_of};
-ghost use Rattle.pv_model.specs.State.{Process, process_at, reads};
-ghost use Rattle.pv_model.specs.Tree.{is_directory_at};
 
-use pv_calls_plain::descriptors::open_file;
-use pv_calls_plain::files::writes;
-use pv_calls_state::Parts;
 use pv_model::limits::{LINK_TEXT, PATH};
 use pv_model::{CallRef, Errno, Follow, Mode, Place, Promise, Start, Text, Walk, Walks};
 use pv_namei::{PlainLookup, is_absolute, resolve};
 use pv_promises::ALL;
+use pv_step_lines::calls_plain::descriptors::open_file;
+use pv_step_lines::calls_plain::files::writes;
+use pv_step_lines::calls_state::Parts;
 use pv_tree::Tree;
 
 /// A prefix of a path, and the end of the walk along it.

@@ -3,42 +3,20 @@ ghost use Rattle.std.specs.Prelude.{◌≡◌, ◌<◌, ◌≤◌, ◌&&◌, ◌
 ghost use Rattle.std.specs.FinMap.Entries.{put};
 ghost use Rattle.std.specs.Ordering.{nat_cmp};
 ghost use Rattle.pv_model.specs.declared.limits.TheConstants.{PROCESSES, UNVEILS};
-ghost use Rattle.pv_model.specs.Answers.Settings.{settings_of, set_at, after_execve};
-ghost use Rattle.pv_model.specs.CallRef.{call_of};
-ghost use Rattle.pv_model.specs.State.{process_at};
+ghost use Rattle.pv_model.specs.Machine.{settings_of, call_of, process_at};
+ghost use Rattle.pv_model.specs.Answers.Settings.{set_at, after_execve};
 ghost use Rattle.pv_procs.specs.ProcessTable.{process_in};
-ghost use Rattle.pv_explain.specs.Keeping.{aged, all_of, setting_of, settings_in, reported_settings, Agree};
+ghost use Rattle.pv_step_lines.specs.Origin.{setting_of, settings_in};
+ghost use Rattle.pv_explain.specs.Keeping.{aged, all_of, reported_settings, Agree};
 
 use arrayvec::ArrayVec;
-use pv_calls_state::Parts;
 use pv_model::limits::{PROCESSES, UNVEILS};
 use pv_model::{CallRef, Outcome};
 use pv_procs::Processes;
+use pv_step_lines::Origin;
+use pv_step_lines::calls_state::Parts;
 use std::alloc::{AllocError, Global};
 use std::marker::Model;
-
-/// The origin of an unveil entry.
-#[derive(Clone, Copy, Debug, PartialEq, Eq)]
-pub struct Origin {
-    /// The line of the process that called unveil(2), from 1.
-    pub line: u16,
-    /// Whether the table was kept over an execve(2) since then.
-    pub earlier: bool,
-}
-
-/// A filler for the unused elements of an array. Line 0 is not a line of any program.
-impl Default for Origin {
-    ghost use Rattle.std.specs.Prelude.{◌≡◌, false};
-
-    ghost is_default = { λ origin. origin ≡ record { line = 0; earlier = false } };
-
-    fn default() -> Origin {
-        Origin {
-            line: 0,
-            earlier: false,
-        }
-    }
-}
 
 /// The origins of one process's entries, by entry number.
 pub type EntryOrigins = ArrayVec<Origin, UNVEILS>;

@@ -8,12 +8,8 @@ use Rattle.std.specs.Prelude.{IsSome}
 use Rattle.std.proofs.lemmas.List.{length-map, map-append}
 use Rattle.std.proofs.lemmas.Bool.{and_parts, eqb-true, ne_eqb}
 use Rattle.std.proofs.lemmas.Option.{slice_get-map}
-use Rattle.pv_model.specs.Answers.Observed.{Observer}
-use Rattle.pv_model.specs.Bytes.{Bytes}
-use Rattle.pv_model.specs.Grammar.Programs.{program_of}
-use Rattle.pv_model.specs.Program.{next}
-use Rattle.pv_model.specs.State.{Process, ProcessRecord, live, ended_record, State, live_process, process_at, with_process}
-use Rattle.pv_answers.proofs.Following.{Recorded, IsNextRecord, all-after}
+use Rattle.pv_model.specs.Machine.{Observer, Bytes, program_of, next, Process, ProcessRecord, live, ended_record, State, live_process, process_at, with_process}
+use Rattle.pv_step_lines.proofs.OfAnswers.Following.{Recorded, IsNextRecord, all-after}
 use Rattle.pv_explore.specs.Afters.{IsCellOf, LeadTo, own_or}
 use Rattle.pv_explore.specs.Observing.{stays_inside}
 use Rattle.pv_explore.specs.Rows.{Grew, IsGroupVisited, state_bytes}
@@ -21,19 +17,19 @@ use Rattle.pv_explore.specs.VisitedStates.{number_of, AreCachedBoth, AreCellsIn,
 use Rattle.pv_explore.proofs.Surviving.{goes-on, not-killed}
 use Rattle.pv_explore.proofs.VisitedStates.{cells-at, cells-grew, cells-in_grew}
 use Rattle.pv_laws_access.proofs.Ends.{whole-in_order}
-use Rattle.pv_laws_access.proofs.Framed.{others-keep_all}
-use Rattle.pv_laws_states.specs.States.{is_number, IsValid}
+use Rattle.pv_laws_access.proofs.OpenFilesAfterSteps.{others-keep_all}
+use Rattle.pv_laws_states.specs.States.{is_process_number, IsValid}
 use Rattle.pv_laws_states.proofs.Members.{find_number-list_all, find_number_after, found-live, live-found}
 use Rattle.pv_laws_states.proofs.Processes.{find-put_same, number-itself}
-use Rattle.pv_laws_steps.specs.Beside.{change_at, change_live}
-use Rattle.pv_laws_steps.specs.Commuting.{StaysInside, is_inward}
-use Rattle.pv_laws_steps.proofs.Commuted.{put-changes}
-use Rattle.pv_laws_steps.proofs.Inward.{where-inside}
-use Rattle.pv_procs.specs.ProcessTable.{number_after}
-use Rattle.pv_session.specs.Running.{stepped}
-use Rattle.pv_state_encoding.proofs.Records.{LeavesRecords, records-end, records-next}
-use Rattle.pv_state_encoding.specs.Encoded.{Encoded, plain, encoded_record, numbered_encoded, counts_group, tree_groups, encoded}
-use Rattle.pv_state_encoding.specs.Groups.{counts_part}
+use Rattle.pv_step_cache.specs.OfLawsSteps.Beside.{change_at, change_live}
+use Rattle.pv_step_cache.specs.OfLawsSteps.Commuting.{StaysInside, is_inward}
+use Rattle.pv_step_cache.proofs.OfLawsSteps.CommutingSteps.{put-changes}
+use Rattle.pv_step_cache.proofs.OfLawsSteps.InwardSteps.{where-inside}
+use Rattle.pv_step_lines.specs.OfProcs.ProcessTable.{number_after}
+use Rattle.pv_step_lines.specs.OfSession.Running.{stepped}
+use Rattle.pv_step_cache.proofs.OfStateEncoding.Records.{LeavesRecords, records-end, records-next}
+use Rattle.pv_step_cache.specs.OfStateEncoding.Encoded.{Encoded, plain, encoded_record, numbered_encoded, counts_group, tree_groups, encoded}
+use Rattle.pv_step_cache.specs.OfStateEncoding.Groups.{counts_part}
 use Rattle.pv_step_cache.specs.declared.cells.Cell.{Cell}
 use Rattle.pv_step_cache.specs.declared.steps.CachedStep.{CachedStep}
 use Rattle.pv_step_cache.specs.Cached.{IsCachedBoth}
@@ -122,7 +118,7 @@ module _ (number : List Bytes → ℕ) (IsCached : List Bytes → Type 0) (pid :
 number-some : (s : State) (pid : ℕ) (p : Process) → IsValid s → process_at s pid ≡ Some p → pid ≢ 0
 number-some s pid p whole at none =
     let found = live-found s 0 p (ap (process_at s) (sym none) ∙ at) in
-    let bad : is_number s.last_process 0 ≡ true = find_number-list_all (is_number s.last_process) 0 (live p) s.processes whole.processes.numbers found in cc bad
+    let bad : is_process_number s.last_process 0 ≡ true = find_number-list_all (is_process_number s.last_process) 0 (live p) s.processes whole.processes.numbers found in cc bad
 
 inside-step : (s : State) (pid : ℕ) → IsValid s → stays_inside (process_at s pid) ≡ true → IsSome (process_at (stepped s pid).after pid) → StaysInside program_of s pid
 inside-step s pid whole inside alive = by (process_at s pid) refl inside

@@ -5,12 +5,10 @@ use Rattle.std.proofs.lemmas.List.{drop-drop, get_or_at, length-append, length-d
 use Rattle.std.proofs.lemmas.Bool.{cases_lt}
 use Rattle.pv_explore.specs.Checkpoints.{AreAlong, AreRetained, IsAt, last_or, states_along}
 use Rattle.pv_explore.specs.Plan.{state_at}
-use Rattle.pv_model.specs.Grammar.Programs.{program_of}
-use Rattle.pv_model.specs.State.{State}
-use Rattle.pv_model.specs.Step.{Run, step}
+use Rattle.pv_model.specs.Machine.{program_of, State, Run, step}
 use Rattle.pv_model.proofs.Runs.{run-append}
 use Rattle.pv_explore.proofs.Sizes.{runs-sizes}
-use Rattle.pv_tree.specs.Sizes.{HaveSameSizes}
+use Rattle.pv_image.specs.OfTree.Sizes.{HaveSameSizes}
 
 -- the state after one more step
 pub state-next : (s : State) (witness : List ℕ) (i : ℕ) (t u : State) → i < length witness → t ≡ state_at program_of s (take i witness) → u ≡ (step program_of t (get_or witness i 0)).after

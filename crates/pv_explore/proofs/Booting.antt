@@ -5,13 +5,7 @@ use Rattle.pv_explore.specs.FirstMachines.{first_of, first_on, state_or}
 use Rattle.pv_image.proofs.Named.{named_tree-all}
 use Rattle.pv_laws_trees.specs.Mounts.{MountsImages}
 use Rattle.pv_laws_trees.specs.Preserved.{EachIsNamed}
-use Rattle.pv_model.specs.Bytes.{Bytes}
-use Rattle.pv_model.specs.Held.{named_tree}
-use Rattle.pv_model.specs.Image.{IsWrittenImageOf}
-use Rattle.pv_model.specs.Mount.{mounted}
-use Rattle.pv_model.specs.Start.{booted}
-use Rattle.pv_model.specs.State.{State}
-use Rattle.pv_model.specs.Tree.{Tree}
+use Rattle.pv_model.specs.Machine.{Bytes, named_tree, IsWrittenImageOf, mounted, booted, State, Tree}
 
 pub if-ok : {T E : Type 0} {P Q : T → Type 0} (r : Result T E) → ((x : T) → P x → Q x) → IfOk r P → IfOk r Q
 if-ok (Ok x) f p = f x p

@@ -9,12 +9,8 @@ use Rattle.pv_step_cache.specs.Steps.{texts_in}
 use Rattle.pv_explore.specs.Plan.{Visited, added_to, endings_after, move_bytes, new_bytes, shown_bytes, state_key, is_known, reported_after, reported_bytes, bytes_at, visited_at, with_state_at, with_found_at, visited_after, state_at, live_at, reported_steps, visited_after_steps, and_report, and_visit, reported_from, visited_from, first_visited}
 use Rattle.pv_explore.specs.Searches.{move_of}
 use Rattle.pv_explore.specs.Observing.{is_shown}
-use Rattle.pv_model.specs.Answers.Explore.{Move}
-use Rattle.pv_model.specs.Answers.Observed.{Observer}
-use Rattle.pv_model.specs.Bytes.{Bytes}
-use Rattle.pv_model.specs.Grammar.Programs.{program_of}
-use Rattle.pv_model.specs.State.{State}
-use Rattle.pv_session.specs.Running.{stepped}
+use Rattle.pv_model.specs.Machine.{Move, Observer, Bytes, program_of, State}
+use Rattle.pv_step_lines.specs.OfSession.Running.{stepped}
 
 -- ---- a visited state
 

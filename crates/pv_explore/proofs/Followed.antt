@@ -9,18 +9,12 @@ use Rattle.pv_explore.specs.Plan.{Visited, added_to, first_visited, is_known, vi
 use Rattle.pv_explore.specs.Searches.{AreAt, endings_found, move_of, witness_at, with_witness}
 use Rattle.pv_explore.proofs.Finding.{found-full, found-known, found-new}
 use Rattle.pv_explore.proofs.VisitedStates.{get-left}
-use Rattle.pv_laws_runs.proofs.Ranges.{program_of-encodes}
+use Rattle.pv_step_cache.proofs.OfLawsRuns.Ranges.{program_of-encodes}
 use Rattle.pv_laws_states.proofs.BySteps.{run-keeps_whole}
 use Rattle.pv_laws_states.specs.States.{IsValid}
 use Rattle.pv_model.proofs.Runs.{run-append}
-use Rattle.pv_model.specs.Answers.Explore.{Move, has_ended}
-use Rattle.pv_model.specs.Answers.Observed.{Observer}
-use Rattle.pv_model.specs.Bytes.{Bytes}
-use Rattle.pv_model.specs.Grammar.Programs.{program_of}
-use Rattle.pv_model.specs.Held.{named_tree}
-use Rattle.pv_model.specs.State.{State}
-use Rattle.pv_model.specs.Step.{Run}
-use Rattle.pv_session.specs.Running.{stepped}
+use Rattle.pv_model.specs.Machine.{Move, has_ended, Observer, Bytes, program_of, named_tree, State, Run}
+use Rattle.pv_step_lines.specs.OfSession.Running.{stepped}
 use Rattle.pv_step_cache.proofs.KeyLists.{there-some}
 
 -- ---- the data after a visit

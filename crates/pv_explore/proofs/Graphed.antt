@@ -10,21 +10,10 @@ use Rattle.pv_explore.specs.Plan.{Visited, first_visited, visited_from, state_ke
 use Rattle.pv_explore.specs.Vertices.{found_lines, listed_bytes, step_of, steps_at, vertex_at, vertices_from}
 use Rattle.pv_step_cache.proofs.KeyLists.{position-mapped}
 use Rattle.pv_explore.proofs.Planned.{Finds, plan-found, same-known, state_of_found, witness_of_found}
-use Rattle.pv_model.specs.Answers.Explore.{Found, is_complete, move, states_found, states_line}
-use Rattle.pv_model.specs.Answers.Explain.{explained_step}
-use Rattle.pv_model.specs.Answers.Graph.{graph_lines, leads_to_text, listing_lines, number_found, step_lines, tree_lines, unreported, vertex_lines}
-use Rattle.pv_model.specs.Answers.Lines.{AnswerLine, answer_bytes, answer_line, answer_line_bytes, counted_from}
-use Rattle.pv_model.specs.Answers.Numbers.{same_state}
-use Rattle.pv_model.specs.Answers.Observed.{Observer}
-use Rattle.pv_model.specs.Answers.ProcessRecord.{state_lines}
-use Rattle.pv_model.specs.Answers.Reach.{reach_lines}
-use Rattle.pv_model.specs.Bytes.{Bytes}
-use Rattle.pv_model.specs.Grammar.Lines.{lines_of}
-use Rattle.pv_model.specs.Grammar.Programs.{program_of}
-use Rattle.pv_model.specs.Held.{live_processes}
-use Rattle.pv_model.specs.Listing.{listing}
-use Rattle.pv_model.specs.State.{Process, State}
-use Rattle.pv_session.specs.Running.{stepped}
+use Rattle.pv_model.specs.Machine.{Found, is_complete, move, states_found, explained_step, graph_lines, AnswerLine, answer_bytes, answer_line, answer_line_bytes, counted_from, same_state, Observer, state_lines, reach_lines, Bytes, lines_of, program_of, live_processes, listing, Process, State}
+use Rattle.pv_model.specs.Answers.Explore.{states_line}
+use Rattle.pv_model.specs.Answers.Graph.{leads_to_text, listing_lines, number_found, step_lines, tree_lines, unreported, vertex_lines}
+use Rattle.pv_step_lines.specs.OfSession.Running.{stepped}
 
 same-positions : {X : Type 0} (p q : X → Bool) → ((x : X) → p x ≡ q x) → (xs : List X) → position p xs ≡ position q xs
 same-positions {X} p q same xs = let tests : p ≡ q = λ i x. same x i in ap (λ (t : X → Bool). position t xs) tests

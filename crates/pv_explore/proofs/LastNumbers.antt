@@ -6,25 +6,16 @@ use Rattle.std.proofs.lemmas.Bool.{cases_eq}
 use Rattle.pv_model.specs.declared.call.Call.{Call}
 use Rattle.pv_model.specs.declared.errno.Errno.TheVariants.{ENOSYS}
 use Rattle.pv_model.specs.declared.outcome.Cause.TheVariants.{Promise as ByPromise}
-use Rattle.pv_model.specs.Answer.{answer, answer_by_attempt, at_next_line, effect, update, with_front}
-use Rattle.pv_model.specs.Attempt.{Attempt, done, refused}
-use Rattle.pv_model.specs.Calls.Processes.{child, end_process, with_result}
-use Rattle.pv_model.specs.Effect.{Effect, Reply, returns, returns_bytes, ends, waits}
-use Rattle.pv_model.specs.Errno.{errno_number}
-use Rattle.pv_model.specs.Grammar.Programs.{program_of}
-use Rattle.pv_model.specs.Held.{collect}
-use Rattle.pv_model.specs.Program.{Next, calls_for, inside, next}
-use Rattle.pv_model.specs.State.{Process, State, live_process, process_at}
-use Rattle.pv_model.specs.Step.{step, step_by, step_of}
+use Rattle.pv_model.specs.Machine.{answer, answer_by_attempt, at_next_line, effect, update, with_front, Attempt, done, refused, child, end_process, with_result, Effect, Reply, returns, returns_bytes, ends, waits, errno_number, program_of, collect, Next, calls_for, inside, next, Process, State, live_process, process_at, step, step_by, step_of}
 use Rattle.pv_laws_access.proofs.EffectByCall.{does-effect}
 use Rattle.pv_laws_access.proofs.Ends.{process_at-collect, update-live, update-other, whole-in_order}
-use Rattle.pv_laws_access.proofs.HasEffect.{Did, HasEffect, stays, restrains, begins, closes, copies, forks, reaps, moves, cuts, writes_bytes, makes, links, unlinks, renames, opens, creates, ends-stays}
+use Rattle.pv_laws_access.proofs.CallEffects.{Did, HasEffect, stays, restrains, begins, closes, copies, forks, reaps, moves, cuts, writes_bytes, makes, links, unlinks, renames, opens, creates, ends-stays}
 use Rattle.pv_laws_states.specs.States.{IsValid}
 use Rattle.pv_laws_states.proofs.Attempts.{Leads}
 use Rattle.pv_laws_states.proofs.Outcomes.{at_call, by_answer}
 use Rattle.pv_laws_states.proofs.Processes.{last_process-update, process_at-same}
 use Rattle.pv_laws_states.proofs.Collect.{last-collect}
-use Rattle.pv_laws_states.proofs.Ending.{last-end}
+use Rattle.pv_laws_states.proofs.ValidEnds.{last-end}
 use Rattle.pv_explore.specs.FirstMachines.{GaveNumber}
 
 gave-effect : (s : State) (pid : ℕ) (me : Process) (call : Call) (after : State) (r : Reply) → HasEffect s pid me call after r → GaveNumber after s.last_process

@@ -30,3 +30,7 @@ pub mod Sides
 pub mod SeenProcess
 pub mod Ranges
 pub mod Stopped
+pub use Rattle.pv_step_lines.proofs.OfAnswers
+pub use Rattle.pv_step_cache.proofs.OfLawsSteps
+pub use Rattle.pv_step_lines.proofs.OfSession
+pub use Rattle.pv_step_lines.proofs as OfStepLines

@@ -2,19 +2,15 @@
 use Rattle.std.proofs.Common.{◌≡◌, ◌∙◌, sym, ap, ℕ, suc, true, List, [], ◌∷◌, ◌++◌, map, flat_map, append_assoc, append-nil, None, Some, is_some, refl}
 use Rattle.std.specs.FinMap.Entries.{find}
 use Rattle.std.specs.Ordering.{nat_cmp}
-use Rattle.pv_answers.proofs.Following.{Recorded, IsNextRecord, all-after, none-after, records_after}
-use Rattle.pv_model.specs.Answers.Explore.{has_ended}
-use Rattle.pv_model.specs.Answers.Numbers.{tree_numbers}
-use Rattle.pv_model.specs.Bytes.{Bytes, is_empty}
-use Rattle.pv_model.specs.Held.{among, held_by_process, held_nodes, live_processes, named_tree, only_nodes, collect, collect_files, used_files}
-use Rattle.pv_model.specs.Numbered.{Numbered, keep, keep_from, present}
-use Rattle.pv_model.specs.State.{OpenFile, Process, ProcessRecord, live, ended_record, State, live_process}
-use Rattle.pv_model.specs.Tree.{named_numbers, root, Tree}
+use Rattle.pv_step_lines.proofs.OfAnswers.Following.{Recorded, IsNextRecord, all-after, none-after, records_after}
+use Rattle.pv_model.specs.Machine.{has_ended, tree_numbers, Bytes, is_empty, among, held_by_process, live_processes, named_tree, collect, used_files, Numbered, keep, present, OpenFile, Process, ProcessRecord, live, ended_record, State, live_process, named_numbers, root, Tree}
+use Rattle.pv_model.specs.Held.{held_nodes, only_nodes, collect_files}
+use Rattle.pv_model.specs.Numbered.{keep_from}
 use Rattle.pv_explore.specs.FirstMachines.{one_if}
 use Rattle.pv_explore.specs.Plan.{tree_key}
 use Rattle.pv_laws_states.specs.States.{IsValid}
-use Rattle.pv_state_encoding.specs.Packed.{IsAdded, packed_all}
-use Rattle.pv_procs.specs.ProcessTable.{ProcessTable, IsProcessTable, number_after}
+use Rattle.pv_step_cache.specs.OfStateEncoding.Packed.{IsAdded, packed_all}
+use Rattle.pv_step_lines.specs.OfProcs.ProcessTable.{ProcessTable, IsProcessTable, number_after}
 
 abbrev pub numbers_of : List Recorded → List ℕ
 numbers_of rs = map (λ p. p.0) (live_processes rs)

@@ -9,20 +9,15 @@ use Rattle.std.proofs.lemmas.List.{length-map, map-append, take_all}
 use Rattle.std.proofs.lemmas.List.Elements.{filter-append}
 use Rattle.std.proofs.lemmas.List.Folds.{list_any-append}
 use Rattle.std.proofs.lemmas.Option.{slice_get-map, slice_get_cases}
-use Rattle.pv_model.specs.Answers.Explore.{Found, Move, is_found, found_by, move, moves_of, with_move, found_after, found_from, states_found, moves, new_ones, has_ended, endings}
-use Rattle.pv_model.specs.Answers.Numbers.{Numbers, same_state, state_numbers, tree_numbers}
-use Rattle.pv_model.specs.Answers.Observed.{Observation, Observer, observations, observations_at, observed}
-use Rattle.pv_model.specs.Bytes.{Bytes}
-use Rattle.pv_model.specs.Held.{live_processes, named_tree}
-use Rattle.pv_model.specs.State.{Program, Process, State}
-use Rattle.pv_model.specs.Step.{Run}
-use Rattle.pv_model.specs.Tree.{Tree}
+use Rattle.pv_model.specs.Machine.{Found, Move, found_by, move, moves_of, states_found, new_ones, has_ended, endings, Numbers, same_state, state_numbers, tree_numbers, Observation, Observer, observations, observed, Bytes, live_processes, named_tree, Program, Process, State, Run, Tree}
+use Rattle.pv_model.specs.Answers.Explore.{is_found, with_move, found_after, found_from, moves}
+use Rattle.pv_model.specs.Answers.Observed.{observations_at}
 use Rattle.pv_model.proofs.Runs.{run-append}
 use Rattle.pv_laws_trees.proofs.Entries.{bytes_eq-same, bytes_eq-itself}
-use Rattle.pv_laws_answers.proofs.Complete.{there-found}
-use Rattle.pv_laws_answers.proofs.Lists.{among-right, each-append}
-use Rattle.pv_state_encoding.specs.Packed.{packed_all}
-use Rattle.pv_state_encoding.proofs.Apart.{packed-apart}
+use Rattle.pv_step_cache.proofs.OfLawsAnswers.CompleteSearches.{there-found}
+use Rattle.pv_step_cache.proofs.OfLawsAnswers.Lists.{among-right, each-append}
+use Rattle.pv_step_cache.specs.OfStateEncoding.Packed.{packed_all}
+use Rattle.pv_step_cache.proofs.OfStateEncoding.Apart.{packed-apart}
 use Rattle.pv_explore.specs.Plan.{state_key, tree_key, Visited, added_to, new_bytes, reported_after, reported_bytes, endings_after, with_state, is_known, visited_after, state_at, move_at, texts_at, reported_steps, visited_after_steps, live_at, and_report, reported_from, and_visit, visited_from, first_visited}
 
 -- ---- comparison of bytes

@@ -7,17 +7,13 @@ use Rattle.std.proofs.lemmas.Bool.Decides.{nat_tests}
 use Rattle.std.proofs.lemmas.Grind.{flat_map-append}
 use Rattle.std.proofs.lemmas.List.{map-append}
 use Rattle.std.proofs.lemmas.List.Folds.{list_any-append}
-use Rattle.pv_explain.proofs.CallLines.{trace-bytes}
+use Rattle.pv_step_lines.proofs.CallLines.{trace-bytes}
 use Rattle.pv_explore.specs.Observing.{is_shown, observation_bytes, observed_bytes, trace_text, IsSearched}
 use Rattle.pv_explore.specs.Plan.{Visited, added_to, move_bytes, new_bytes, reported_after, result_lines}
 use Rattle.pv_explore.proofs.Planned.{Finds, items, tree_key-many, written}
-use Rattle.pv_model.specs.Answers.Explore.{Found, Move, done_line, endings_line, explore_lines, endings, moves, moves_of, move_lines, move_text, new_ones, reported_moves, states_found, witness_text}
-use Rattle.pv_model.specs.Answers.Lines.{AnswerLine, answer_bytes, answer_line_bytes, of_trace}
-use Rattle.pv_model.specs.Answers.Observed.{Observation, Observer, observations, observed}
-use Rattle.pv_model.specs.Bytes.{Bytes, is_empty}
-use Rattle.pv_model.specs.Grammar.Programs.{program_of}
-use Rattle.pv_model.specs.State.{State}
-use Rattle.pv_model.specs.Trace.{Line, pad_left, pad_right, text_line, trace_bytes}
+use Rattle.pv_model.specs.Machine.{Found, Move, endings_line, endings, moves_of, move_text, new_ones, states_found, witness_text, AnswerLine, answer_bytes, answer_line_bytes, of_trace, Observation, Observer, observations, observed, Bytes, is_empty, program_of, State, Line, text_line, trace_bytes}
+use Rattle.pv_model.specs.Answers.Explore.{done_line, explore_lines, moves, move_lines, reported_moves}
+use Rattle.pv_model.specs.Trace.{pad_left, pad_right}
 
 -- ---- lists with the same members
 
@@ -36,7 +32,7 @@ members-added had t u = list_any-append (bytes_eq u) had (t ∷ []) ∙ swap (li
     swap false true = refl
     swap false false = refl
 
--- what is written and recorded of observations is what is written of the first ones
+-- exactly the first observations are written and recorded
 pub written-first : (had seen : List Bytes) → HaveSameMembers had seen → (os : List (Observation Bytes))
     → (written had os ≡ flat_map observation_bytes (new_ones item seen os)) × (reported_after had (items os) ≡ had ++ map item (new_ones item seen os))
 written-first had seen same [] = (refl, sym (append-nil had))

@@ -5,17 +5,15 @@ use Rattle.std.specs.List.{AllByRecursion, list_any, position_or_len, take-map}
 use Rattle.std.specs.Cmp.{both_ways}
 use Rattle.std.proofs.lemmas.Bool.Decides.{nat_tests}
 use Rattle.std.proofs.lemmas.List.{length-map, map-append, take_all, take_more}
-use Rattle.pv_model.specs.Answers.Numbers.{Numbers, state_numbers}
-use Rattle.pv_model.specs.Bytes.{Bytes}
-use Rattle.pv_model.specs.State.{State}
-use Rattle.pv_laws_answers.proofs.Lists.{each-append}
-use Rattle.pv_laws_answers.proofs.Reading.{same-state_numbers}
+use Rattle.pv_model.specs.Machine.{Numbers, state_numbers, Bytes, State}
+use Rattle.pv_step_cache.proofs.OfLawsAnswers.Lists.{each-append}
+use Rattle.pv_step_cache.proofs.OfLawsAnswers.StateDecoding.{same-state_numbers}
 use Rattle.pv_laws_trees.proofs.Entries.{bytes_eq-same, bytes_eq-itself}
-use Rattle.pv_state_encoding.specs.Groups.{joined, state_groups}
-use Rattle.pv_state_encoding.specs.Packed.{packed_in, packed_all, IsAdded}
-use Rattle.pv_state_encoding.proofs.Adding.{packed-append, packed-is, packed-small, packed-more}
-use Rattle.pv_state_encoding.proofs.Apart.{packed-apart}
-use Rattle.pv_state_encoding.proofs.Grouping.{state-joined}
+use Rattle.pv_step_cache.specs.OfStateEncoding.Groups.{joined, state_groups}
+use Rattle.pv_step_cache.specs.OfStateEncoding.Packed.{packed_in, packed_all, IsAdded}
+use Rattle.pv_step_cache.proofs.OfStateEncoding.Adding.{packed-append, packed-is, packed-small, packed-more}
+use Rattle.pv_step_cache.proofs.OfStateEncoding.Apart.{packed-apart}
+use Rattle.pv_step_cache.proofs.OfStateEncoding.Grouping.{state-joined}
 use Rattle.pv_explore.specs.Rows.{unpacked_from, unpacked, number_in, IsAmong, Grew, group_row, group_bytes, state_row, state_bytes, AreVisited, IsRow}
 
 -- ---- numbers from bytes

@@ -8,8 +8,7 @@ use Rattle.pv_explore.specs.Rows.{number_in, IsAmong}
 use Rattle.pv_explore.specs.Sides.{IsNumbered, number_of}
 use Rattle.pv_explore.specs.VisitedStates.{HasNumber, IsFoundIn}
 use Rattle.pv_explore.proofs.Rows.{among-last, get-number, number-last, number-within}
-use Rattle.pv_model.specs.Bytes.{Bytes}
-use Rattle.pv_model.specs.State.{State}
+use Rattle.pv_model.specs.Machine.{Bytes, State}
 use Rattle.pv_step_cache.proofs.KeyLists.{number-some, there-some}
 
 -- the visit of a state gives its number

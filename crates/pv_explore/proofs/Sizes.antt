@@ -7,22 +7,10 @@ use Rattle.pv_model.specs.declared.errno.Errno.TheVariants.{EFBIG, ENOSPC, ENOSY
 use Rattle.pv_model.specs.declared.open_flags.OpenFlags.{OpenFlags}
 use Rattle.pv_model.specs.declared.outcome.Cause.{Cause}
 use Rattle.pv_model.specs.declared.outcome.Cause.TheVariants.{Promise as ByPromise}
-use Rattle.pv_model.specs.Answer.{Answered, answer, answer_by_attempt, at_next_line, update, effect}
-use Rattle.pv_model.specs.Attempt.{Attempt, done, refused, after_walks, ◌>>=◌, ◌>>◌, refuse_if, give}
-use Rattle.pv_model.specs.Bytes.{Bytes}
-use Rattle.pv_model.specs.Calls.Descriptors.{with_content, with_content_of, after_write, list_name, open_node}
-use Rattle.pv_model.specs.Calls.Processes.{end_process, reap}
-use Rattle.pv_model.specs.Calls.Restraints.{unveil}
-use Rattle.pv_model.specs.Effect.{Effect, Reply, returns, returns_bytes, ends, waits, with_room}
-use Rattle.pv_model.specs.Held.{collect}
-use Rattle.pv_model.specs.Program.{Next, inside, calls_for, next}
-use Rattle.pv_model.specs.Room.{is_too_long, fits}
-use Rattle.pv_model.specs.State.{OpenFile, Program, Process, State, process_at}
-use Rattle.pv_model.specs.Step.{run, step, step_by, step_of}
-use Rattle.pv_model.specs.Tree.{Node, directory_node, file_node, link_node, Tree, node_at}
+use Rattle.pv_model.specs.Machine.{Answered, answer, answer_by_attempt, at_next_line, update, effect, Attempt, done, refused, after_walks, ◌>>=◌, ◌>>◌, refuse_if, give, Bytes, with_content, with_content_of, after_write, list_name, open_node, end_process, reap, unveil, Effect, Reply, returns, returns_bytes, ends, waits, with_room, collect, Next, inside, calls_for, next, is_too_long, fits, OpenFile, Program, Process, State, process_at, run, step, step_by, step_of, Node, directory_node, file_node, link_node, Tree, node_at}
 use Rattle.pv_laws_states.proofs.Outcomes.{at_call, by_answer}
 use Rattle.pv_laws_states.proofs.Processes.{tree-update}
-use Rattle.pv_tree.specs.Sizes.{HaveSameSizes}
+use Rattle.pv_image.specs.OfTree.Sizes.{HaveSameSizes}
 
 -- ---- changes of a tree
 

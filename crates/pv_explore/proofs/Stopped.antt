@@ -1,10 +1,10 @@
 -- Answers that stop: memory was refused before the text was written, or a write failed.
 use Rattle.std.proofs.Common.{◌≡◌, ◌∙◌, sym, subst, ap, Result, Err, refl}
 use Rattle.pv_model.specs.declared.stream.Sink.{Ghosts as Writing}
-use Rattle.pv_model.specs.Bytes.{Bytes}
-use Rattle.pv_session.specs.Running.{FailsBy}
-use Rattle.pv_session.specs.declared.session.Stop.{Stop}
-use Rattle.pv_session.specs.declared.session.Stop.TheVariants.{Memory, Write}
+use Rattle.pv_model.specs.Machine.{Bytes}
+use Rattle.pv_step_lines.specs.OfSession.Running.{FailsBy}
+use Rattle.pv_step_lines.specs.OfSession.declared.session.Stop.{Stop}
+use Rattle.pv_step_lines.specs.OfSession.declared.session.Stop.TheVariants.{Memory, Write}
 use Rattle.pv_streams.specs.Sinks.{Writes, WritesOr}
 use Rattle.pv_streams.proofs.Sinks.{written_nothing}
 

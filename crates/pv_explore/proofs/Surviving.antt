@@ -6,20 +6,12 @@ use Rattle.pv_model.specs.declared.errno.Errno.TheVariants.{ENOSYS}
 use Rattle.pv_model.specs.declared.outcome.Cause.TheVariants.{Promise as ByPromise}
 use Rattle.pv_model.specs.declared.outcome.Outcome.TheVariants.{Killed}
 use Rattle.pv_model.specs.declared.promise.Promise.{Promise}
-use Rattle.pv_model.specs.Answer.{Answered, answer, answer_by_attempt, at_next_line, effect}
-use Rattle.pv_model.specs.Attempt.{Attempt, done, refused}
-use Rattle.pv_model.specs.Calls.Processes.{end_process}
-use Rattle.pv_model.specs.Effect.{Effect, returns, returns_bytes, ends, waits}
-use Rattle.pv_model.specs.Grammar.Programs.{program_of}
-use Rattle.pv_model.specs.Held.{collect}
-use Rattle.pv_model.specs.Program.{Next, inside, calls_for, next}
-use Rattle.pv_model.specs.State.{Process, State, process_at}
-use Rattle.pv_model.specs.Step.{Stepped, step, step_by}
+use Rattle.pv_model.specs.Machine.{Answered, answer, answer_by_attempt, at_next_line, effect, Attempt, done, refused, end_process, Effect, returns, returns_bytes, ends, waits, program_of, collect, Next, inside, calls_for, next, Process, State, process_at, Stepped, step, step_by}
 use Rattle.pv_laws_access.specs.Frame.{is_end}
 use Rattle.pv_laws_access.specs.Growth.{IsInOrder}
 use Rattle.pv_laws_access.proofs.EffectByCall.{does-effect}
 use Rattle.pv_laws_access.proofs.Ends.{process_at-collect, ended-not_live, in_order-call, step-gone, step-is}
-use Rattle.pv_laws_access.proofs.HasEffect.{Did, ends-stays}
+use Rattle.pv_laws_access.proofs.CallEffects.{Did, ends-stays}
 use Rattle.pv_laws_states.proofs.Attempts.{Leads}
 use Rattle.pv_laws_states.proofs.Outcomes.{at_call, by_answer}
 

@@ -5,9 +5,8 @@ use Rattle.std.specs.List.{join_by}
 use Rattle.std.proofs.lemmas.Bool.{eq-eqb, ne_eqb}
 use Rattle.std.proofs.lemmas.List.{drop_all}
 use Rattle.std.proofs.Math.Seq.{drop-cons}
-use Rattle.pv_model.specs.Answers.Explore.{in_turns, onto_turns, turn_text, witness_text}
-use Rattle.pv_model.specs.Bytes.{Bytes}
-use Rattle.pv_model.specs.Step.{Schedule}
+use Rattle.pv_model.specs.Machine.{witness_text, Bytes, Schedule}
+use Rattle.pv_model.specs.Answers.Explore.{in_turns, onto_turns, turn_text}
 
 -- `count` steps of a process, followed by others
 abbrev pub witness_from : ℕ → ℕ → List ℕ → List ℕ

@@ -26,18 +26,15 @@ use Rattle.pv_step_cache.proofs.LiveOwners.{owners-are}
 use Rattle.pv_step_cache.proofs.Recalling.{recalled-again, steps-added, steps-more}
 use Rattle.pv_step_cache.specs.Steps.{Adds}
 use Rattle.pv_laws_states.specs.States.{IsValid}
-use Rattle.pv_procs.proofs.Loads.{slice_get-set_other, slice_get-set_same}
-use Rattle.pv_model.specs.Answers.Explore.{has_ended}
-use Rattle.pv_model.specs.Answers.Observed.{Observer}
-use Rattle.pv_model.specs.Bytes.{Bytes, is_empty}
-use Rattle.pv_model.specs.State.{State}
-use Rattle.pv_laws_answers.proofs.Reading.{same-state_numbers}
-use Rattle.pv_session.specs.Running.{stepped}
-use Rattle.pv_state_encoding.specs.Groups.{state_groups}
-use Rattle.pv_state_encoding.specs.Packed.{packed_all}
-use Rattle.pv_state_encoding.specs.Encoded.{Encoded, plain, encoded}
-use Rattle.pv_state_encoding.proofs.Apart.{packed-apart}
-use Rattle.pv_state_encoding.proofs.Grouping.{state-joined}
+use Rattle.pv_step_lines.proofs.OfProcs.Loads.{slice_get-set_other, slice_get-set_same}
+use Rattle.pv_model.specs.Machine.{has_ended, Observer, Bytes, is_empty, State}
+use Rattle.pv_step_cache.proofs.OfLawsAnswers.StateDecoding.{same-state_numbers}
+use Rattle.pv_step_lines.specs.OfSession.Running.{stepped}
+use Rattle.pv_step_cache.specs.OfStateEncoding.Groups.{state_groups}
+use Rattle.pv_step_cache.specs.OfStateEncoding.Packed.{packed_all}
+use Rattle.pv_step_cache.specs.OfStateEncoding.Encoded.{Encoded, plain, encoded}
+use Rattle.pv_step_cache.proofs.OfStateEncoding.Apart.{packed-apart}
+use Rattle.pv_step_cache.proofs.OfStateEncoding.Grouping.{state-joined}
 
 same-keys : (s t : State) → state_key s ≡ state_key t → s ≡ t
 same-keys s t same = same-state_numbers s t (packed-apart _ _ same)

@@ -7,9 +7,7 @@ use Rattle.pv_explore.specs.Observing.{no_text}
 use Rattle.pv_explore.specs.Plan.{Visited, first_visited, reported_from, state_at, visited_from}
 use Rattle.pv_explore.specs.Visiting.{Visits, found_at, visits_of, visited_states}
 use Rattle.pv_explore.proofs.Planned.{Finds, plan-found, witness_of_found}
-use Rattle.pv_model.specs.Answers.Explore.{Found, states_found}
-use Rattle.pv_model.specs.Grammar.Programs.{program_of}
-use Rattle.pv_model.specs.State.{State}
+use Rattle.pv_model.specs.Machine.{Found, states_found, program_of, State}
 
 module _ (s : State) where
   pub states-at : (found : List Found) → AllByRecursion (λ f. f.state ≡ state_at program_of s f.witness) found → map (found_at s) (map witness_of_found found) ≡ found

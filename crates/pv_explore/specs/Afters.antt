@@ -1,11 +1,10 @@
 -- The cells of the state after a step, from those of the state before it.
 use Rattle.std.specs.Prelude.{◌≡◌, ℕ, Bool, if◌then◌else◌, ◌==◌, List, slice_get, Some}
-use Rattle.pv_model.specs.Bytes.{Bytes}
-use Rattle.pv_model.specs.State.{State, process_at}
+use Rattle.pv_model.specs.Machine.{Bytes, State, process_at}
 use Rattle.pv_explore.specs.Observing.{stays_inside}
 use Rattle.pv_explore.specs.VisitedStates.{AreCellsOf}
 use Rattle.pv_laws_states.specs.States.{IsValid}
-use Rattle.pv_session.specs.Running.{stepped}
+use Rattle.pv_step_lines.specs.OfSession.Running.{stepped}
 use Rattle.pv_step_cache.specs.declared.cells.Cell.{Cell}
 
 -- a cell, or another one in its place if this process owns it

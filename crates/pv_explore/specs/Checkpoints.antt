@@ -1,8 +1,7 @@
 -- Machines in states along a schedule.
 use Rattle.std.specs.Prelude.{◌≡◌, ◌⊎◌, ℕ, zero, suc, ◌*◌, ◌/◌, ◌<◌, ◌≤◌, List, [], ◌∷◌, ◌++◌, drop, get_or, length, take}
 use Rattle.pv_explore.specs.Plan.{state_at}
-use Rattle.pv_model.specs.Grammar.Programs.{program_of}
-use Rattle.pv_model.specs.State.{State}
+use Rattle.pv_model.specs.Machine.{program_of, State}
 
 -- the states after `stride` steps of a schedule, after twice as many, and so on
 abbrev pub states_along : State → List ℕ → ℕ → ℕ → List State

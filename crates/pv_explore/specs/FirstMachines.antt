@@ -3,11 +3,7 @@ use Rattle.std.specs.Prelude.{◌≡◌, ℕ, suc, Bool, if◌then◌else◌, �
 use Rattle.pv_model.specs.declared.fault.ImageFault.{ImageFault}
 use Rattle.pv_model.specs.declared.kernel_fault.BootFault.{BootFault}
 use Rattle.pv_model.specs.declared.version.Version.TheVariants.{V1}
-use Rattle.pv_model.specs.Bytes.{Bytes}
-use Rattle.pv_model.specs.Mount.{mounted}
-use Rattle.pv_model.specs.Start.{booted}
-use Rattle.pv_model.specs.State.{State, first_state, process_at}
-use Rattle.pv_model.specs.Tree.{Tree}
+use Rattle.pv_model.specs.Machine.{Bytes, mounted, booted, State, first_state, process_at, Tree}
 
 abbrev pub state_or : Tree → Result State BootFault → State
 state_or t (Ok s) = s

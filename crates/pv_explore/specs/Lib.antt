@@ -10,3 +10,8 @@ pub mod Vertices
 pub mod VisitedStates
 pub mod Visiting
 pub mod Witnesses
+pub use Rattle.pv_step_lines.specs.OfAudit
+pub use Rattle.pv_step_lines.specs.OfCallsPath
+pub use Rattle.pv_step_lines.specs.OfSession
+pub use Rattle.pv_step_cache.specs.OfStateEncoding
+pub use Rattle.pv_step_cache.specs as OfStepCache

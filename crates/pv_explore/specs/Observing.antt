@@ -2,15 +2,9 @@
 -- then written if it is shown.
 use Rattle.std.specs.Prelude.{◌≡◌, ℕ, Bool, false, not, ◌==◌, if◌then◌else◌, List, [], ◌∷◌, ◌++◌, length, map, flat_map, Option, None, Some}
 use Rattle.std.proofs.Common.{sym, ap, refl}
-use Rattle.pv_model.specs.Answers.Explore.{by_line, endings, is_complete, states_found}
-use Rattle.pv_model.specs.Answers.Lines.{answer_line_bytes}
-use Rattle.pv_model.specs.Answers.Observed.{Observation, Observer, first_observations, observations}
-use Rattle.pv_model.specs.Bytes.{Bytes}
-use Rattle.pv_model.specs.Grammar.Programs.{program_of}
-use Rattle.pv_model.specs.Program.{next}
-use Rattle.pv_model.specs.State.{Process, State}
-use Rattle.pv_model.specs.Trace.{trace_bytes}
-use Rattle.pv_laws_steps.specs.Commuting.{is_inward}
+use Rattle.pv_model.specs.Machine.{endings, is_complete, states_found, answer_line_bytes, Observation, Observer, first_observations, observations, Bytes, program_of, next, Process, State, trace_bytes}
+use Rattle.pv_model.specs.Answers.Explore.{by_line}
+use Rattle.pv_step_cache.specs.OfLawsSteps.Commuting.{is_inward}
 use Rattle.pv_laws_steps.proofs.SeenSteps.{steps-by_seen}
 use Rattle.pv_step_cache.specs.Cached.{DependsOnSeen}
 

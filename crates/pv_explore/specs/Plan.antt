@@ -1,18 +1,10 @@
 -- The algorithm of the search: the data that it keeps, and the bytes that it writes.
 use Rattle.std.specs.Prelude.{ℕ, zero, suc, Bool, true, false, if◌then◌else◌, nat_le, List, [], ◌∷◌, ◌++◌, length, map, bytes_eq, codes, slice_get, Option, None, Some}
 use Rattle.std.specs.List.{list_any}
-use Rattle.pv_model.specs.Answers.Explore.{Move, move, has_ended, states_line, endings_line, witness_text}
-use Rattle.pv_model.specs.Answers.Lines.{AnswerLine}
-use Rattle.pv_model.specs.Answers.Numbers.{state_numbers, tree_numbers}
-use Rattle.pv_model.specs.Answers.Observed.{Observer}
-use Rattle.pv_model.specs.Bytes.{Bytes}
-use Rattle.pv_model.specs.Held.{live_processes, named_tree}
-use Rattle.pv_model.specs.State.{Program, State}
-use Rattle.pv_model.specs.Step.{run}
-use Rattle.pv_model.specs.Trace.{text_line}
-use Rattle.pv_model.specs.Tree.{Tree}
+use Rattle.pv_model.specs.Machine.{Move, move, has_ended, endings_line, witness_text, AnswerLine, state_numbers, tree_numbers, Observer, Bytes, live_processes, named_tree, Program, State, run, text_line, Tree}
+use Rattle.pv_model.specs.Answers.Explore.{states_line}
 use Rattle.pv_explore.specs.Observing.{is_shown}
-use Rattle.pv_state_encoding.specs.Packed.{packed_all}
+use Rattle.pv_step_cache.specs.OfStateEncoding.Packed.{packed_all}
 
 -- the encodings of a state and of a tree
 abbrev pub state_key : State → Bytes

@@ -3,11 +3,9 @@
 use Rattle.std.specs.Prelude.{◌≡◌, ℕ, zero, suc, ◌+◌, ◌-◌, ◌*◌, true, if◌then◌else◌, nat_lt, List, [], ◌∷◌, ◌++◌, get_or, map, flat_map, bytes_eq}
 use Rattle.std.specs.Global.{Vec}
 use Rattle.std.specs.List.{AllByRecursion, list_any, position_or_len}
-use Rattle.pv_model.specs.Answers.Numbers.{Numbers}
-use Rattle.pv_model.specs.Bytes.{Bytes}
-use Rattle.pv_model.specs.State.{State}
-use Rattle.pv_state_encoding.specs.Groups.{state_groups}
-use Rattle.pv_state_encoding.specs.Packed.{packed_all}
+use Rattle.pv_model.specs.Machine.{Numbers, Bytes, State}
+use Rattle.pv_step_cache.specs.OfStateEncoding.Groups.{state_groups}
+use Rattle.pv_step_cache.specs.OfStateEncoding.Packed.{packed_all}
 
 -- ---- bytes as numbers
 

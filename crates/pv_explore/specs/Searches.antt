@@ -6,12 +6,8 @@ use Rattle.pv_explore.specs.declared.states.Visit.TheVariants.{Known, Full, New}
 use Rattle.pv_explore.specs.Plan.{Visited, bytes_at, endings_after, first_visited, live_at, reported_bytes, reported_from, reported_steps, state_at, state_key, visited_after, visited_after_steps, visited_at, visited_from}
 use Rattle.pv_explore.specs.VisitedStates.{HasNumber}
 use Rattle.pv_explore.specs.Witnesses.{longer}
-use Rattle.pv_model.specs.Answers.Explore.{Move}
-use Rattle.pv_model.specs.Answers.Observed.{Observer}
-use Rattle.pv_model.specs.Bytes.{Bytes}
-use Rattle.pv_model.specs.Grammar.Programs.{program_of}
-use Rattle.pv_model.specs.State.{State}
-use Rattle.pv_session.specs.Running.{stepped}
+use Rattle.pv_model.specs.Machine.{Move, Observer, Bytes, program_of, State}
+use Rattle.pv_step_lines.specs.OfSession.Running.{stepped}
 
 abbrev pub visited_of : {O : Type 0} → Search O → Visited
 visited_of s = record { keys = s.states; witnesses = s.witnesses; reported = s.reported; endings = s.endings; complete = s.complete }

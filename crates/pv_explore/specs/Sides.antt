@@ -4,8 +4,7 @@ use Rattle.std.specs.List.{list_any}
 use Rattle.pv_explore.specs.declared.states.Visit.{Visit}
 use Rattle.pv_explore.specs.declared.states.Visit.TheVariants.{Known, Full, New}
 use Rattle.pv_explore.specs.Rows.{number_in, IsAmong}
-use Rattle.pv_model.specs.Bytes.{Bytes}
-use Rattle.pv_model.specs.State.{State}
+use Rattle.pv_model.specs.Machine.{Bytes, State}
 
 -- the state before the first step, and the encodings of the visited states
 pub record SideStates : Type 0 where

@@ -2,15 +2,10 @@
 use Rattle.std.specs.Prelude.{ℕ, Bool, List, [], ◌∷◌, ◌++◌, map, flat_map, codes, bytes_eq, length, position}
 use Rattle.std.specs.Fmt.{decimal}
 use Rattle.pv_explore.specs.Plan.{Visited, state_key, state_at, live_at}
-use Rattle.pv_model.specs.Answers.Explain.{explained_step}
+use Rattle.pv_model.specs.Machine.{explained_step, AnswerLine, answer_bytes, answer_line, counted_from, state_lines, Bytes, program_of, State}
 use Rattle.pv_model.specs.Answers.Explore.{states_line}
 use Rattle.pv_model.specs.Answers.Graph.{leads_to_text, tree_lines, unreported}
-use Rattle.pv_model.specs.Answers.Lines.{AnswerLine, answer_bytes, answer_line, counted_from}
-use Rattle.pv_model.specs.Answers.ProcessRecord.{state_lines}
-use Rattle.pv_model.specs.Bytes.{Bytes}
-use Rattle.pv_model.specs.Grammar.Programs.{program_of}
-use Rattle.pv_model.specs.State.{State}
-use Rattle.pv_session.specs.Running.{stepped}
+use Rattle.pv_step_lines.specs.OfSession.Running.{stepped}
 
 -- the bytes of the lines of a listing
 abbrev pub listed_bytes : List Bytes → Bytes

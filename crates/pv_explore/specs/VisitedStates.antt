@@ -14,15 +14,11 @@ use Rattle.pv_step_cache.specs.Cached.{AreCells, IsCachedBoth, IsStep}
 use Rattle.pv_explore.specs.declared.states.Followed.{Followed}
 use Rattle.pv_step_cache.specs.Steps.{Adds, WasCached, texts_in, texts_of}
 use Rattle.pv_laws_states.specs.States.{IsValid}
-use Rattle.pv_model.specs.Answers.Explore.{has_ended}
-use Rattle.pv_model.specs.Answers.Observed.{Observer}
-use Rattle.pv_model.specs.Bytes.{Bytes}
-use Rattle.pv_model.specs.Held.{live_processes}
-use Rattle.pv_model.specs.State.{State, process_at}
-use Rattle.pv_session.specs.Running.{stepped}
-use Rattle.pv_state_encoding.specs.Groups.{state_groups}
-use Rattle.pv_state_encoding.specs.Encoded.{Encoded, encoded}
-use Rattle.pv_state_encoding.specs.Packed.{packed_all}
+use Rattle.pv_model.specs.Machine.{has_ended, Observer, Bytes, live_processes, State, process_at}
+use Rattle.pv_step_lines.specs.OfSession.Running.{stepped}
+use Rattle.pv_step_cache.specs.OfStateEncoding.Groups.{state_groups}
+use Rattle.pv_step_cache.specs.OfStateEncoding.Encoded.{Encoded, encoded}
+use Rattle.pv_step_cache.specs.OfStateEncoding.Packed.{packed_all}
 
 -- ---- in tables
 

@@ -2,9 +2,7 @@
 use Rattle.std.specs.Prelude.{ℕ, Bool, List, map}
 use Rattle.pv_explore.specs.declared.visited.VisitedState.{VisitedState}
 use Rattle.pv_explore.specs.Plan.{state_at}
-use Rattle.pv_model.specs.Answers.Explore.{Found, is_complete, states_found}
-use Rattle.pv_model.specs.Grammar.Programs.{program_of}
-use Rattle.pv_model.specs.State.{State}
+use Rattle.pv_model.specs.Machine.{Found, is_complete, states_found, program_of, State}
 
 -- the visited states in the order of the search, and whether these are all
 pub record Visits : Type 0 where

@@ -5,8 +5,8 @@ ghost use Rattle.std.specs.Ordering.{nat_cmp};
 ghost use Rattle.pv_explore.specs.Afters.{IsCellOf, LeadTo, own_or};
 ghost use Rattle.pv_explore.specs.Rows.{Grew};
 ghost use Rattle.pv_explore.specs.VisitedStates.{AreCellsIn, AreCellsOf};
-ghost use Rattle.pv_model.specs.State.{process_at};
-ghost use Rattle.pv_state_encoding.specs.Encoded.{encoded_record, numbered_encoded};
+ghost use Rattle.pv_model.specs.Machine.{process_at};
+ghost use Rattle.pv_step_cache.specs.OfStateEncoding.Encoded.{encoded_record, numbered_encoded};
 
 use crate::position::Position;
 use crate::states::{learn_cell, learn_cells};

@@ -2,9 +2,8 @@
 ghost use Rattle.std.specs.Prelude.{◌≡◌, ◌*◌, ◌<◌, ◌≤◌, ◌++◌, ◌∷◌, [], true, length, take, IfOk, OnErr, OnOk};
 ghost use Rattle.pv_explore.specs.Checkpoints.{AreAlong, AreRetained, last_or};
 ghost use Rattle.pv_explore.specs.Plan.{state_at};
-ghost use Rattle.pv_model.specs.Grammar.Programs.{program_of};
-ghost use Rattle.pv_model.specs.State.{State};
-ghost use Rattle.pv_tree.specs.Sizes.{HaveSameSizes};
+ghost use Rattle.pv_model.specs.Machine.{program_of, State};
+ghost use Rattle.pv_image.specs.OfTree.Sizes.{HaveSameSizes};
 
 use crate::first_machine::FirstMachine;
 use crate::position::Position;

@@ -1,10 +1,9 @@
 //! The search of all states, and its answer: what can happen under any schedule.
 ghost use Rattle.std.specs.Prelude.{◌≡◌, ◌≤◌, IfOk};
 ghost use Rattle.pv_explore.specs.Plan.{result_lines};
-ghost use Rattle.pv_model.specs.Answers.Explore.{completeness_text, endings_line, explore_lines, is_complete, states_line};
-ghost use Rattle.pv_model.specs.Answers.Lines.{answer_bytes, answer_line_bytes};
-ghost use Rattle.pv_model.specs.Grammar.Programs.{program_of};
-ghost use Rattle.pv_session.specs.Running.{FailsBy};
+ghost use Rattle.pv_model.specs.Machine.{endings_line, is_complete, answer_bytes, answer_line_bytes, program_of};
+ghost use Rattle.pv_model.specs.Answers.Explore.{completeness_text, explore_lines, states_line};
+ghost use Rattle.pv_step_lines.specs.OfSession.Running.{FailsBy};
 ghost use Rattle.pv_streams.specs.Sinks.{Writes, WritesOr};
 
 use crate::first_machine::FirstMachine;
@@ -12,8 +11,8 @@ use crate::observer::TraceLines;
 use crate::progress::Progress;
 use crate::searched::{Searched, search_observed};
 use crate::witness::Count;
-use pv_answers::{Fragment, Line, Plain};
-use pv_session::Stop;
+use pv_step_lines::answers::{Fragment, Line, Plain};
+use pv_step_lines::session::Stop;
 use pv_streams::{Failed, Sink};
 use std::alloc::Global;
 
@@ -78,7 +77,7 @@ fn write_done<W: Sink>(out: &mut W, searched: &Searched) -> Result<(), Failed>
 /// whether the visited states are all.
 ///
 /// If the visited states are all states, the text of each step of a live process in each schedule is among the texts
-/// written: see `pv_laws_explore`.
+/// written: see `pv_laws_answers::each_text_is_reported`.
 ///
 /// `progress` shows the state of the search. It ends before the last two lines, also if the search fails.
 ///

@@ -2,16 +2,15 @@
 ghost use Rattle.std.specs.Prelude.{◌≡◌, ◌⊎◌, Ok, Err, IfOk, IfErr};
 ghost use Rattle.pv_laws_trees.specs.Mounts.{Boots};
 ghost use Rattle.pv_laws_states.specs.States.{IsFirstTree};
-ghost use Rattle.pv_model.specs.Mount.{mounted};
-ghost use Rattle.pv_model.specs.Start.{booted};
+ghost use Rattle.pv_model.specs.Machine.{mounted, booted};
 
 use crate::position::Position;
+use pv_image::image_mount::mount;
 use pv_image::to_bytes;
-use pv_image_mount::mount;
+use pv_image::tree::{Store, Tree};
 use pv_laws_trees::image_bytes::images_mount;
 use pv_model::{BootFault, ImageFault, StepFault};
-use pv_session::Session;
-use pv_tree::{Store, Tree};
+use pv_step_lines::session::Session;
 use std::alloc::Global;
 use std::marker::Model;
 

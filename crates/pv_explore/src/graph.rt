@@ -4,13 +4,9 @@ ghost use Rattle.std.specs.Fmt.{decimal};
 ghost use Rattle.pv_explore.specs.Observing.{no_text};
 ghost use Rattle.pv_explore.specs.Searches.{all_visited, visited_of};
 ghost use Rattle.pv_explore.specs.Vertices.{all_steps_at, all_vertices, found_lines, listed_bytes, vertex_at};
-ghost use Rattle.pv_model.specs.Answers.Explore.{is_complete};
-ghost use Rattle.pv_model.specs.Answers.Graph.{graph_lines, tree_lines};
-ghost use Rattle.pv_model.specs.Answers.Lines.{answer_bytes, answer_line, answer_line_bytes};
-ghost use Rattle.pv_model.specs.Grammar.Lines.{lines_of};
-ghost use Rattle.pv_model.specs.Grammar.Programs.{program_of};
-ghost use Rattle.pv_model.specs.Listing.{listing};
-ghost use Rattle.pv_session.specs.Running.{FailsBy};
+ghost use Rattle.pv_model.specs.Machine.{is_complete, graph_lines, answer_bytes, answer_line, answer_line_bytes, lines_of, program_of, listing};
+ghost use Rattle.pv_model.specs.Answers.Graph.{tree_lines};
+ghost use Rattle.pv_step_lines.specs.OfSession.Running.{FailsBy};
 ghost use Rattle.pv_streams.specs.Sinks.{and_all, Writes, WritesOr};
 
 use crate::checkpoints::Checkpoints;
@@ -23,15 +19,15 @@ use crate::searched::search_all;
 use crate::states::States;
 use crate::unheard::Unheard;
 use crate::witness::Count;
-use pv_answers::{Fragment, Line, Plain, write_reach, write_state};
-use pv_calls_state::Parts;
-use pv_listing::write_listing;
+use pv_image::tree::Tree;
 use pv_model::StepFault;
-use pv_session::Stop;
+use pv_step_lines::answers::{Fragment, Line, Plain, write_reach, write_state};
+use pv_step_lines::calls_state::Parts;
+use pv_step_lines::listing::write_listing;
+use pv_step_lines::session::Stop;
 use pv_streams::{Failed, Gathered, Sink};
 use pv_text::lines::split_line;
 use pv_trace::LineBuffer;
-use pv_tree::Tree;
 use std::alloc::Global;
 
 // ---- a tree

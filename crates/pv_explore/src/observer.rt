@@ -1,12 +1,12 @@
 //! Observers of the steps of a search.
 ghost use Rattle.std.specs.Prelude.{◌≡◌, ◌∷◌, [], IfOk, OnOk, Some};
-ghost use Rattle.pv_model.specs.Trace.{trace_bytes};
-ghost use Rattle.pv_session.specs.Running.{stepped};
+ghost use Rattle.pv_model.specs.Machine.{trace_bytes};
+ghost use Rattle.pv_step_lines.specs.OfSession.Running.{stepped};
 ghost use Rattle.pv_step_cache.specs.Steps.{texts_in};
 ghost use Rattle.pv_streams.specs.Sinks.{and_all};
 
 use pv_model::StepFault;
-use pv_session::Session;
+use pv_step_lines::session::Session;
 use pv_streams::Gathered;
 use std::alloc::{AllocError, Global};
 

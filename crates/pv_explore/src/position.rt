@@ -1,43 +1,38 @@
 //! Machines at the end of a schedule.
 ghost use Rattle.std.specs.Prelude.{◌≡◌, ◌+◌, ◌++◌, ◌∷◌, [], true, codes, map, is_some, IfOk, OnOk};
 ghost use Rattle.pv_explore.specs.FirstMachines.{GaveNumber, one_if};
-ghost use Rattle.pv_procs.specs.ProcessTable.{number_after, process_in};
+ghost use Rattle.pv_step_lines.specs.OfProcs.ProcessTable.{number_after, process_in};
 ghost use Rattle.std.specs.FinMap.Entries.{find};
 ghost use Rattle.std.specs.Ordering.{nat_cmp};
 ghost use Rattle.pv_explore.specs.Plan.{state_at, tree_key};
 ghost use Rattle.pv_explore.specs.Vertices.{step_of};
 ghost use Rattle.pv_model.specs.Answers.Graph.{leads_to_text};
-ghost use Rattle.pv_model.specs.Answers.Lines.{answer_bytes, answer_line, answer_line_bytes};
+ghost use Rattle.pv_model.specs.Machine.{answer_bytes, answer_line, answer_line_bytes, has_ended, program_of, live_processes, named_tree, call_of, process_at};
 ghost use Rattle.pv_laws_states.specs.States.{IsValid};
-ghost use Rattle.pv_model.specs.Answers.Explore.{has_ended};
-ghost use Rattle.pv_model.specs.Grammar.Programs.{program_of};
-ghost use Rattle.pv_model.specs.Held.{live_processes, named_tree};
-ghost use Rattle.pv_session.specs.Running.{FailsBy, stepped};
-ghost use Rattle.pv_state_encoding.specs.Groups.{groups_of, state_groups};
-ghost use Rattle.pv_state_encoding.specs.Encoded.{counts_group, encoded, encoded_all, encoded_of, numbered_encoded, plain, tree_groups};
+ghost use Rattle.pv_step_lines.specs.OfSession.Running.{FailsBy, stepped};
+ghost use Rattle.pv_step_cache.specs.OfStateEncoding.Groups.{groups_of, state_groups};
+ghost use Rattle.pv_step_cache.specs.OfStateEncoding.Encoded.{counts_group, encoded, encoded_all, encoded_of, numbered_encoded, plain, tree_groups};
 ghost use Rattle.pv_explore.specs.Observing.{stays_inside};
-ghost use Rattle.pv_laws_steps.specs.Commuting.{only_asks};
-ghost use Rattle.pv_model.specs.CallRef.{call_of};
-ghost use Rattle.pv_model.specs.State.{process_at};
+ghost use Rattle.pv_step_cache.specs.OfLawsSteps.Commuting.{only_asks};
 ghost use Rattle.pv_step_cache.specs.Steps.{texts_in};
 ghost use Rattle.pv_streams.specs.Sinks.{Writes, WritesOr};
-ghost use Rattle.pv_tree.specs.Sizes.{HaveSameSizes};
+ghost use Rattle.pv_image.specs.OfTree.Sizes.{HaveSameSizes};
 
 use crate::observer::Observer;
 use crate::states::States;
 use crate::witness::Count;
-use pv_answers::{Fragment, Line, Plain};
-use pv_calls_state::Parts;
-use pv_explain::{make_step, write_made};
 use pv_model::limits::LAST_PROCESS;
 use pv_model::{CallRef, StepFault};
-use pv_procs::{Fetched, Processes};
-use pv_script::CallTexts;
-use pv_session::{Session, Stop};
-use pv_state_encoding::{
+use pv_step_cache::state_encoding::{
     EncodedGroup, encoded_counts, encoded_process, encoded_state, encoded_trees, push_tree,
     state_groups,
 };
+use pv_step_lines::answers::{Fragment, Line, Plain};
+use pv_step_lines::calls_state::Parts;
+use pv_step_lines::procs::{Fetched, Processes};
+use pv_step_lines::script::CallTexts;
+use pv_step_lines::session::{Session, Stop};
+use pv_step_lines::{make_step, write_made};
 use pv_streams::{Failed, Sink};
 use pv_trace::LineBuffer;
 use std::alloc::Global;

@@ -8,8 +8,8 @@ ghost use Rattle.pv_explore.specs.declared.states.Visit.TheVariants.{New};
 ghost use Rattle.pv_explore.specs.Searches.{AreAt, endings_found, HasMoved, HasMovedAll, HasMovedFrom, IsAt, live_of, state_of, text_from, text_of_move, text_of_moves, visited_of, with_witness};
 ghost use Rattle.pv_explore.specs.Witnesses.{longer, witness_of};
 ghost use Rattle.pv_laws_states.specs.States.{IsValid};
-ghost use Rattle.pv_model.specs.Grammar.Programs.{program_of};
-ghost use Rattle.pv_session.specs.Running.{FailsBy};
+ghost use Rattle.pv_model.specs.Machine.{program_of};
+ghost use Rattle.pv_step_lines.specs.OfSession.Running.{FailsBy};
 ghost use Rattle.pv_step_cache.specs.Steps.{texts_in};
 ghost use Rattle.pv_streams.specs.Sinks.{Writes, WritesOr};
 
@@ -22,10 +22,10 @@ use crate::searched::Searched;
 use crate::states::{Followed, States, Visit};
 use crate::witness::Witness;
 use crate::witnesses::Witnesses;
-use pv_answers::{Fragment, Line, Plain};
 use pv_model::StepFault;
-use pv_session::Stop;
 use pv_step_cache::tables::Keys;
+use pv_step_lines::answers::{Fragment, Line, Plain};
+use pv_step_lines::session::Stop;
 use pv_streams::{Failed, Sink};
 use std::alloc::Global;
 

@@ -4,9 +4,9 @@ ghost use Rattle.pv_explore.specs.Plan.{live_at, state_at, state_key};
 ghost use Rattle.pv_explore.specs.Sides.{IsNumbered, number_of};
 ghost use Rattle.pv_explore.specs.VisitedStates.{HasNumber, IsMade};
 ghost use Rattle.pv_laws_states.specs.States.{IsValid};
-ghost use Rattle.pv_model.specs.Grammar.Programs.{program_of};
-ghost use Rattle.pv_session.specs.Running.{stepped};
-ghost use Rattle.pv_state_encoding.specs.Encoded.{encoded};
+ghost use Rattle.pv_model.specs.Machine.{program_of};
+ghost use Rattle.pv_step_lines.specs.OfSession.Running.{stepped};
+ghost use Rattle.pv_step_cache.specs.OfStateEncoding.Encoded.{encoded};
 ghost use Rattle.pv_step_cache.specs.Steps.{texts_in};
 
 use crate::checkpoints::Checkpoints;

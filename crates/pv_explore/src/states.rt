@@ -5,18 +5,18 @@ ghost use Rattle.pv_explore.specs.Rows.{AreOfState, Grew, IsAmong, IsGroupVisite
 ghost use Rattle.pv_explore.specs.VisitedStates.{AreCellsIn, AreReleased, AreLiveAt, ArePlaced, ArePushed, AreStoredAt, AreEncoded, HasNumber, IsFoundBy, IsFoundIn, IsMade, IsRecalled, IsValidAt, MayFollow, MayKeep, cells_row, number_of};
 ghost use Rattle.pv_explore.specs.Observing.{stays_inside};
 ghost use Rattle.pv_explore.specs.Plan.{state_key};
-ghost use Rattle.pv_model.specs.State.{process_at};
-ghost use Rattle.pv_session.specs.Running.{stepped};
+ghost use Rattle.pv_model.specs.Machine.{process_at};
+ghost use Rattle.pv_step_lines.specs.OfSession.Running.{stepped};
 ghost use Rattle.pv_step_cache.specs.Steps.{texts_in};
-ghost use Rattle.pv_state_encoding.specs.Groups.{groups_of, joined};
-ghost use Rattle.pv_state_encoding.specs.Encoded.{encoded_all, encoded_of};
+ghost use Rattle.pv_step_cache.specs.OfStateEncoding.Groups.{groups_of, joined};
+ghost use Rattle.pv_step_cache.specs.OfStateEncoding.Encoded.{encoded_all, encoded_of};
 
 use crate::after::cells_after;
 use crate::ahead::make_ahead;
 use crate::observer::Observer;
 use crate::position::{ObservedStep, Position};
 use pv_model::StepFault;
-use pv_state_encoding::{EncodedGroup, push_number};
+use pv_step_cache::state_encoding::{EncodedGroup, push_number};
 use pv_step_cache::tables::Keys;
 use pv_step_cache::{CachedSteps, Cell, Recalled, has_owner, live_owners, row_of_cells};
 use std::alloc::{AllocError, Global};

@@ -9,7 +9,7 @@ use crate::position::Position;
 use crate::progress::Progress;
 use crate::witnesses::Witnesses;
 use pv_model::StepFault;
-use pv_session::Session;
+use pv_step_lines::session::Session;
 use std::alloc::Global;
 use std::marker::Model;
 

@@ -1,11 +1,11 @@
 //! The text of a witness.
 ghost use Rattle.std.specs.Prelude.{◌∷◌, ◌++◌, ℕ, codes};
-ghost use Rattle.pv_model.specs.Answers.Explore.{turn_text, witness_text};
-ghost use Rattle.pv_model.specs.Answers.Lines.{answer_line, answer_line_bytes};
+ghost use Rattle.pv_model.specs.Machine.{witness_text, answer_line, answer_line_bytes};
+ghost use Rattle.pv_model.specs.Answers.Explore.{turn_text};
 ghost use Rattle.pv_streams.specs.Sinks.{Writes};
 
 use itoa::Buffer;
-use pv_answers::{Decimal, Fragment, Line, Plain};
+use pv_step_lines::answers::{Decimal, Fragment, Line, Plain};
 use pv_streams::{Failed, Sink, write_whole};
 
 /// A count in decimal digits.

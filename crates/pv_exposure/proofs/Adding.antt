@@ -6,14 +6,9 @@ use Rattle.std.proofs.lemmas.Iterator.Adapters.{position_from-zero}
 use Rattle.std.proofs.lemmas.List.{map-append}
 use Rattle.std.proofs.lemmas.List.Quantifiers.{position-Some}
 use Rattle.pv_model.specs.declared.verdict.Why.{Why}
-use Rattle.pv_model.specs.Answers.Explore.{Found}
-use Rattle.pv_model.specs.Answers.Exposure.{Located, leak_of, program_key}
-use Rattle.pv_model.specs.Answers.Files.{files_of_tree, node_brief}
-use Rattle.pv_model.specs.Bytes.{Bytes}
-use Rattle.pv_model.specs.Held.{live_processes}
-use Rattle.pv_model.specs.Sealed.{leaks}
-use Rattle.pv_model.specs.State.{ProcessRecord, live, ended_record, live_process}
-use Rattle.pv_audit.specs.Reasons.{first_of}
+use Rattle.pv_model.specs.Machine.{Found, Located, program_key, files_of_tree, node_brief, Bytes, live_processes, leaks, ProcessRecord, live, ended_record, live_process}
+use Rattle.pv_model.specs.Answers.Exposure.{leak_of}
+use Rattle.pv_reduced.specs.OfAudit.Reasons.{first_of}
 use Rattle.pv_exposure.specs.Collected.{Exposed, RecordedLeak, exposed_after, exposed_more, exposed_none, exposed_with, has_key, is_of, recorded_at, record_key, recorded_of, key_of, with_all}
 use Rattle.pv_exposure.specs.Stored.{found_in, recorded_by_file, located_if}
 use Rattle.pv_exposure.specs.declared.leaks.Visit.{Visit}

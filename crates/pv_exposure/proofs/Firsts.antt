@@ -2,8 +2,7 @@
 use Rattle.std.proofs.Common.{◌≡◌, ◌∙◌, sym, ap, ap₂, Bool, true, false, cond, ◌||◌, if◌then◌else◌, bytes_eq, List, [], ◌∷◌, ◌++◌, filter, refl}
 use Rattle.std.specs.List.{list_any}
 use Rattle.std.proofs.lemmas.Bool.{or_parts}
-use Rattle.pv_model.specs.Answers.Explore.{new_ones}
-use Rattle.pv_model.specs.Answers.Numbers.{Numbers}
+use Rattle.pv_model.specs.Machine.{new_ones, Numbers}
 use Rattle.pv_laws_trees.proofs.Entries.{bytes_eq-same, bytes_eq-itself}
 
 pub swapped : (a b : Numbers) → bytes_eq a b ≡ bytes_eq b a

@@ -1,12 +1,9 @@
 -- The files without names, by number.
 use Rattle.std.proofs.Common.{◌≡◌, ◌∙◌, ap, ℕ, zero, suc, ◌+◌, Bool, false, cond, ◌&&◌, List, [], ◌∷◌, ◌++◌, length, map, filter, Option, None, Some, add-one, refl, arith}
 use Rattle.std.specs.List.{range_with_len}
-use Rattle.pv_explore.proofs.Ranges.{range-suc}
+use Rattle.pv_reduced.proofs.OfExplore.Ranges.{range-suc}
 use Rattle.pv_model.specs.Answers.Files.{unnamed_files}
-use Rattle.pv_model.specs.Bytes.{is_empty}
-use Rattle.pv_model.specs.Numbered.{Numbered, at_number, numbered_from}
-use Rattle.pv_model.specs.Sealed.{is_file}
-use Rattle.pv_model.specs.Tree.{Node, Tree, names_of}
+use Rattle.pv_model.specs.Machine.{is_empty, Numbered, at_number, numbered_from, is_file, Node, Tree, names_of}
 use Rattle.pv_exposure.specs.Unnamed.{is_unnamed}
 
 numbers-from : {X : Type 0} (p : ℕ → Bool) (k : ℕ) (xs : Numbered X) → ((i : ℕ) → at_number xs i ≡ None → p (k + i) ≡ false)

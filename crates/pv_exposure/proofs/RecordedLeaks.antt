@@ -9,16 +9,12 @@ use Rattle.std.proofs.lemmas.List.Elements.{filter-append, filter_agree}
 use Rattle.std.proofs.lemmas.List.Folds.{flat_map-map, list_any-append}
 use Rattle.std.proofs.lemmas.List.Sums.{fold-append}
 use Rattle.std.proofs.lemmas.Simd.{map-map}
-use Rattle.pv_model.specs.Answers.Explore.{new_ones}
-use Rattle.pv_model.specs.Answers.Exposure.{Leak, Located, greatest_line, in_ranges, last_leak, leak_lines, leaks_at, line_of, lines_leaking, range_text}
-use Rattle.pv_model.specs.Answers.Nodes.{first_of}
-use Rattle.pv_model.specs.Answers.Numbers.{Numbers}
-use Rattle.pv_model.specs.Answers.Observed.{groups, with_alike}
-use Rattle.pv_model.specs.Bytes.{Bytes}
-use Rattle.pv_model.specs.Held.{among}
+use Rattle.pv_model.specs.Machine.{new_ones, Located, in_ranges, first_of, Numbers, groups, Bytes, among}
+use Rattle.pv_model.specs.Answers.Exposure.{Leak, greatest_line, last_leak, leak_lines, leaks_at, line_of, lines_leaking, range_text}
+use Rattle.pv_model.specs.Answers.Observed.{with_alike}
 use Rattle.pv_laws_trees.proofs.Entries.{bytes_eq-same, bytes_eq-itself}
 use Rattle.pv_laws_trees.proofs.Generic.{flat-same}
-use Rattle.pv_explore.proofs.Ranges.{among-most}
+use Rattle.pv_reduced.proofs.OfExplore.Ranges.{among-most}
 use Rattle.pv_exposure.specs.Collected.{RecordedLeak, all_recorded_lines, greatest, has_key, recorded_at, recorded_lines, recorded_lines_by, recorded_of, key_of, last_recorded, ranges_recorded, with_all}
 use Rattle.pv_exposure.proofs.Firsts.{keyed}
 

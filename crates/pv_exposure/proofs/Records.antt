@@ -6,11 +6,8 @@ use Rattle.std.proofs.lemmas.Grind.{flat_map-append}
 use Rattle.std.proofs.lemmas.List.Elements.{filter-append, filter_agree}
 use Rattle.std.proofs.lemmas.List.Folds.{list_all-append}
 use Rattle.std.proofs.lemmas.Simd.{map-map}
-use Rattle.pv_model.specs.Answers.Explore.{new_ones}
-use Rattle.pv_model.specs.Answers.Exposure.{Located, is_closed_to, program_key}
-use Rattle.pv_model.specs.Answers.Numbers.{Numbers}
-use Rattle.pv_model.specs.Answers.Observed.{groups, with_alike}
-use Rattle.pv_model.specs.State.{Program}
+use Rattle.pv_model.specs.Machine.{new_ones, Located, is_closed_to, program_key, Numbers, groups, Program}
+use Rattle.pv_model.specs.Answers.Observed.{with_alike}
 use Rattle.pv_laws_trees.proofs.Entries.{bytes_eq-same, bytes_eq-itself}
 use Rattle.pv_exposure.specs.Collected.{Exposed, RecordedLeak, exposed_after, exposed_more, exposed_none, exposed_with, recorded_at, with_all, with_one}
 use Rattle.pv_exposure.proofs.Firsts.{AreApart, firsts-apart, firsts-more, keyed, none-alike, unless_known}

@@ -2,8 +2,8 @@
 use Rattle.std.proofs.Common.{◌≡◌, ◌≢◌, ◌∙◌, sym, ap, ℕ, zero, suc, ◌+◌, Bool, true, false, if◌then◌else◌, ◌==◌, List, [], ◌∷◌, ◌++◌, flat_map, append_assoc, append-nil, codes, refl, arith}
 use Rattle.std.specs.List.{join_by}
 use Rattle.std.proofs.lemmas.Bool.{eq-eqb, ne_eqb}
-use Rattle.pv_model.specs.Answers.Exposure.{in_ranges, onto_ranges, range_text}
-use Rattle.pv_model.specs.Bytes.{Bytes}
+use Rattle.pv_model.specs.Machine.{in_ranges, Bytes}
+use Rattle.pv_model.specs.Answers.Exposure.{onto_ranges, range_text}
 
 abbrev pub Ranges : Type 0
 Ranges = List (ℕ × ℕ)

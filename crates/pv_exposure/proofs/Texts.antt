@@ -6,13 +6,8 @@ use Rattle.std.proofs.lemmas.Grind.{flat_map-append}
 use Rattle.std.proofs.lemmas.List.{map-append, take_more}
 use Rattle.std.proofs.lemmas.List.Elements.{filter-append}
 use Rattle.std.proofs.lemmas.List.Folds.{list_any-append}
-use Rattle.pv_model.specs.Answers.Explore.{new_ones}
-use Rattle.pv_model.specs.Answers.Lines.{AnswerLine, answer_bytes, answer_line_bytes, counted_from}
-use Rattle.pv_model.specs.Answers.Nodes.{first_of}
-use Rattle.pv_model.specs.Answers.Numbers.{Numbers}
+use Rattle.pv_model.specs.Machine.{new_ones, AnswerLine, answer_bytes, answer_line_bytes, counted_from, first_of, Numbers, Bytes, Tree}
 use Rattle.pv_model.specs.Answers.Observed.{with_alike}
-use Rattle.pv_model.specs.Bytes.{Bytes}
-use Rattle.pv_model.specs.Tree.{Tree}
 use Rattle.pv_exposure.specs.Collected.{Exposed, RecordedLeak, all_recorded_lines, recorded_lines, recorded_lines_by, last_recorded, lines_of_exposed, ranges_recorded, safe_line}
 use Rattle.pv_exposure.specs.Stored.{all_recorded, first_at, recorded_in, recorded_of_file}
 use Rattle.pv_exposure.specs.declared.leaks.StoredLeak.{StoredLeak}

@@ -1,8 +1,8 @@
 -- The records of the visited states, state by state.
 use Rattle.std.proofs.Common.{◌≡◌, ◌∙◌, sym, ap, ℕ, zero, suc, ◌+◌, ◌<◌, ◌≤◌, List, [], ◌∷◌, ◌++◌, length, take, flat_map, append-nil, slice_get, Some, refl, arith}
 use Rattle.std.proofs.lemmas.Grind.{flat_map-append}
-use Rattle.pv_model.specs.Answers.Explore.{Found}
-use Rattle.pv_model.specs.Answers.Exposure.{Located, located_at}
+use Rattle.pv_model.specs.Machine.{Found, Located}
+use Rattle.pv_model.specs.Answers.Exposure.{located_at}
 use Rattle.pv_exposure.specs.Collected.{Exposed, exposed_after}
 use Rattle.pv_exposure.proofs.Adding.{after-both}
 use Rattle.pv_exposure.proofs.Texts.{take-past}

@@ -2,16 +2,11 @@
 use Rattle.std.proofs.Common.{◌≡◌, ◌∙◌, ap, ap₂, ℕ, ◌+◌, Bool, if◌then◌else◌, List, [], ◌∷◌, ◌++◌, map, flat_map, length, refl}
 use Rattle.std.specs.Prelude.{filter}
 use Rattle.std.specs.List.{list_all}
-use Rattle.pv_model.specs.Answers.Exposure.{Located, exposure_lines, is_closed_to, leak_lines, leaks_at, located, located_at, program_key}
-use Rattle.pv_model.specs.Answers.Files.{named_files}
-use Rattle.pv_model.specs.Answers.Lines.{AnswerLine, answer_bytes, counted_from}
-use Rattle.pv_model.specs.Answers.Observed.{groups}
+use Rattle.pv_model.specs.Machine.{Located, is_closed_to, program_key, named_files, AnswerLine, answer_bytes, counted_from, groups, program_of, State, Tree}
+use Rattle.pv_model.specs.Answers.Exposure.{exposure_lines, leak_lines, leaks_at, located, located_at}
 use Rattle.pv_model.specs.Answers.ProgramNames.{program_line}
-use Rattle.pv_model.specs.Grammar.Programs.{program_of}
-use Rattle.pv_model.specs.State.{State}
-use Rattle.pv_model.specs.Tree.{Tree}
-use Rattle.pv_explore.specs.Visiting.{Visits}
-use Rattle.pv_laws_classes.specs.ReducedAnswers.{reduced_exposure_lines}
+use Rattle.pv_reduced.specs.OfExplore.Visiting.{Visits}
+use Rattle.pv_reduced.specs.OfLawsClasses.ReducedAnswers.{reduced_exposure_lines}
 use Rattle.pv_reduced.specs.declared.kind.SearchKind.{SearchKind}
 use Rattle.pv_reduced.specs.declared.kind.SearchKind.TheVariants.{Full, Reduced}
 use Rattle.pv_reduced.specs.Kinds.{count_line, exposure_lines_by, states_by}

@@ -2,21 +2,10 @@
 use Rattle.std.specs.Prelude.{ℕ, ◌/◌, ◌%◌, Bool, ◌==◌, if◌then◌else◌, max, List, [], ◌∷◌, ◌++◌, map, flat_map, filter, fold, codes, bytes_eq, Option, None, Some}
 use Rattle.std.specs.List.{join_by, list_any, range_with_len}
 use Rattle.pv_model.specs.declared.verdict.Why.{Why}
-use Rattle.pv_model.specs.Answers.Explore.{witness_text}
-use Rattle.pv_model.specs.Answers.Exposure.{Located, Leak, in_ranges, is_closed_to, leaks_at, line_of, located_at, program_key, range_text}
-use Rattle.pv_model.specs.Answers.Explore.{Found}
-use Rattle.pv_model.specs.Answers.Files.{node_brief}
-use Rattle.pv_model.specs.Answers.Lines.{AnswerLine, answer_line, counted_from}
-use Rattle.pv_model.specs.Answers.Nodes.{first_of}
-use Rattle.pv_model.specs.Answers.Numbers.{Numbers}
-use Rattle.pv_model.specs.Answers.Observed.{groups}
-use Rattle.pv_model.specs.Answers.ProgramNames.{program_line, program_numbers}
-use Rattle.pv_model.specs.Bytes.{Bytes}
-use Rattle.pv_model.specs.Grammar.Programs.{program_of}
-use Rattle.pv_model.specs.Held.{among}
+use Rattle.pv_model.specs.Machine.{witness_text, Located, in_ranges, is_closed_to, program_key, Found, node_brief, AnswerLine, answer_line, counted_from, first_of, Numbers, groups, program_numbers, Bytes, program_of, among, Program, Tree}
+use Rattle.pv_model.specs.Answers.Exposure.{Leak, leaks_at, line_of, located_at, range_text}
+use Rattle.pv_model.specs.Answers.ProgramNames.{program_line}
 use Rattle.pv_model.specs.Sealed.{why_text}
-use Rattle.pv_model.specs.State.{Program}
-use Rattle.pv_model.specs.Tree.{Tree}
 use Rattle.pv_reduced.specs.declared.kind.SearchKind.{SearchKind}
 use Rattle.pv_reduced.specs.Kinds.{count_line}
 

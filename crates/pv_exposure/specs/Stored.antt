@@ -1,13 +1,7 @@
 -- The stored leaks and records of programs, as contracts see them.
 use Rattle.std.specs.Prelude.{◌≡◌, ◌==◌, ℕ, List, [], ◌∷◌, map, bytes_eq, filter, Option, None, Some}
-use Rattle.pv_model.specs.Answers.Explore.{Found}
-use Rattle.pv_model.specs.Answers.Exposure.{Located, leak_of}
-use Rattle.pv_model.specs.Answers.Nodes.{first_of}
-use Rattle.pv_model.specs.Answers.Numbers.{Numbers}
-use Rattle.pv_model.specs.Answers.ProgramNames.{program_numbers}
-use Rattle.pv_model.specs.Bytes.{Bytes}
-use Rattle.pv_model.specs.Sealed.{leaks}
-use Rattle.pv_model.specs.State.{Process, Program}
+use Rattle.pv_model.specs.Machine.{Found, Located, first_of, Numbers, program_numbers, Bytes, leaks, Process, Program}
+use Rattle.pv_model.specs.Answers.Exposure.{leak_of}
 use Rattle.pv_exposure.specs.Collected.{RecordedLeak, key_of, recorded_of}
 use Rattle.pv_exposure.specs.declared.leaks.StoredLeak.{StoredLeak}
 use Rattle.pv_exposure.specs.declared.leaks.Visit.{Visit}

@@ -1,22 +1,20 @@
 //! The exposure of the programs under all schedules.
 ghost use Rattle.std.specs.Prelude.{◌≡◌, ◌≤◌, [], flat_map, length, slice_get, IfOk, OnOk, Some};
 ghost use Rattle.pv_exposure.specs.Collected.{exposed_after, lines_of_all};
-ghost use Rattle.pv_model.specs.Answers.Explore.{Found};
+ghost use Rattle.pv_model.specs.Machine.{Found, named_files, answer_bytes};
 ghost use Rattle.pv_model.specs.Answers.Exposure.{located_at};
-ghost use Rattle.pv_model.specs.Answers.Files.{named_files};
-ghost use Rattle.pv_model.specs.Answers.Lines.{answer_bytes};
 ghost use Rattle.pv_reduced.specs.Kinds.{exposure_lines_by, is_complete_by};
-ghost use Rattle.pv_session.specs.Running.{FailsBy};
+ghost use Rattle.pv_reduced.specs.OfSession.Running.{FailsBy};
 ghost use Rattle.pv_streams.specs.Sinks.{WritesOr};
 
 use crate::files::files_of_tree;
 use crate::programs::{ProgramRecord, add_state};
 use crate::text::text_of_all;
-use pv_access::named_files;
-use pv_explore::{FirstMachine, Progress, SearchedStates, VisitedState};
 use pv_model::StepFault;
+use pv_named_files::named_files;
 use pv_reduced::SearchKind;
-use pv_session::Stop;
+use pv_reduced::explore_crate::{FirstMachine, Progress, SearchedStates, VisitedState};
+use pv_reduced::session::Stop;
 use pv_streams::{Sink, write_whole};
 use pv_tree::Tree;
 use std::alloc::{AllocError, Global};

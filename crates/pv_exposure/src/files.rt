@@ -1,9 +1,10 @@
 //! The files of a tree.
 ghost use Rattle.std.specs.Prelude.{◌≡◌, ◌&&◌, ◌++◌, ◌∷◌, [], filter, length, IfOk, OnOk};
 ghost use Rattle.pv_exposure.specs.Unnamed.{is_unnamed};
-ghost use Rattle.pv_model.specs.Answers.Files.{files_of_tree, unnamed_files};
+ghost use Rattle.pv_model.specs.Machine.{files_of_tree};
+ghost use Rattle.pv_model.specs.Answers.Files.{unnamed_files};
 
-use pv_access::{is_file, named_files};
+use pv_named_files::{is_file, named_files};
 use pv_tree::Tree;
 use std::alloc::{AllocError, Global};
 

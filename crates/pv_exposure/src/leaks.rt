@@ -3,16 +3,14 @@ ghost use Rattle.std.specs.Prelude.{◌≡◌, ◌++◌, ◌∷◌, [], bytes_eq
 ghost use Rattle.std.specs.List.{list_any};
 ghost use Rattle.pv_exposure.specs.Collected.{recorded_at, record_key, key_of, with_all};
 ghost use Rattle.pv_exposure.specs.Stored.{all_recorded, recorded_by_file, recorded_in, located_in};
-ghost use Rattle.pv_model.specs.Answers.Exposure.{is_closed_to};
-ghost use Rattle.pv_model.specs.Answers.Files.{files_of_tree};
-ghost use Rattle.pv_model.specs.State.{Process, process_at};
+ghost use Rattle.pv_model.specs.Machine.{is_closed_to, files_of_tree, Process, process_at};
 
-use pv_access::is_file;
-use pv_answers::{NodeBrief, text_of};
-use pv_audit::leak;
-use pv_calls_state::Parts;
 use pv_model::Why;
-use pv_step_cache::tables::Keys;
+use pv_named_files::is_file;
+use pv_named_files::step_cache::tables::Keys;
+use pv_programs::answers::{NodeBrief, text_of};
+use pv_programs::calls_state::Parts;
+use pv_reduced::audit::leak;
 use std::alloc::{AllocError, Global};
 
 /// A process that is not closed to a file.

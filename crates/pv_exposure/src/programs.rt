@@ -3,15 +3,13 @@ ghost use Rattle.std.specs.Prelude.{◌≡◌, position, IfOk, IsSome, OnOk, Som
 ghost use Rattle.pv_exposure.specs.Collected.{exposed_after, exposed_more, exposed_none, exposed_with, is_of as is_of_numbers};
 ghost use Rattle.pv_exposure.specs.Stored.{all_recorded, located_if, located_in};
 ghost use Rattle.pv_model.specs.Answers.Exposure.{located_at};
-ghost use Rattle.pv_model.specs.Answers.Files.{files_of_tree};
-ghost use Rattle.pv_model.specs.Answers.ProgramNames.{program_numbers};
-ghost use Rattle.pv_model.specs.State.{Process, process_at};
+ghost use Rattle.pv_model.specs.Machine.{files_of_tree, program_numbers, Process, process_at};
 
 use crate::leaks::{StoredLeak, Visit, add_files, closed_among};
-use pv_calls_state::Parts;
+use pv_named_files::step_cache::tables::Keys;
+use pv_programs::calls_state::Parts;
 use pv_programs::program_numbers;
 use pv_script::Program;
-use pv_step_cache::tables::Keys;
 use std::alloc::{AllocError, Global};
 use std::marker::Model;
 

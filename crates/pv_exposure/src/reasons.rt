@@ -1,6 +1,6 @@
 //! Reasons.
-use pv_answers::{Decimal, Fragment, Plain};
 use pv_model::Why;
+use pv_programs::answers::{Decimal, Fragment, Plain};
 use pv_streams::{Failed, Sink};
 
 /// The reason why a process is not closed to a file.

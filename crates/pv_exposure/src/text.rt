@@ -3,18 +3,17 @@ ghost use Rattle.std.specs.Prelude.{◌≡◌, ◌++◌, ◌∷◌, [], bytes_eq
 ghost use Rattle.std.specs.List.{list_any};
 ghost use Rattle.pv_exposure.specs.Collected.{Exposed, all_recorded_lines, recorded_lines_by, recorded_text, last_recorded, lines_of_all, lines_of_exposed, ranges_recorded, safe_line};
 ghost use Rattle.pv_exposure.specs.Stored.{all_recorded, first_at, recorded_in, recorded_of_file};
-ghost use Rattle.pv_model.specs.Answers.Explore.{witness_text};
-ghost use Rattle.pv_model.specs.Answers.Lines.{answer_bytes, answer_line, answer_line_bytes, counted_from};
+ghost use Rattle.pv_model.specs.Machine.{witness_text, answer_bytes, answer_line, answer_line_bytes, counted_from};
 
 use crate::leaks::StoredLeak;
 use crate::programs::ProgramRecord;
 use crate::ranges::append_ranges;
 use crate::reasons::WhyText;
-use pv_answers::{Line, NodeBrief, Plain, append};
-use pv_explore::{Witness, ascending, greatest};
+use pv_named_files::step_cache::tables::Keys;
+use pv_programs::answers::{Line, NodeBrief, Plain, append};
 use pv_programs::append_program_line;
 use pv_reduced::SearchKind;
-use pv_step_cache::tables::Keys;
+use pv_reduced::explore_crate::{Witness, ascending, greatest};
 use pv_streams::Gathered;
 use pv_tree::Tree;
 use std::alloc::{AllocError, Global};

@@ -4,8 +4,7 @@ use Rattle.std.specs.Prelude.{◌↔◌}
 use Rattle.std.proofs.Math.ListN.{set, length-map}
 use Rattle.std.proofs.lemmas.Bool.Decides.{nat_tests}
 use Rattle.std.proofs.lemmas.List.{map-set}
-use Rattle.pv_model.specs.State.{OpenFile}
-use Rattle.pv_model.specs.Numbered.{Numbered, at_number, with_number, without_number, least_free}
+use Rattle.pv_model.specs.Machine.{OpenFile, Numbered, at_number, with_number, without_number, least_free}
 use Rattle.pv_files.specs.declared.opened.Opened.{Opened}
 use Rattle.pv_files.specs.Counted.{Counted, no_files, with_opened, with_file, with_users}
 use Rattle.pv_files.specs.Slots.{file_of, users_of, where_used, counted_of}

@@ -13,8 +13,7 @@ use Rattle.pv_files.specs.Slots.{file_of, users_of, where_used, counted_of, reco
 use Rattle.pv_files.proofs.Counts.{opened_there, opened_below, slot_there, used_where, used_some, used_none, users_where, old_used, old_file, fewer_after, files_stay, files_without, shared_after, changed_after, IsSlot, is_slot, no_slots}
 use Rattle.pv_files.proofs.Seen.{least_free_after, least_free-le, used-set_some, used-set_least, used-set}
 use Rattle.pv_model.proofs.Numbers.{at_number_past}
-use Rattle.pv_model.specs.Numbered.{at_number, without_number, least_free}
-use Rattle.pv_model.specs.State.{OpenFile}
+use Rattle.pv_model.specs.Machine.{at_number, without_number, least_free, OpenFile}
 
 abbrev pub Records : Type 0
 Records = Slab Opened

@@ -9,7 +9,7 @@ use Rattle.std.proofs.lemmas.List.Quantifiers.{position-Some}
 use Rattle.std.proofs.lemmas.List.Sums.{prefix_len-le-length}
 use Rattle.std.proofs.lemmas.Option.{cond_some}
 use Rattle.std.specs.List.{position_or_len}
-use Rattle.pv_model.specs.Numbered.{Numbered, at_number, with_number, without_number, least_free}
+use Rattle.pv_model.specs.Machine.{Numbered, at_number, with_number, without_number, least_free}
 
 pub past : (n m : ℕ) → n ≤ m → cond (nat_lt n m) (Some n) None ≡ None → n ≡ m
 past n m within none = grind (arith, nat_tests)

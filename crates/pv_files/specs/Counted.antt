@@ -1,8 +1,7 @@
 -- Open files and their users, as contracts see them.
 use Rattle.std.specs.Prelude.{◌≡◌, ℕ, ◌<◌, ◌↔◌, List, length, replicate, slice_index, slice_set, IsSome, None}
 use Rattle.pv_model.specs.declared.limits.TheConstants.{OPEN_FILES}
-use Rattle.pv_model.specs.Numbered.{Numbered, at_number, with_number}
-use Rattle.pv_model.specs.State.{OpenFile}
+use Rattle.pv_model.specs.Machine.{Numbered, at_number, with_number, OpenFile}
 
 -- the open files by number, and the number of users of each
 pub record Counted : Type 0 where

@@ -1,8 +1,7 @@
 -- Conversion of descriptors between the code and the specification.
 use Rattle.std.specs.Prelude.{◌≡◌, refl, List, [], ◌∷◌, map, Option, None, Some, option_map}
 use Rattle.std.proofs.Common.{ap}
-use Rattle.pv_model.specs.Numbered.{Numbered}
-use Rattle.pv_model.specs.State.{Descriptor}
+use Rattle.pv_model.specs.Machine.{Numbered, Descriptor}
 use Rattle.pv_files.specs.declared.descriptors.Descriptor.{Descriptor as ProcessSlot}
 
 abbrev pub descriptor_of : ProcessSlot → Descriptor

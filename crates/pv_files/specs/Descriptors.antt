@@ -1,8 +1,7 @@
 -- The descriptors of a process, as contracts see them.
 use Rattle.std.specs.Prelude.{ℤ, pos, negsuc, Bool, false, replicate, Option, None, Some}
 use Rattle.pv_model.specs.declared.limits.TheConstants.{DESCRIPTORS}
-use Rattle.pv_model.specs.Numbered.{Numbered, at_number}
-use Rattle.pv_model.specs.State.{Descriptor}
+use Rattle.pv_model.specs.Machine.{Numbered, at_number, Descriptor}
 
 abbrev pub no_descriptors : Numbered Descriptor
 no_descriptors = replicate DESCRIPTORS None

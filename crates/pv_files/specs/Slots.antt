@@ -2,8 +2,7 @@
 use Rattle.std.specs.Prelude.{◌≡◌, ℕ, ◌<◌, ◌≤◌, List, length, map, nat_lt, if◌then◌else◌, Option, None, Some, option_map, option_and_then, slice_index}
 use Rattle.slab.specs.Slab.{Slab, get, ContainsKey}
 use Rattle.pv_model.specs.declared.limits.TheConstants.{OPEN_FILES}
-use Rattle.pv_model.specs.Numbered.{least_free}
-use Rattle.pv_model.specs.State.{OpenFile}
+use Rattle.pv_model.specs.Machine.{least_free, OpenFile}
 use Rattle.pv_files.specs.declared.opened.Opened.{Opened}
 use Rattle.pv_files.specs.Counted.{Counted}
 

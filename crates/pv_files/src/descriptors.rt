@@ -1,9 +1,8 @@
 //! The descriptors of a process.
 ghost use Rattle.std.specs.Prelude.{◌≡◌, ◌<◌, ◌↔◌, length, IfOk, IfErr, OnOk, OnErr, IsTrue, false, map, option_map, ok_or, slice_get};
 ghost use Rattle.std.specs.Option.{option_and_then};
-ghost use Rattle.pv_model.specs.Calls.Descriptors.{without_descriptor};
+ghost use Rattle.pv_model.specs.Machine.{without_descriptor, at_number, with_number, without_number, least_free};
 ghost use Rattle.pv_model.specs.Calls.Processes.{descriptor_after_exec};
-ghost use Rattle.pv_model.specs.Numbered.{at_number, with_number, without_number, least_free};
 ghost use Rattle.pv_files.specs.DescriptorSlots.{descriptor_of, descriptors_of};
 ghost use Rattle.pv_files.specs.Descriptors.{no_descriptors, descriptor_under, is_marked};
 

@@ -1,7 +1,7 @@
 //! The open files of the system.
 ghost use Rattle.std.specs.Prelude.{◌≡◌, ◌+◌, ◌-◌, ◌<◌, ◌≤◌, ◌↔◌, is_some, length, None, Some, OnSome, IfSome, IfNone, IfOk, OnErr, IfErr, IsSome, IsTrue, MatchOption, option_map, slice_index, slice_set, position, is_none};
 ghost use Rattle.std.specs.Option.{option_copied};
-ghost use Rattle.pv_model.specs.Numbered.{at_number, without_number, least_free};
+ghost use Rattle.pv_model.specs.Machine.{at_number, without_number, least_free};
 ghost use Rattle.pv_files.specs.Counted.{IsCounted, no_files, with_file, with_users, with_opened};
 ghost use Rattle.pv_files.specs.Slots.{AreKeys, file_of, users_of, record_at, slots_under, where_used};
 

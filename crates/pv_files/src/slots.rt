@@ -1,6 +1,6 @@
 //! Arrays of optional elements.
 ghost use Rattle.std.specs.Prelude.{◌≡◌, ◌<◌, length, MatchOption, position, is_none};
-ghost use Rattle.pv_model.specs.Numbered.{least_free};
+ghost use Rattle.pv_model.specs.Machine.{least_free};
 
 // Returns the index of the first `None`.
 fn first_empty<T>(slots: &[Option<T>]) -> Option<usize>

@@ -4,10 +4,7 @@ use Rattle.std.specs.Prelude.{map, fold, ◌==◌, IsErrAnd}
 use Rattle.std.proofs.lemmas.Bool.{eq-eqb, ne_eqb}
 use Rattle.std.proofs.lemmas.List.{append-nil}
 use Rattle.pv_listing.proofs.Entries.{no-entries}
-use Rattle.pv_model.specs.Bytes.{Bytes}
-use Rattle.pv_model.specs.Grammar.Manifests.{path_of}
-use Rattle.pv_model.specs.Manifest.{Entry, make, further_name}
-use Rattle.pv_model.specs.Tree.{Entries, Node, directory_node, file_node, link_node, Tree, root, node_at, entries_at, is_directory_at}
+use Rattle.pv_model.specs.Machine.{Bytes, path_of, Entry, make, further_name, Entries, Node, directory_node, file_node, link_node, Tree, root, node_at, entries_at, is_directory_at}
 use Rattle.pv_host_copy.specs.declared.exporting.FirstPath.{FirstPath}
 use Rattle.pv_host_copy.specs.declared.target.TargetFault.{TargetFault}
 use Rattle.pv_host_copy.specs.declared.target.TargetFault.TheVariants.{Make, Memory}

@@ -3,10 +3,7 @@ use Rattle.std.proofs.Common.{◌≡◌, ◌∙◌, ℕ, ◌+◌, ◌-◌, ap, s
 use Rattle.std.specs.Prelude.{map, flat_map, IfSome}
 use Rattle.pv_model.specs.declared.limits.TheConstants.{INODES}
 use Rattle.pv_model.specs.declared.version.Version.{Version}
-use Rattle.pv_model.specs.Bytes.{Bytes}
-use Rattle.pv_model.specs.Held.{named_tree}
-use Rattle.pv_model.specs.Image.{inode_blocks, greatest_blocks}
-use Rattle.pv_model.specs.Tree.{Tree}
+use Rattle.pv_model.specs.Machine.{Bytes, named_tree, inode_blocks, greatest_blocks, Tree}
 use Rattle.pv_image.proofs.Named.{named_tree-all}
 use Rattle.pv_image_write.specs.Written.{BeginsImage, WritesImage}
 use Rattle.pv_laws_trees.specs.Preserved.{EachIsNamed}

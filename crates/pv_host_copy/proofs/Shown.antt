@@ -8,11 +8,7 @@ use Rattle.std.specs.Prelude.{map, fold, bytes_eq, nat_le, if◌then◌else◌}
 use Rattle.std.proofs.lemmas.Bool.{and_parts, and_from, cond-false, not-true, le-leb}
 use Rattle.std.proofs.lemmas.List.{map_push}
 use Rattle.pv_model.specs.declared.version.Version.{Version}
-use Rattle.pv_model.specs.Bytes.{Bytes, is_empty, onto_first}
-use Rattle.pv_model.specs.Manifest.{Entry, make, further_name}
-use Rattle.pv_model.specs.Room.{greatest_length}
-use Rattle.pv_model.specs.Tree.{Entries, Node, directory_node, file_node, link_node, Tree, root, node_at, entries_at, entries_of as entries_in, is_directory, is_link_text, is_name, is_name_byte, is_node, greatest_name}
-use Rattle.pv_model.specs.Walk.{split_slashes}
+use Rattle.pv_model.specs.Machine.{Bytes, is_empty, onto_first, Entry, make, further_name, greatest_length, Entries, Node, directory_node, file_node, link_node, Tree, root, node_at, entries_at, entries_of as entries_in, is_directory, is_link_text, is_name, is_name_byte, is_node, greatest_name, split_slashes}
 use Rattle.pv_host_copy.specs.declared.entry.Identity.{Identity}
 use Rattle.pv_host_copy.specs.declared.fault.SkipReason.{SkipReason}
 use Rattle.pv_host_copy.specs.declared.fault.SkipReason.TheVariants.{Size, Text}

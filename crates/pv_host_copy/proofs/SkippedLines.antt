@@ -1,6 +1,6 @@
 -- The lines of skipped entries, one by one.
 use Rattle.std.proofs.Common.{◌≡◌, ◌++◌, ◌∙◌, ap, Option, None, Some, append_assoc}
-use Rattle.pv_model.specs.Bytes.{Bytes}
+use Rattle.pv_model.specs.Machine.{Bytes}
 use Rattle.pv_streams.specs.Sinks.{and_all}
 
 -- a line, and then those after it

@@ -5,11 +5,7 @@ use Rattle.std.specs.Prelude.{map, nat_le, IfSome, IsSome, IsErrAnd, ifâ—Œthenâ—
 use Rattle.std.proofs.lemmas.Bool.{le-leb, leb-true}
 use Rattle.std.proofs.lemmas.List.{map_push}
 use Rattle.pv_model.specs.declared.version.Version.{Version}
-use Rattle.pv_model.specs.Bytes.{Bytes}
-use Rattle.pv_model.specs.Grammar.Manifests.{add_entry, path_of}
-use Rattle.pv_model.specs.Manifest.{Entry, make, further_name}
-use Rattle.pv_model.specs.Room.{greatest_length}
-use Rattle.pv_model.specs.Tree.{Node, Tree, file_node, directory_node}
+use Rattle.pv_model.specs.Machine.{Bytes, add_entry, path_of, Entry, make, further_name, greatest_length, Node, Tree, file_node, directory_node}
 use Rattle.pv_tree.specs.Holding.{HeldTree}
 use Rattle.pv_host_copy.specs.declared.entry.Identity.{Identity}
 use Rattle.pv_host_copy.specs.declared.fault.CopyStop.{CopyStop}

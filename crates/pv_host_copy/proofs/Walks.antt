@@ -3,9 +3,7 @@ use Rattle.std.proofs.Common.{◌≡◌, ◌≢◌, ◌∙◌, ap, arith, ℕ, �
 use Rattle.std.specs.Prelude.{Bool, ⊤, IfSome, IsSome, if◌then◌else◌}
 use Rattle.std.proofs.lemmas.List.{append-nil}
 use Rattle.pv_model.specs.declared.version.Version.{Version}
-use Rattle.pv_model.specs.Bytes.{Bytes}
-use Rattle.pv_model.specs.Manifest.{Entry, make, further_name}
-use Rattle.pv_model.specs.Tree.{Node, Tree, directory_node}
+use Rattle.pv_model.specs.Machine.{Bytes, Entry, make, further_name, Node, Tree, directory_node}
 use Rattle.pv_host_copy.specs.declared.entry.HostEntry.{HostEntry}
 use Rattle.pv_host_copy.specs.declared.entry.HostNode.{HostNode}
 use Rattle.pv_host_copy.specs.declared.entry.HostNode.TheVariants.{Directory, File, Link, Other}
@@ -16,7 +14,7 @@ use Rattle.pv_image_manifest.specs.declared.fault.EntryFault.{EntryFault}
 use Rattle.pv_host_copy.specs.declared.fault.HostFault.{HostFault}
 use Rattle.pv_host_copy.specs.declared.fault.HostFault.TheVariants as host
 use Rattle.pv_host_copy.specs.declared.fault.SkipReason.{SkipReason}
-use Rattle.pv_host_copy.specs.declared.fault.SkipReason.TheVariants.{Name, Kind}
+use Rattle.pv_host_copy.specs.declared.fault.SkipReason.TheVariants.{Name}
 use Rattle.pv_host_copy.specs.declared.importing.Importing.{Importing}
 use Rattle.pv_host_copy.specs.declared.walking.OpenDirectory.{OpenDirectory}
 use Rattle.pv_host_copy.specs.Gathered.{Gathered, and_entry, and_first_entry, and_skipped, and_node, and_linked, and_directory, and_file, and_link, first_of, gather}
@@ -79,8 +77,8 @@ module _ (v : Version) where
       both-extend (and_file v (below path name) identity executable bytes) (gather v path rest) (linked-extends (below path name) identity _ _ _) (gather-extends path rest)
   gather-extends path (a_link name identity text rest) =
       both-extend (and_link v (below path name) identity text) (gather v path rest) (linked-extends (below path name) identity _ _ _) (gather-extends path rest)
-  gather-extends path (an_other name rest) =
-      both-extend (and_skipped (below path name) Kind) (gather v path rest) (reported-extends (below path name) Kind) (gather-extends path rest)
+  gather-extends path (an_other name why rest) =
+      both-extend (and_skipped (below path name) why) (gather v path rest) (reported-extends (below path name) why) (gather-extends path rest)
 
 -- an error stays the same if more entries follow
 refused-more : (es more all : List (ℕ × Entry)) (start : Tree) (refused : Bytes × EntryFault) → all ≡ es ++ more → IsRefused es start refused → IsRefused all start refused
@@ -137,7 +135,7 @@ abbrev pub GoesByNode : {D R X : Type 0} → (D → Option HostEntries) → (R �
 GoesByNode entries_of bytes_of v path (Directory d) before result after = GoesIf (entries_of d) (λ inside. and_directory v path (gather v path inside)) before result after
 GoesByNode entries_of bytes_of v path (File identity executable r) before result after = GoesIf (bytes_of r) (and_file v path identity executable) before result after
 GoesByNode entries_of bytes_of v path (Link identity text) before result after = Goes (and_link v path identity text.items) before result after
-GoesByNode entries_of bytes_of v path Other before result after = Goes (and_skipped path Kind) before result after
+GoesByNode entries_of bytes_of v path (Other why) before result after = Goes (and_skipped path why) before result after
 
 module _ {D R : Type 0} (entries_of : D → Option HostEntries) (bytes_of : R → Option Bytes) (v : Version) {X : Type 0} (now next : Importing) (r : Result X CopyStop) where
   abbrev GoesBy : Bytes → HostNode D R → Type 0
@@ -148,7 +146,7 @@ module _ {D R : Type 0} (entries_of : D → Option HostEntries) (bytes_of : R �
   directory-goes path inside (Directory d) is goes = goes-known (entries_of d) inside (λ entries. and_directory v path (gather v path entries)) now r next is goes
   directory-goes path inside (File i x f) is goes = absurd is
   directory-goes path inside (Link i t) is goes = absurd is
-  directory-goes path inside Other is goes = absurd is
+  directory-goes path inside (Other w) is goes = absurd is
 
   file-goes : (path : Bytes) (identity : Identity) (executable : Bool) (bytes : Bytes) (node : HostNode D R) → IsFile entries_of bytes_of identity executable bytes node → GoesBy path node
       → Goes (and_file v path identity executable bytes) now r next
@@ -157,7 +155,7 @@ module _ {D R : Type 0} (entries_of : D → Option HostEntries) (bytes_of : R �
       (subst (λ y. Goes (and_file v path i y bytes) now r next) is.1 (goes-known (bytes_of f) bytes (and_file v path i x) now r next is.2 goes))
   file-goes path identity executable bytes (Directory d) is goes = absurd is
   file-goes path identity executable bytes (Link i t) is goes = absurd is
-  file-goes path identity executable bytes Other is goes = absurd is
+  file-goes path identity executable bytes (Other w) is goes = absurd is
 
   link-goes : (path : Bytes) (identity : Identity) (text : Bytes) (node : HostNode D R) → IsLink entries_of bytes_of identity text node → GoesBy path node
       → Goes (and_link v path identity text) now r next
@@ -165,13 +163,13 @@ module _ {D R : Type 0} (entries_of : D → Option HostEntries) (bytes_of : R �
       subst (λ j. Goes (and_link v path j text) now r next) is.0 (subst (λ bs. Goes (and_link v path i bs) now r next) is.1 goes)
   link-goes path identity text (Directory d) is goes = absurd is
   link-goes path identity text (File i x f) is goes = absurd is
-  link-goes path identity text Other is goes = absurd is
+  link-goes path identity text (Other w) is goes = absurd is
 
-  other-goes : (path : Bytes) (node : HostNode D R) → IsOther entries_of bytes_of node → GoesBy path node → Goes (and_skipped path Kind) now r next
-  other-goes path Other is goes = goes
-  other-goes path (Directory d) is goes = absurd is
-  other-goes path (File i x f) is goes = absurd is
-  other-goes path (Link i t) is goes = absurd is
+  other-goes : (path : Bytes) (why : SkipReason) (node : HostNode D R) → IsOther entries_of bytes_of why node → GoesBy path node → Goes (and_skipped path why) now r next
+  other-goes path why (Other w) is goes = subst (λ y. Goes (and_skipped path y) now r next) is goes
+  other-goes path why (Directory d) is goes = absurd is
+  other-goes path why (File i x f) is goes = absurd is
+  other-goes path why (Link i t) is goes = absurd is
 
   module _ (path : Bytes) (e : HostEntry D R) (after : Option HostEntries) where
     -- the entries after the first, and the change of the first
@@ -191,8 +189,8 @@ module _ {D R : Type 0} (entries_of : D → Option HostEntries) (bytes_of : R �
         (rest, reported.2, (and_file v (below path name) identity executable bytes, file-goes (below path name) identity executable bytes e.node reported.1 (subst GoesHere reported.0 goes), λ g. refl))
     first-goes (a_link name identity text rest) reported goes =
         (rest, reported.2, (and_link v (below path name) identity text, link-goes (below path name) identity text e.node reported.1 (subst GoesHere reported.0 goes), λ g. refl))
-    first-goes (an_other name rest) reported goes =
-        (rest, reported.2, (and_skipped (below path name) Kind, other-goes (below path name) e.node reported.1 (subst GoesHere reported.0 goes), λ g. refl))
+    first-goes (an_other name why rest) reported goes =
+        (rest, reported.2, (and_skipped (below path name) why, other-goes (below path name) why e.node reported.1 (subst GoesHere reported.0 goes), λ g. refl))
 
 -- ---- the directories that are being read, the current one last
 
@@ -311,7 +309,7 @@ module _ {D : Type 0} (entries_of : D → Option HostEntries) (v : Version) (bef
       no-more (a_directory name inside rest) after reported = absurd reported
       no-more (a_file name identity executable bytes rest) after reported = absurd reported
       no-more (a_link name identity text rest) after reported = absurd reported
-      no-more (an_other name rest) after reported = absurd reported
+      no-more (an_other name why rest) after reported = absurd reported
 
       -- the current directory has no more names
       pub goes_on-end : (all : Option HostEntries) (after : Option HostEntries) → GoesOn entries_of v all ds before now
@@ -333,7 +331,7 @@ module _ {D : Type 0} (entries_of : D → Option HostEntries) (v : Version) (bef
         reports : (entries : HostEntries) → entries_of o.directory ≡ Some entries → Reports entries_of bytes_of entries (Some e) (entries_of after.directory)
         reports entries is = subst (λ x. IfSome x (λ known. Reports entries_of bytes_of known (Some e) (entries_of after.directory))) is reported
 
-        -- if no directory is to be read, the node was added or skipped with everything below it
+        -- if no directory is read next, the node was added or skipped with everything below it
         takes-goes : (node : HostNode D R) (r : Result (Option (OpenDirectory D)) CopyStop) → OpensNone r → Takes bytes_of place node now r next
             → GoesByNode entries_of bytes_of v place node now r next
         takes-goes (Directory d) (Ok None) none takes = directory-reported v now place (entries_of d) same next takes
@@ -341,7 +339,7 @@ module _ {D : Type 0} (entries_of : D → Option HostEntries) (v : Version) (bef
         takes-goes (Directory d) (Err s) none takes = directory-stops v now place (entries_of d) same s takes
         takes-goes (File i x f) r none takes = subst (λ w. GoesIf (bytes_of f) (and_file w place i x) now r next) (sym same) takes.1
         takes-goes (Link i t) r none takes = subst (λ w. Goes (and_link w place i t.items) now r next) (sym same) takes.1
-        takes-goes Other r none takes = takes.1
+        takes-goes (Other w) r none takes = takes.1
 
         goes_on-settled : (host : HostEntries) → GoesOn entries_of v (Some host) ds before now → Takes bytes_of place e.node now (Ok None) next
             → GoesOn entries_of v (Some host) (os ++ after ∷ []) before next
@@ -359,7 +357,7 @@ module _ {D : Type 0} (entries_of : D → Option HostEntries) (v : Version) (bef
                   ),
             )
 
-        -- the node of a directory that is to be read
+        -- the node of a directory that is read next
         record IsOpened (node : HostNode D R) (opened : OpenDirectory D) : Type 0 where
           is : node ≡ Directory opened.directory
           path : opened.path.items ≡ place
@@ -369,7 +367,7 @@ module _ {D : Type 0} (entries_of : D → Option HostEntries) (v : Version) (bef
         opened-node (Directory d) opened takes = record { is = ap Directory (sym takes.0); path = takes.1; added = takes.2 }
         opened-node (File i x f) opened takes = absurd takes.0
         opened-node (Link i t) opened takes = absurd takes.0
-        opened-node Other opened takes = absurd takes.0
+        opened-node (Other w) opened takes = absurd takes.0
 
         record FirstOpened (rest : HostEntries) (d : D) : Type 0 where
           inside : HostEntries
@@ -389,7 +387,7 @@ module _ {D : Type 0} (entries_of : D → Option HostEntries) (v : Version) (bef
         }
         first-opened (a_file name identity executable bytes left) d reported is = absurd (subst (λ n. IsFile entries_of bytes_of identity executable bytes n) is reported.1)
         first-opened (a_link name identity text left) d reported is = absurd (subst (λ n. IsLink entries_of bytes_of identity text n) is reported.1)
-        first-opened (an_other name left) d reported is = absurd (subst (λ n. IsOther entries_of bytes_of n) is reported.1)
+        first-opened (an_other name why left) d reported is = absurd (subst (λ n. IsOther entries_of bytes_of why n) is reported.1)
 
         goes_on-opened : (host : HostEntries) (opened : OpenDirectory D) → GoesOn entries_of v (Some host) ds before now → Takes bytes_of place e.node now (Ok (Some opened)) next
             → GoesOn entries_of v (Some host) ((os ++ after ∷ []) ++ opened ∷ []) before next
@@ -466,7 +464,7 @@ module _ {D : Type 0} (left : D → ℕ) (os : List (OpenDirectory D)) (o : Open
         omega (arith, is, last, before, same, less)
     steps-opened opened (File i x f) less takes = absurd takes.0
     steps-opened opened (Link i t) less takes = absurd takes.0
-    steps-opened opened Other less takes = absurd takes.0
+    steps-opened opened (Other w) less takes = absurd takes.0
 
     pub steps-next : (e : HostEntry D R) (opened : Option (OpenDirectory D)) → IsFewer left (left o.directory) (Some e) (left after.directory)
         → Takes bytes_of path e.node now (Ok opened) next → steps_left left (and_opened os after opened) < steps_left left ds

@@ -1,10 +1,7 @@
 -- The entries of a host directory, and the creation of one.
 use Rattle.std.specs.Prelude.{◌≡◌, ◌≢◌, ◌⊎◌, not, Bool, bytes_eq, List, [], ◌∷◌, ◌++◌, Option, Result, Ok, Err, IsTrue, IfSome}
 use Rattle.std.specs.List.{list_all}
-use Rattle.pv_model.specs.Bytes.{Bytes}
-use Rattle.pv_model.specs.Grammar.Manifests.{path_of}
-use Rattle.pv_model.specs.Manifest.{Entry, make}
-use Rattle.pv_model.specs.Tree.{file_node}
+use Rattle.pv_model.specs.Machine.{Bytes, path_of, Entry, make, file_node}
 use Rattle.pv_host_copy.specs.declared.target.TargetFault.{TargetFault}
 use Rattle.pv_host_copy.specs.Encoded.{and_made}
 
@@ -22,11 +19,11 @@ IsHalfOf (make path (file_node executable bytes)) half =
     (written missing : Bytes) × (bytes ≡ written ++ missing) × (missing ≢ []) × (half ≡ make path (file_node executable written))
 IsHalfOf entry half = ⊥
 
--- a directory did not change; or it had nothing at the path of a file, and has a half of the file too
+-- a directory did not change; or it had nothing at the path of a file, and contains a partial file
 abbrev pub LeavesHalf : Entry → (before after : Option (List Entry)) → Type 0
 LeavesHalf entry before after = (after ≡ before) ⊎ ((half : Entry) × IsHalfOf entry half × HasCreated half before after)
 
--- an entry was created, or at most a half of it
+-- an entry was created, or at most a part of it
 abbrev pub Creates : Entry → (before : Option (List Entry)) → Result (Unit {0}) TargetFault → (after : Option (List Entry)) → Type 0
 Creates entry before (Ok done) after = HasCreated entry before after
 Creates entry before (Err fault) after = LeavesHalf entry before after

@@ -1,9 +1,7 @@
 -- The manifest of an image's tree: an entry for each name, in the order of the listing. A file or symbolic link is
 -- created at its first name, and its other names are added to it.
 use Rattle.std.specs.Prelude.{ℕ, zero, suc, List, [], ◌∷◌, ◌++◌, length, fold, if◌then◌else◌, ◌==◌, Option, None, Some, option_map}
-use Rattle.pv_model.specs.Bytes.{Bytes}
-use Rattle.pv_model.specs.Manifest.{Entry, make, further_name}
-use Rattle.pv_model.specs.Tree.{Node, directory_node, file_node, link_node, Tree, root, node_at, entries_at}
+use Rattle.pv_model.specs.Machine.{Bytes, Entry, make, further_name, Node, directory_node, file_node, link_node, Tree, root, node_at, entries_at}
 use Rattle.pv_host_copy.specs.Paths.{below}
 
 -- with one more created entry

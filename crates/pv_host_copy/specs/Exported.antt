@@ -1,9 +1,6 @@
 -- The steps of an export, and its errors.
 use Rattle.std.specs.Prelude.{◌≡◌, ℕ, List, ◌∷◌, ◌++◌, map, Option, None, Some, Result, Ok, Err}
-use Rattle.pv_model.specs.Bytes.{Bytes}
-use Rattle.pv_model.specs.Grammar.Manifests.{path_of}
-use Rattle.pv_model.specs.Manifest.{Entry, make}
-use Rattle.pv_model.specs.Tree.{Node}
+use Rattle.pv_model.specs.Machine.{Bytes, path_of, Entry, make, Node}
 use Rattle.pv_host_copy.specs.declared.exporting.ExportStop.{ExportStop}
 use Rattle.pv_host_copy.specs.declared.exporting.ExportStop.TheVariants as stop
 use Rattle.pv_host_copy.specs.declared.exporting.FirstPath.{FirstPath}

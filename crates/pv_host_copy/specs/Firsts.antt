@@ -1,7 +1,7 @@
 -- The first paths of files and symbolic links.
 use Rattle.std.specs.Prelude.{Bool}
 use Rattle.pv_model.specs.declared.version.Version.{Version}
-use Rattle.pv_model.specs.Bytes.{Bytes}
+use Rattle.pv_model.specs.Machine.{Bytes}
 use Rattle.pv_host_copy.specs.declared.entry.Identity.{Identity}
 use Rattle.pv_host_copy.specs.declared.first.First.{First}
 use Rattle.pv_host_copy.specs.declared.skipped.Skipped.{Skipped}

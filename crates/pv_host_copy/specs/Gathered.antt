@@ -2,13 +2,10 @@
 -- that an image cannot contain are skipped and reported.
 use Rattle.std.specs.Prelude.{ℕ, ◌+◌, Bool, List, [], ◌∷◌, ◌++◌, length, if◌then◌else◌, nat_le, Option, None, Some}
 use Rattle.pv_model.specs.declared.version.Version.{Version}
-use Rattle.pv_model.specs.Bytes.{Bytes}
-use Rattle.pv_model.specs.Manifest.{Entry, make, further_name}
-use Rattle.pv_model.specs.Room.{greatest_length}
-use Rattle.pv_model.specs.Tree.{Node, directory_node, file_node, link_node, is_link_text}
+use Rattle.pv_model.specs.Machine.{Bytes, Entry, make, further_name, greatest_length, Node, directory_node, file_node, link_node, is_link_text}
 use Rattle.pv_host_copy.specs.declared.entry.Identity.{Identity}
 use Rattle.pv_host_copy.specs.declared.fault.SkipReason.{SkipReason}
-use Rattle.pv_host_copy.specs.declared.fault.SkipReason.TheVariants.{Name, Size, Text, Kind}
+use Rattle.pv_host_copy.specs.declared.fault.SkipReason.TheVariants.{Name, Size, Text}
 use Rattle.pv_host_copy.specs.Hosts.{HostEntries, no_more, a_directory, a_file, a_link, an_other, is_same}
 use Rattle.pv_image_manifest.specs.Paths.{is_path}
 use Rattle.pv_host_copy.specs.Paths.{below}
@@ -68,7 +65,7 @@ module _ (v : Version) where
   gather path (a_directory name inside rest) g = gather path rest (and_directory (below path name) (gather (below path name) inside) g)
   gather path (a_file name identity executable bytes rest) g = gather path rest (and_file (below path name) identity executable bytes g)
   gather path (a_link name identity text rest) g = gather path rest (and_link (below path name) identity text g)
-  gather path (an_other name rest) g = gather path rest (and_skipped (below path name) Kind g)
+  gather path (an_other name why rest) g = gather path rest (and_skipped (below path name) why g)
 
   -- the entries of a host directory
   abbrev pub entries_of : HostEntries → List (ℕ × Entry)

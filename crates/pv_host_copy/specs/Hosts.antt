@@ -1,16 +1,17 @@
 -- Host directories: names in byte order, with the object that each refers to.
 use Rattle.std.specs.Prelude.{Bool, true, ◌&&◌, ◌==◌, Option, None, Some}
-use Rattle.pv_model.specs.Bytes.{Bytes}
-use Rattle.pv_model.specs.Calls.Descriptors.{is_past}
+use Rattle.pv_model.specs.Machine.{Bytes, is_past}
 use Rattle.pv_host_copy.specs.declared.entry.Identity.{Identity}
+use Rattle.pv_host_copy.specs.declared.fault.SkipReason.{SkipReason}
 
--- the entries of a directory: a directory with its own entries, a file, a symbolic link, or something else
+-- the entries of a directory: a directory with its own entries, a file, a symbolic link, or something that is not
+-- copied, with the reason
 pub data HostEntries : Type 0 where
   no_more : HostEntries
   a_directory : (name : Bytes) (inside rest : HostEntries) → HostEntries
   a_file : (name : Bytes) (identity : Identity) (executable : Bool) (bytes : Bytes) (rest : HostEntries) → HostEntries
   a_link : (name : Bytes) (identity : Identity) (text : Bytes) (rest : HostEntries) → HostEntries
-  an_other : (name : Bytes) (rest : HostEntries) → HostEntries
+  an_other : (name : Bytes) (why : SkipReason) (rest : HostEntries) → HostEntries
 
 -- whether two names refer to one file or symbolic link
 abbrev pub is_same : Identity → Identity → Bool
@@ -23,4 +24,4 @@ is_ordered last no_more = true
 is_ordered last (a_directory name inside rest) = is_past last name && is_ordered None inside && is_ordered (Some name) rest
 is_ordered last (a_file name identity executable bytes rest) = is_past last name && is_ordered (Some name) rest
 is_ordered last (a_link name identity text rest) = is_past last name && is_ordered (Some name) rest
-is_ordered last (an_other name rest) = is_past last name && is_ordered (Some name) rest
+is_ordered last (an_other name why rest) = is_past last name && is_ordered (Some name) rest

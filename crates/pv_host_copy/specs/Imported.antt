@@ -2,9 +2,7 @@
 use Rattle.std.specs.Prelude.{◌≡◌, ◌+◌, ◌-◌, Ok}
 use Rattle.pv_model.specs.declared.limits.TheConstants.{INODES}
 use Rattle.pv_model.specs.declared.version.Version.{Version}
-use Rattle.pv_model.specs.Grammar.Manifests.{add_entries}
-use Rattle.pv_model.specs.Image.{inode_blocks, greatest_blocks}
-use Rattle.pv_model.specs.Tree.{Tree}
+use Rattle.pv_model.specs.Machine.{add_entries, inode_blocks, greatest_blocks, Tree}
 use Rattle.pv_tree.specs.Changes.{root_alone}
 use Rattle.pv_host_copy.specs.Gathered.{entries_of}
 use Rattle.pv_host_copy.specs.Hosts.{HostEntries}

@@ -1,9 +1,6 @@
 -- The state of an import, and its steps.
 use Rattle.std.specs.Prelude.{◌≡◌, ⊤, if◌then◌else◌, Bool, true, false, [], map, Option, None, Result, Ok, Err, IfSome}
-use Rattle.pv_model.specs.Bytes.{Bytes}
-use Rattle.pv_model.specs.Grammar.Manifests.{add_entries}
-use Rattle.pv_model.specs.Manifest.{make}
-use Rattle.pv_model.specs.Tree.{Node, Tree, directory_node}
+use Rattle.pv_model.specs.Machine.{Bytes, add_entries, make, Node, Tree, directory_node}
 use Rattle.pv_host_copy.specs.declared.entry.Identity.{Identity}
 use Rattle.pv_host_copy.specs.declared.fault.CopyStop.{CopyStop}
 use Rattle.pv_host_copy.specs.declared.fault.CopyStop.TheVariants as stop

@@ -1,8 +1,6 @@
 -- The lines that report skipped entries, entries that could not be added, and nodes that were not created.
 use Rattle.std.specs.Prelude.{◌++◌, codes}
-use Rattle.pv_model.specs.Bytes.{Bytes}
-use Rattle.pv_model.specs.Listing.{listed_path}
-use Rattle.pv_model.specs.Trace.{quote}
+use Rattle.pv_model.specs.Machine.{Bytes, listed_path, quote}
 use Rattle.pv_image_manifest.specs.declared.fault.EntryFault.{EntryFault}
 use Rattle.pv_image_manifest.specs.declared.fault.EntryFault.TheVariants.{Parent, Exists, Source, Room}
 use Rattle.pv_host_copy.specs.declared.fault.SkipReason.{SkipReason}

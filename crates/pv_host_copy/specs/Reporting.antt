@@ -1,11 +1,11 @@
 -- The next entry of a host directory.
 use Rattle.std.specs.Prelude.{◌≡◌, ⊤, ℕ, ◌+◌, ◌<◌, Bool, Option, None, Some, IsTrue}
-use Rattle.pv_model.specs.Bytes.{Bytes}
-use Rattle.pv_model.specs.Calls.Descriptors.{is_past}
+use Rattle.pv_model.specs.Machine.{Bytes, is_past}
 use Rattle.pv_host_copy.specs.declared.entry.Identity.{Identity}
 use Rattle.pv_host_copy.specs.declared.entry.HostEntry.{HostEntry}
 use Rattle.pv_host_copy.specs.declared.entry.HostNode.{HostNode}
 use Rattle.pv_host_copy.specs.declared.entry.HostNode.TheVariants.{Directory, File, Link, Other}
+use Rattle.pv_host_copy.specs.declared.fault.SkipReason.{SkipReason}
 use Rattle.pv_host_copy.specs.Hosts.{HostEntries, no_more, a_directory, a_file, a_link, an_other}
 
 -- a directory is its remaining entries, and a reader is its remaining bytes
@@ -25,10 +25,10 @@ module _ {D R : Type 0} (entries_of : D → Option HostEntries) (bytes_of : R �
   IsLink identity text (Link i t) = (i ≡ identity) × (t.items ≡ text)
   IsLink identity text _ = ⊥
 
-  -- the node is something else
-  abbrev pub IsOther : HostNode D R → Type 0
-  IsOther Other = Unit {0}
-  IsOther _ = ⊥
+  -- the node is something that is not copied, for this reason
+  abbrev pub IsOther : SkipReason → HostNode D R → Type 0
+  IsOther why (Other reason) = reason ≡ why
+  IsOther why _ = ⊥
 
   -- the reported entry is the first, and the others remain
   abbrev pub Reports : HostEntries → Option (HostEntry D R) → Option HostEntries → Type 0
@@ -36,7 +36,7 @@ module _ {D R : Type 0} (entries_of : D → Option HostEntries) (bytes_of : R �
   Reports (a_directory name inside rest) (Some e) after = (e.name.items ≡ name) × IsDirectory inside e.node × (after ≡ Some rest)
   Reports (a_file name identity executable bytes rest) (Some e) after = (e.name.items ≡ name) × IsFile identity executable bytes e.node × (after ≡ Some rest)
   Reports (a_link name identity text rest) (Some e) after = (e.name.items ≡ name) × IsLink identity text e.node × (after ≡ Some rest)
-  Reports (an_other name rest) (Some e) after = (e.name.items ≡ name) × IsOther e.node × (after ≡ Some rest)
+  Reports (an_other name why rest) (Some e) after = (e.name.items ≡ name) × IsOther why e.node × (after ≡ Some rest)
   Reports _ _ after = ⊥
 
 -- the number of entries in a reported directory is at most this

@@ -1,10 +1,7 @@
 -- The host directory that an export makes of a tree, and its import.
 use Rattle.std.specs.Prelude.{◌≡◌, ℕ, zero, suc, ◌+◌, ◌≤◌, ◌==◌, Bool, List, [], ◌∷◌, length, Option, None, Some, IsTrue}
 use Rattle.pv_model.specs.declared.version.Version.{Version}
-use Rattle.pv_model.specs.Bytes.{Bytes}
-use Rattle.pv_model.specs.Manifest.{Entry}
-use Rattle.pv_model.specs.Room.{greatest_length}
-use Rattle.pv_model.specs.Tree.{Entries, Node, directory_node, file_node, link_node, Tree, root, node_at, entries_at, is_node}
+use Rattle.pv_model.specs.Machine.{Bytes, Entry, greatest_length, Entries, Node, directory_node, file_node, link_node, Tree, root, node_at, entries_at, is_node}
 use Rattle.pv_host_copy.specs.declared.entry.Identity.{Identity}
 use Rattle.pv_host_copy.specs.Encoded.{encoded_entries}
 use Rattle.pv_host_copy.specs.Gathered.{entries_of, left_out}

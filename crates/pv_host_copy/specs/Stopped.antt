@@ -1,10 +1,7 @@
 -- The errors of a copy.
 use Rattle.std.specs.Prelude.{◌≡◌, ⊤, ℕ, List, ◌∷◌, ◌++◌, Option, None, IfSome, Ok, Err}
 use Rattle.pv_model.specs.declared.version.Version.{Version}
-use Rattle.pv_model.specs.Bytes.{Bytes}
-use Rattle.pv_model.specs.Grammar.Manifests.{add_entry, add_entries, path_of}
-use Rattle.pv_model.specs.Manifest.{Entry}
-use Rattle.pv_model.specs.Tree.{Tree}
+use Rattle.pv_model.specs.Machine.{Bytes, add_entry, add_entries, path_of, Entry, Tree}
 use Rattle.pv_host_copy.specs.declared.fault.CopyStop.{CopyStop}
 use Rattle.pv_host_copy.specs.declared.fault.CopyStop.TheVariants as stop
 use Rattle.pv_image_manifest.specs.declared.fault.EntryFault.{EntryFault}

@@ -2,9 +2,7 @@
 use Rattle.std.specs.Prelude.{◌≡◌, ⊤, List, Option, Result, Ok, Err}
 use Rattle.pv_model.specs.declared.fault.ImageFault.{ImageFault}
 use Rattle.pv_model.specs.declared.fault.ImageFault.TheVariants.{Memory as ImageMemory}
-use Rattle.pv_model.specs.Bytes.{Bytes}
-use Rattle.pv_model.specs.Manifest.{Entry}
-use Rattle.pv_model.specs.Tree.{Tree}
+use Rattle.pv_model.specs.Machine.{Bytes, Entry, Tree}
 use Rattle.pv_streams.specs.Sinks.{and_all, WritesPrefix}
 use Rattle.pv_host_copy.specs.declared.unpacking.ExportFault.{ExportFault}
 use Rattle.pv_host_copy.specs.declared.unpacking.ExportFault.TheVariants.{Read, Image, Memory, Make, WriteLine}

@@ -1,22 +1,21 @@
 -- The import of one name.
 use Rattle.std.specs.Prelude.{◌≡◌, ⊤, true, false, List, [], ◌∷◌, ◌++◌, Option, None, Some, Result, Ok, Err}
-use Rattle.pv_model.specs.Bytes.{Bytes}
+use Rattle.pv_model.specs.Machine.{Bytes}
 use Rattle.pv_host_copy.specs.declared.entry.HostNode.{HostNode}
 use Rattle.pv_host_copy.specs.declared.entry.HostNode.TheVariants.{Directory, File, Link, Other}
 use Rattle.pv_host_copy.specs.declared.fault.CopyStop.{CopyStop}
-use Rattle.pv_host_copy.specs.declared.fault.SkipReason.TheVariants.{Kind}
 use Rattle.pv_host_copy.specs.declared.importing.Importing.{Importing}
 use Rattle.pv_host_copy.specs.declared.walking.OpenDirectory.{OpenDirectory}
 use Rattle.pv_host_copy.specs.Gathered.{and_file, and_link, and_skipped}
 use Rattle.pv_host_copy.specs.Importing.{Goes, GoesIf, Keeps}
 
--- a directory is added without its entries and is to be read; or it is skipped, or stops the import
+-- a directory is added without its entries and is read next; or it is skipped, or stops the import
 abbrev pub TakesDirectory : {D : Type 0} → Bytes → D → Importing → Result (Option (OpenDirectory D)) CopyStop → Importing → Type 0
 TakesDirectory path d before (Ok (Some opened)) after = (opened.directory ≡ d) × (opened.path.items ≡ path) × Keeps path before (Ok true) after
 TakesDirectory path d before (Ok None) after = Keeps path before (Ok false) after
 TakesDirectory path d before (Err s) after = Keeps path before (Err s) after
 
--- no directory is to be read
+-- no directory is read next
 abbrev pub OpensNone : {D : Type 0} → Result (Option (OpenDirectory D)) CopyStop → Type 0
 OpensNone (Ok (Some opened)) = ⊥
 OpensNone (Ok None) = ⊤
@@ -28,7 +27,7 @@ abbrev pub Takes : {D R : Type 0} → (R → Option Bytes) → Bytes → HostNod
 Takes bytes_of path (Directory d) before result after = TakesDirectory path d before result after
 Takes bytes_of path (File identity executable r) before result after = OpensNone result × GoesIf (bytes_of r) (and_file before.version path identity executable) before result after
 Takes bytes_of path (Link identity text) before result after = OpensNone result × Goes (and_link before.version path identity text.items) before result after
-Takes bytes_of path Other before result after = OpensNone result × Goes (and_skipped path Kind) before result after
+Takes bytes_of path (Other why) before result after = OpensNone result × Goes (and_skipped path why) before result after
 
 -- the directories that are being read, with one more, and the one that was opened below it
 abbrev pub and_opened : {D : Type 0} → List (OpenDirectory D) → OpenDirectory D → Option (OpenDirectory D) → List (OpenDirectory D)

@@ -1,7 +1,7 @@
 -- The output of an import.
 use Rattle.std.specs.Prelude.{◌≡◌, ◌≢◌, ◌⊎◌, Bool, false, List, [], flat_map, Option, None, IfSome, Result, Ok, Err}
 use Rattle.pv_model.specs.declared.version.Version.{Version}
-use Rattle.pv_model.specs.Bytes.{Bytes}
+use Rattle.pv_model.specs.Machine.{Bytes}
 use Rattle.pv_streams.specs.Sinks.{and_all, WritesPrefix}
 use Rattle.pv_image_write.specs.Written.{WritesImageOf, BeginsImageOf}
 use Rattle.pv_host_copy.specs.declared.fault.CopyStop.{CopyStop}

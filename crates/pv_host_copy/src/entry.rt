@@ -1,4 +1,5 @@
 //! Entries of host directories.
+use crate::fault::SkipReason;
 
 /// The identity of a file or symbolic link of a host: two names with the same identity are hard links to one file.
 #[derive(Clone, Copy, Debug, PartialEq, Eq)]
@@ -25,8 +26,8 @@ pub enum HostNode<D: Drop, R: Drop> {
         identity: Identity,
         text: Vec<u8>,
     },
-    /// Something else, such as a device or a socket.
-    Other,
+    /// Something that is not copied, such as a device or a socket, and the reason.
+    Other(SkipReason),
 }
 
 /// An entry of a host directory.

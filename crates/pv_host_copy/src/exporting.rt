@@ -2,7 +2,7 @@
 ghost use Rattle.std.specs.Prelude.{◌≡◌, false, map, IsSome, IfOk, OnOk};
 ghost use Rattle.std.specs.Option.{option_copied};
 ghost use Rattle.pv_dirs.specs.Trees.{bytes_at};
-ghost use Rattle.pv_model.specs.Tree.{is_directory_at, node_at, IsWellFormed};
+ghost use Rattle.pv_model.specs.Machine.{is_directory_at, node_at, IsWellFormed};
 ghost use Rattle.pv_host_copy.specs.Exported.{path_pair, CreatesNode, Exports, Makes, MakesNew};
 ghost use Rattle.pv_host_copy.specs.Encoded.{first_path, encoded_entries, encodes_node, encodes_within};
 
@@ -14,7 +14,7 @@ use pv_tree::Tree;
 use std::alloc::{AllocError, Global};
 
 /// Why the tree of an image was not exported, or not completely.
-#[derive(Debug, Drop)]
+#[derive(Drop)]
 pub enum ExportStop {
     /// The node at this path of the tree was not created, or not completely. The path has a slash before each name.
     Make(Vec<u8>),

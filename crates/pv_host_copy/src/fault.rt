@@ -17,13 +17,13 @@ pub enum HostFault {
 }
 
 /// Why a path of a host is skipped.
-#[derive(Clone, Copy, Debug, PartialEq, Eq)]
+#[derive(Clone, Copy)]
 pub enum SkipReason {
-    /// A name is too long or invalid.
+    /// A name is too long or invalid, or the host cannot open it.
     Name,
     /// A file is too long.
     Size,
-    /// The target of a symbolic link is too long or invalid.
+    /// The target of a symbolic link is too long or invalid, or the host cannot read it.
     Text,
     /// It is not a directory, file or symbolic link.
     Kind,

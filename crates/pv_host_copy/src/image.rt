@@ -1,6 +1,6 @@
 //! Writing the image of a host directory.
 ghost use Rattle.std.specs.Prelude.{◌≡◌, map, Err, OnOk};
-ghost use Rattle.pv_model.specs.Stream.{Rose};
+ghost use Rattle.pv_model.specs.Machine.{Rose};
 ghost use Rattle.pv_image_write.specs.Written.{WritesTree};
 ghost use Rattle.pv_host_copy.specs.Firsts.{skipped_pair};
 ghost use Rattle.pv_host_copy.specs.Written.{Imports, ReportsPairs, ReportsStop};
@@ -18,7 +18,7 @@ use pv_tree::Store;
 use std::alloc::Global;
 
 /// Why no image of a host directory was written, or not completely.
-#[derive(Clone, Copy, Debug, PartialEq, Eq)]
+#[derive(Clone, Copy, Debug)]
 pub enum ImportStop {
     /// A part of the directory cannot be read.
     Read,

@@ -48,7 +48,7 @@ fn empty(alloc: Global, version: Version) -> Result<Importing, AllocError>
 ///
 /// Entries that an image of the version cannot contain are skipped and reported: a name that is too long, with all
 /// entries below it if it is a directory; a file that is too long; a symbolic link whose target is too long; and
-/// anything that is not a directory, file or symbolic link.
+/// anything that is not a directory, file or symbolic link. So is an entry whose name or target the host cannot read.
 ///
 /// # Errors
 ///

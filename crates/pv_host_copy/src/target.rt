@@ -2,8 +2,7 @@
 ghost use Rattle.std.specs.Prelude.{◌≡◌, [], List, Option};
 ghost use Rattle.pv_host_copy.specs.Created.{Creates};
 ghost use Rattle.pv_host_copy.specs.declared.target.TargetFault.TheVariants.{Memory as NoMemory};
-ghost use Rattle.pv_model.specs.Manifest.{Entry, make, further_name};
-ghost use Rattle.pv_model.specs.Tree.{directory_node, file_node, link_node};
+ghost use Rattle.pv_model.specs.Machine.{Entry, make, further_name, directory_node, file_node, link_node};
 
 use std::alloc::{AllocError, AllocFailed, Global};
 

@@ -1,7 +1,6 @@
 //! Exporting the image of a source to a host directory.
 ghost use Rattle.std.specs.Prelude.{◌≡◌, IfOk, IfErr, IfSome, Err, Ok};
-ghost use Rattle.pv_model.specs.Mount.{mounted};
-ghost use Rattle.pv_model.specs.Stream.{Rose};
+ghost use Rattle.pv_model.specs.Machine.{mounted, Rose};
 ghost use Rattle.pv_streams.specs.Sources.{FailsToGive};
 ghost use Rattle.pv_host_copy.specs.Encoded.{encoded_entries};
 ghost use Rattle.pv_host_copy.specs.Unpacked.{IsReadFault, AppearsInImage, WritesExport, ReportsUnmade};
@@ -17,7 +16,7 @@ use std::alloc::Global;
 use std::fmt;
 
 /// Why the tree of an image was not exported, or not completely.
-#[derive(Clone, Copy, Debug, PartialEq, Eq)]
+#[derive(Clone, Copy, Debug)]
 pub enum ExportFault {
     /// The source of the image failed, or has more bytes than the limit.
     Read,

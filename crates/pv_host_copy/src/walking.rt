@@ -7,7 +7,7 @@ ghost use Rattle.pv_host_copy.specs.Walking.{Takes, and_opened};
 
 use crate::directory::HostDirectory;
 use crate::entry::{HostEntry, HostNode};
-use crate::fault::{CopyStop, SkipReason};
+use crate::fault::CopyStop;
 use crate::importing::Importing;
 use std::alloc::{AllocError, Global};
 
@@ -59,8 +59,8 @@ fn take<D: HostDirectory>(
             importing.keep_link(alloc, &path, identity, text)?;
             Ok(None)
         }
-        HostNode::Other => {
-            importing.report(alloc, &path, SkipReason::Kind)?;
+        HostNode::Other(why) => {
+            importing.report(alloc, &path, why)?;
             Ok(None)
         }
     }

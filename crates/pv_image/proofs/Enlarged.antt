@@ -4,12 +4,10 @@ use Rattle.std.proofs.lemmas.Bool.{and_parts, leb-true}
 use Rattle.std.proofs.lemmas.List.{length-append, length-replicate}
 use Rattle.pv_model.specs.declared.limits.TheConstants.{INODES, BLOCKS_V2}
 use Rattle.pv_model.specs.declared.version.Version.TheVariants.{V2}
-use Rattle.pv_model.specs.Image.{inode_blocks}
-use Rattle.pv_model.specs.Mount.{are_image_sizes}
-use Rattle.pv_model.specs.Tree.{Node, Tree, node_at}
+use Rattle.pv_model.specs.Machine.{inode_blocks, are_image_sizes, Node, Tree, node_at}
 use Rattle.pv_laws_trees.proofs.Numbered.{same_numbered}
 use Rattle.pv_laws_trees.specs.Preserved.{EachIsNamed}
-use Rattle.pv_laws_steps.proofs.Padded.{at-padded}
+use Rattle.pv_laws_steps.proofs.PaddedMaps.{at-padded}
 use Rattle.pv_image_write.specs.Placed.{placed, named_need}
 use Rattle.pv_image.specs.Migrated.{data_blocks, needed, has_room, enlarged, KeepsNodes}
 use Rattle.pv_image.proofs.Named.{named_tree-all}

@@ -10,13 +10,9 @@ use Rattle.pv_model.specs.declared.store_fault.MigrateFault.{MigrateFault}
 use Rattle.pv_model.specs.declared.store_fault.MigrateFault.TheVariants.{Image, Small, Memory}
 use Rattle.pv_model.specs.declared.version.Version.{Version}
 use Rattle.pv_model.specs.declared.version.Version.TheVariants.{V1, V2}
-use Rattle.pv_model.specs.Bytes.{Bytes}
-use Rattle.pv_model.specs.Image.{magic, IsWrittenImageOf}
-use Rattle.pv_model.specs.Mount.{mounted}
+use Rattle.pv_model.specs.Machine.{Bytes, magic, IsWrittenImageOf, mounted, and_then, Tree}
 use Rattle.pv_model.specs.RunFault.{of_image_migrated}
-use Rattle.pv_model.specs.Start.{and_then}
-use Rattle.pv_model.specs.Tree.{Tree}
-use Rattle.pv_laws_trees.proofs.Back.{image-mounted}
+use Rattle.pv_laws_trees.proofs.MountedImages.{image-mounted}
 use Rattle.pv_laws_trees.proofs.Images.{mounted-image}
 use Rattle.pv_laws_trees.specs.Preserved.{EachIsNamed}
 use Rattle.pv_image_write.specs.Placed.{placed}

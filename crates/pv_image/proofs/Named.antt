@@ -1,10 +1,9 @@
 -- A tree whose nodes are all named is the tree of its named nodes.
 use Rattle.std.proofs.Common.{◌≡◌, ◌==◌, ◌∷◌, is_some, ap, sym, ⊎_elim}
 use Rattle.std.proofs.lemmas.Bool.{eq-eqb, cases_eq, or_left, or_right}
-use Rattle.pv_model.specs.Held.{named_tree}
-use Rattle.pv_model.specs.Tree.{Tree, root, named_numbers}
+use Rattle.pv_model.specs.Machine.{named_tree, Tree, root, named_numbers}
 use Rattle.pv_laws_trees.specs.Preserved.{EachIsNamed}
-use Rattle.pv_laws_trees.proofs.Keeping.{only_nodes_all}
+use Rattle.pv_laws_trees.proofs.Collection.{only_nodes_all}
 
 pub named_tree-all : (t : Tree) → EachIsNamed t → named_tree t ≡ t
 named_tree-all t each =

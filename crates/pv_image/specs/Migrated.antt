@@ -6,13 +6,7 @@ use Rattle.pv_model.specs.declared.limits.TheConstants.{BLOCK}
 use Rattle.pv_model.specs.declared.store_fault.MigrateFault.{MigrateFault}
 use Rattle.pv_model.specs.declared.store_fault.MigrateFault.TheVariants.{Image, Small}
 use Rattle.pv_model.specs.declared.version.Version.TheVariants.{V1, V2}
-use Rattle.pv_model.specs.Bytes.{Bytes}
-use Rattle.pv_model.specs.Image.{inode_blocks, magic, IsImageOf}
-use Rattle.pv_model.specs.Mount.{are_image_sizes, mounted}
-use Rattle.pv_model.specs.Numbered.{present}
-use Rattle.pv_model.specs.Room.{need, node_length}
-use Rattle.pv_model.specs.Start.{and_then}
-use Rattle.pv_model.specs.Tree.{Tree, node_at}
+use Rattle.pv_model.specs.Machine.{Bytes, inode_blocks, magic, IsImageOf, are_image_sizes, mounted, present, need, node_length, and_then, Tree, node_at}
 use Rattle.pv_image_write.specs.Placed.{lengthened}
 
 -- the tree of an image of version 1, or the first error of the bytes; any other magic number is an error

@@ -1,9 +1,7 @@
 -- The output of a migrated image to a sink.
 use Rattle.std.specs.Prelude.{◌≡◌, ⊤, ℕ, Option, Ok, Err}
 use Rattle.pv_model.specs.declared.store_fault.MigrateFault.TheVariants.{Memory}
-use Rattle.pv_model.specs.Bytes.{Bytes}
-use Rattle.pv_model.specs.Image.{IsWrittenImageOf}
-use Rattle.pv_model.specs.Tree.{Tree}
+use Rattle.pv_model.specs.Machine.{Bytes, IsWrittenImageOf, Tree}
 use Rattle.pv_streams.specs.Sinks.{and_all, WritesPrefix}
 use Rattle.pv_image.specs.declared.migrating.MigratingStop.{MigratingStop}
 use Rattle.pv_image.specs.declared.migrating.MigratingStop.TheVariants.{Refused, Write}

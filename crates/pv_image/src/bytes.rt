@@ -1,15 +1,14 @@
 //! Images as bytes in memory.
 ghost use Rattle.std.specs.Prelude.{◌≡◌, ◌⊎◌, Err, IfErr, IfOk};
-ghost use Rattle.pv_model.specs.Held.{named_tree};
-ghost use Rattle.pv_model.specs.Image.{IsWrittenImageOf};
+ghost use Rattle.pv_model.specs.Machine.{named_tree, IsWrittenImageOf};
 ghost use Rattle.pv_image.specs.Migrated.{migrated, IsMigrateFault};
 ghost use Rattle.pv_image.specs.Written.{HoldsMigrated};
 
 use crate::migrating::{MigratingStop, write_migrated};
+use pv_image_mount::tree::Tree;
 use pv_image_write::write_tree;
 use pv_model::MigrateFault;
 use pv_streams::Gathered;
-use pv_tree::Tree;
 use std::alloc::{AllocError, Global};
 
 /// Returns an image of the tree with its sizes and version. The image contains only the root and the nodes with a name.

@@ -2,14 +2,14 @@
 ghost use Rattle.std.specs.Prelude.{◌≡◌, ◌⊎◌, ◌≤◌, length, take, bytes_eq, Ok, Err, IfOk, IfErr};
 ghost use Rattle.pv_model.specs.declared.format.TheConstants.{MAGIC};
 ghost use Rattle.pv_model.specs.declared.version.Version.TheVariants.{V1};
-ghost use Rattle.pv_model.specs.Image.{magic};
+ghost use Rattle.pv_model.specs.Machine.{magic};
 ghost use Rattle.pv_image.specs.Migrated.{mounted_first};
 
 use pv_image_mount::mount;
+use pv_image_mount::tree::Store;
 use pv_model::format::MAGIC;
 use pv_model::limits::BLOCK;
 use pv_model::{ImageFault, Version};
-use pv_tree::Store;
 use std::alloc::Global;
 
 // Returns whether bytes start with the magic number of version 1.

@@ -20,7 +20,8 @@ mod room;
 pub use bytes::{migrate, to_bytes};
 pub use migrating::{MigratingStop, write_migrated};
 pub use pv_image_manifest::{Bundle, Manifest, build};
-pub use pv_image_mount::mount;
+pub use pv_image_mount as image_mount;
+pub use pv_image_mount::{mount, tree};
 
 /// Migration yields a tree if and only if the bytes are an image of version 1 and there is room for its nodes. The tree
 /// has exactly these nodes, under the same numbers, in an image of version 2 of the requested sizes.

@@ -1,16 +1,16 @@
 //! Migrating an image from version 1 to version 2.
 ghost use Rattle.std.specs.Prelude.{◌≡◌, ◌⊎◌, IsTrue, Ok, Err, IfOk, IfErr, OnOk};
-ghost use Rattle.pv_model.specs.Stream.{Rose};
+ghost use Rattle.pv_model.specs.Machine.{Rose};
 ghost use Rattle.pv_image.specs.Migrated.{has_room, migrated, mounted_first, IsMigrateFault};
 ghost use Rattle.pv_image.specs.Written.{IsMigratingStop, AppearsInOldBytes, WritesMigrated};
 ghost use Rattle.pv_image.specs.declared.migrating.MigratingStop.TheVariants.{Refused as RefusedStop};
 
 use crate::first::mount_first;
 use crate::room::has_room;
+use pv_image_mount::tree::Store;
 use pv_image_write::{WriteFault, write_as};
 use pv_model::{MigrateFault, Version};
 use pv_streams::Sink;
-use pv_tree::Store;
 use std::alloc::Global;
 
 /// Why an image was not migrated, or not completely.

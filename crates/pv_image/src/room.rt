@@ -3,10 +3,10 @@ ghost use Rattle.std.specs.Prelude.{◌≡◌};
 ghost use Rattle.pv_image.specs.Migrated.{has_room};
 ghost use Rattle.pv_laws_trees.specs.Preserved.{EachIsNamed};
 
+use pv_image_mount::tree::Tree;
 use pv_image_mount::{are_image_sizes, inode_blocks};
 use pv_image_write::needed_blocks;
 use pv_model::Version;
-use pv_tree::Tree;
 
 /// Returns whether an image can have these sizes, has at least as many inodes as the tree, and has room for its nodes,
 /// each of which has a name.

@@ -2,11 +2,8 @@
 use Rattle.std.proofs.Common.{◌≡◌, ◌∙◌, ap, ℕ, true, false, None, Some, is_some, Result, Ok, Err, refl}
 use Rattle.pv_model.specs.declared.fault.ManifestFault.{ManifestFault}
 use Rattle.pv_model.specs.declared.fault.ManifestFault.TheVariants.{Parent, Exists}
-use Rattle.pv_model.specs.Bytes.{Bytes}
-use Rattle.pv_model.specs.Grammar.Manifests.{container, path_of, entry_in, entry_at, add_entry}
-use Rattle.pv_model.specs.Manifest.{Entry}
-use Rattle.pv_model.specs.Tree.{Tree, root, find_entry}
-use Rattle.pv_model.specs.Walk.{components}
+use Rattle.pv_model.specs.Machine.{Bytes, path_of, add_entry, Entry, Tree, root, find_entry, components}
+use Rattle.pv_model.specs.Grammar.Manifests.{container, entry_in, entry_at}
 use Rattle.pv_image_manifest.specs.declared.entry.Content.{Content}
 use Rattle.pv_image_manifest.specs.declared.entry.Content.TheVariants.{Directory, File, Link, Name}
 use Rattle.pv_image_manifest.specs.declared.fault.EntryFault.{EntryFault}

@@ -3,9 +3,7 @@ use Rattle.std.proofs.Common.{◌≡◌, ◌∙◌, ap, ℕ, zero, suc, ◌+◌,
 use Rattle.std.specs.Prelude.{flat_map}
 use Rattle.std.proofs.lemmas.List.{append-nil, length-drop, drop_all}
 use Rattle.std.proofs.lemmas.List.Concat.{flat_map-append}
-use Rattle.pv_model.specs.Bytes.{Bytes}
-use Rattle.pv_model.specs.Grammar.Lines.{lines_of}
-use Rattle.pv_model.specs.Grammar.Manifests.{with_line_end}
+use Rattle.pv_model.specs.Machine.{Bytes, lines_of, with_line_end}
 use Rattle.pv_text.specs.Lines.{IsSplit}
 use Rattle.pv_image_manifest.specs.Reading.{IsEnd}
 use Rattle.pv_image_manifest.proofs.Ends.{whole_end, end_of_end, end_after_line}

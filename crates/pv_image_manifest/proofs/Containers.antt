@@ -4,10 +4,8 @@ use Rattle.std.specs.Prelude.{option_and_then, is_none, ◌==◌}
 use Rattle.std.specs.List.{list_all}
 use Rattle.std.proofs.lemmas.Bool.{and_parts}
 use Rattle.pv_model.specs.declared.version.Version.{Version}
-use Rattle.pv_model.specs.Bytes.{Bytes, is_empty, onto_first}
+use Rattle.pv_model.specs.Machine.{Bytes, is_empty, onto_first, Tree, root, is_name, is_directory_at, find_entry, IsWellFormed, split_slashes, components}
 use Rattle.pv_model.specs.Grammar.Manifests.{enter_directory, container}
-use Rattle.pv_model.specs.Tree.{Tree, root, is_name, is_directory_at, find_entry, IsWellFormed}
-use Rattle.pv_model.specs.Walk.{split_slashes, components}
 use Rattle.pv_image_manifest.specs.Paths.{is_path}
 use Rattle.pv_text.specs.Components.{components_after}
 use Rattle.pv_laws_trees.specs.Tree.{Appears}

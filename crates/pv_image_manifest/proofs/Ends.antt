@@ -1,7 +1,7 @@
 -- The end of a text.
 use Rattle.std.proofs.Common.{◌≡◌, ◌∙◌, ap, ℕ, zero, suc, ◌-◌, ◌≤◌, [], ◌∷◌, ◌++◌, length, drop, refl, sym, inl, inr, arith, append_assoc}
 use Rattle.std.proofs.lemmas.List.{append-nil, length-append}
-use Rattle.pv_model.specs.Bytes.{Bytes}
+use Rattle.pv_model.specs.Machine.{Bytes}
 use Rattle.pv_text.specs.Lines.{IsSplit}
 use Rattle.pv_image_manifest.specs.Reading.{IsEnd}
 

@@ -5,9 +5,8 @@ use Rattle.std.proofs.Math.Seq.{drop-cons}
 use Rattle.pv_model.specs.declared.fault.ManifestFault.{ManifestFault}
 use Rattle.pv_model.specs.declared.fault.ManifestFault.TheVariants.{Form, Size, Parent, Exists, Source, Room, Memory}
 use Rattle.pv_model.specs.declared.version.Version.TheVariants.{V1}
-use Rattle.pv_model.specs.Grammar.Manifests.{data_blocks, add_entry, and_entries, add_entries, tree_of, Manifest as ManifestAndLines}
-use Rattle.pv_model.specs.Image.{inode_blocks}
-use Rattle.pv_model.specs.Manifest.{empty_tree}
+use Rattle.pv_model.specs.Machine.{data_blocks, add_entry, add_entries, tree_of, Manifest as ManifestAndLines, inode_blocks, empty_tree}
+use Rattle.pv_model.specs.Grammar.Manifests.{and_entries}
 use Rattle.pv_tree.specs.Changes.{root_alone}
 use Rattle.pv_tree.specs.Holding.{HeldTree, IsUnheld}
 use Rattle.pv_image_manifest.specs.declared.entry.Entry.{Entry}

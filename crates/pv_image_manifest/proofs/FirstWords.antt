@@ -1,9 +1,7 @@
 -- Lines of manifests by their first word.
 use Rattle.std.proofs.Common.{◌≡◌, true, false, List, None, refl, codes}
 use Rattle.std.specs.Prelude.{bytes_eq}
-use Rattle.pv_model.specs.Bytes.{Bytes}
-use Rattle.pv_model.specs.Grammar.Lines.{decimal_of}
-use Rattle.pv_model.specs.Grammar.Arguments.{text_at, word_at, one_argument, two_arguments}
+use Rattle.pv_model.specs.Machine.{Bytes, decimal_of, text_at, word_at, one_argument, two_arguments}
 use Rattle.pv_model.specs.Grammar.Manifests.{entry_by, directory_line, file_line, program_line, link_line, name_line}
 use Rattle.pv_laws_trees.proofs.Entries.{bytes_eq-same}
 

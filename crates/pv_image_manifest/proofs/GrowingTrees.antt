@@ -3,9 +3,8 @@ use Rattle.std.proofs.Common.{◌≡◌, ◌∙◌, ap, ℕ, List, [], ◌∷◌
 use Rattle.std.specs.Prelude.{map}
 use Rattle.std.proofs.lemmas.List.{map_push}
 use Rattle.pv_model.specs.declared.fault.ManifestFault.{ManifestFault}
-use Rattle.pv_model.specs.Grammar.Manifests.{data_blocks, add_entry, and_entries, add_entries}
-use Rattle.pv_model.specs.Manifest.{empty_tree, Entry as ManifestEntry}
-use Rattle.pv_model.specs.Tree.{Tree}
+use Rattle.pv_model.specs.Machine.{data_blocks, add_entry, add_entries, empty_tree, Entry as ManifestEntry, Tree}
+use Rattle.pv_model.specs.Grammar.Manifests.{and_entries}
 use Rattle.pv_tree.specs.Holding.{HeldTree, IsUnheld}
 use Rattle.pv_image_manifest.specs.declared.entry.Entry.{Entry}
 use Rattle.pv_image_manifest.specs.declared.manifest.Manifest.{Manifest}

@@ -4,10 +4,8 @@ use Rattle.std.specs.Prelude.{◌&&◌, map}
 use Rattle.std.proofs.lemmas.List.{append-nil, map_push, length-drop}
 use Rattle.pv_model.specs.declared.fault.ManifestFault.{ManifestFault}
 use Rattle.pv_model.specs.declared.fault.ManifestFault.TheVariants.{Form}
-use Rattle.pv_model.specs.Bytes.{Bytes, onto_first}
-use Rattle.pv_model.specs.Grammar.Lines.{lines_of}
-use Rattle.pv_model.specs.Grammar.Manifests.{Listed, onto_listed, or_form, is_schedule_line, at_end, entry_of, entries_from}
-use Rattle.pv_model.specs.Manifest.{Entry as ManifestEntry}
+use Rattle.pv_model.specs.Machine.{Bytes, onto_first, lines_of, Listed, entry_of, Entry as ManifestEntry}
+use Rattle.pv_model.specs.Grammar.Manifests.{onto_listed, or_form, is_schedule_line, at_end, entries_from}
 use Rattle.pv_text.specs.Lines.{IsSplit}
 use Rattle.pv_image_manifest.specs.declared.entry.Entry.{Entry}
 use Rattle.pv_image_manifest.specs.declared.read_entry.ReadEntry.{ReadEntry}

@@ -2,17 +2,12 @@
 use Rattle.std.proofs.Common.{◌≡◌, ◌≢◌, ◌∙◌, ap, ℕ, zero, suc, ◌<◌, ◌≤◌, Bool, true, false, not, cond, ◌||◌, [], ◌∷◌, length, drop, Option, None, Some, Ok, Err, refl, sym, subst, arith, ⊎_elim, le_refl}
 use Rattle.std.specs.FinMap.Entries.{put}
 use Rattle.std.proofs.lemmas.Bool.{cases_eq}
-use Rattle.pv_inodes.specs.declared.space.Space.{Space}
-use Rattle.pv_inodes.specs.declared.space.Space.TheVariants.{Full, TooBig}
+use Rattle.pv_tree.specs.OfInodes.declared.space.Space.{Space}
+use Rattle.pv_tree.specs.OfInodes.declared.space.Space.TheVariants.{Full, TooBig}
 use Rattle.pv_model.specs.declared.fault.ManifestFault.TheVariants.{Room}
 use Rattle.pv_model.specs.declared.version.Version.{Version}
-use Rattle.pv_model.specs.Bytes.{Bytes}
-use Rattle.pv_model.specs.Calls.Descriptors.{with_content_of}
-use Rattle.pv_model.specs.Effect.{bytes_of, overwrite}
+use Rattle.pv_model.specs.Machine.{Bytes, with_content_of, bytes_of, overwrite, Numbered, with_number, is_too_long, fits, Node, directory_node, file_node, Tree, node_at, entries_at, is_directory, is_directory_at, find_entry, with_node, with_new_node, new_number, IsWellFormed}
 use Rattle.pv_model.specs.Grammar.Manifests.{if_room}
-use Rattle.pv_model.specs.Numbered.{Numbered, with_number}
-use Rattle.pv_model.specs.Room.{is_too_long, fits}
-use Rattle.pv_model.specs.Tree.{Node, directory_node, file_node, Tree, node_at, entries_at, is_directory, is_directory_at, find_entry, with_node, with_new_node, new_number, IsWellFormed}
 use Rattle.pv_tree.specs.Changes.{overwritten}
 use Rattle.pv_tree.specs.Rooms.{refusal}
 use Rattle.pv_laws_trees.specs.Room.{IsNoLonger, IsNoLarger}

@@ -4,9 +4,8 @@ use Rattle.std.specs.Prelude.{option_map, ◌&&◌}
 use Rattle.std.proofs.lemmas.Bool.{cases_lt, lt-leb, le-leb}
 use Rattle.pv_model.specs.declared.fault.ManifestFault.{ManifestFault}
 use Rattle.pv_model.specs.declared.fault.ManifestFault.TheVariants.{Form, Size, Parent, Exists, Source, Room, Memory}
-use Rattle.pv_model.specs.Bytes.{Bytes}
-use Rattle.pv_model.specs.Grammar.Lines.{lines_of}
-use Rattle.pv_model.specs.Grammar.Manifests.{Listed, Manifest as ManifestAndLines, entry_of, entries_from, sizes_of, are_sizes, after_sizes, with_entries, if_sizes, manifest_by, read_manifest, read_bundle}
+use Rattle.pv_model.specs.Machine.{Bytes, lines_of, Listed, Manifest as ManifestAndLines, entry_of, sizes_of, read_manifest, read_bundle}
+use Rattle.pv_model.specs.Grammar.Manifests.{entries_from, are_sizes, after_sizes, with_entries, if_sizes, manifest_by}
 use Rattle.pv_image_manifest.specs.Reading.{held_sizes, RefusesManifest}
 use Rattle.pv_text.specs.Reading.{up_to_greatest}
 

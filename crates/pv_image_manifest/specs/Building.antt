@@ -1,8 +1,7 @@
 -- The results of building the tree of a manifest.
 use Rattle.std.specs.Prelude.{◌≡◌, Bool, not, ◌||◌, Result, Ok, Err}
 use Rattle.pv_model.specs.declared.fault.ManifestFault.{ManifestFault}
-use Rattle.pv_model.specs.Room.{is_too_long, fits}
-use Rattle.pv_model.specs.Tree.{Tree}
+use Rattle.pv_model.specs.Machine.{is_too_long, fits, Tree}
 use Rattle.pv_tree.specs.Holding.{HeldTree}
 use Rattle.pv_image_manifest.specs.Reading.{RefusesManifest}
 

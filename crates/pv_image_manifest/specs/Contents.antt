@@ -1,9 +1,6 @@
 -- The entries of a manifest, as in the specification.
 use Rattle.std.specs.Prelude.{ℕ, Bool, true, not, [], ◌==◌}
-use Rattle.pv_model.specs.Bytes.{Bytes}
-use Rattle.pv_model.specs.Grammar.Manifests.{is_manifest_path}
-use Rattle.pv_model.specs.Manifest.{make, further_name, Entry as ManifestEntry}
-use Rattle.pv_model.specs.Tree.{directory_node, file_node, link_node, is_link_text}
+use Rattle.pv_model.specs.Machine.{Bytes, is_manifest_path, make, further_name, Entry as ManifestEntry, directory_node, file_node, link_node, is_link_text}
 use Rattle.pv_image_manifest.specs.declared.entry.Content.{Content}
 use Rattle.pv_image_manifest.specs.declared.entry.Content.TheVariants.{Directory, File, Link, Name}
 

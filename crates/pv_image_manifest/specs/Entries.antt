@@ -1,6 +1,6 @@
 -- The entries of a manifest with their lines.
 use Rattle.std.specs.Prelude.{ℕ}
-use Rattle.pv_model.specs.Manifest.{Entry as ManifestEntry}
+use Rattle.pv_model.specs.Machine.{Entry as ManifestEntry}
 use Rattle.pv_image_manifest.specs.declared.entry.Entry.{Entry}
 use Rattle.pv_image_manifest.specs.Contents.{entry_of_content}
 

@@ -2,8 +2,7 @@
 use Rattle.std.specs.Prelude.{◌≡◌, [], Option, None, Some, Result, Ok, Err}
 use Rattle.pv_model.specs.declared.fault.ManifestFault.{ManifestFault}
 use Rattle.pv_model.specs.declared.version.Version.TheVariants.{V1}
-use Rattle.pv_model.specs.Grammar.Manifests.{tree_of}
-use Rattle.pv_model.specs.Tree.{Tree}
+use Rattle.pv_model.specs.Machine.{tree_of, Tree}
 use Rattle.pv_tree.specs.Holding.{HeldTree, IsUnheld}
 use Rattle.pv_image_manifest.specs.declared.manifest.Manifest.{Manifest}
 use Rattle.pv_image_manifest.specs.Reading.{manifest_before}

@@ -2,9 +2,7 @@
 use Rattle.std.specs.Prelude.{Bool, false, ◌&&◌, ◌==◌, [], ◌∷◌}
 use Rattle.std.specs.List.{list_all}
 use Rattle.pv_model.specs.declared.version.Version.{Version}
-use Rattle.pv_model.specs.Bytes.{Bytes}
-use Rattle.pv_model.specs.Tree.{is_name}
-use Rattle.pv_model.specs.Walk.{split_slashes}
+use Rattle.pv_model.specs.Machine.{Bytes, is_name, split_slashes}
 
 -- a slash followed by one or more names that are separated by single slashes
 abbrev pub is_path : Version → Bytes → Bool

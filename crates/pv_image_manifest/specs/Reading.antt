@@ -4,9 +4,8 @@ use Rattle.std.specs.Borrow.{Bor}
 use Rattle.std.specs.Global.{Vec}
 use Rattle.pv_model.specs.declared.fault.ManifestFault.{ManifestFault}
 use Rattle.pv_model.specs.declared.fault.ManifestFault.TheVariants.{Memory}
-use Rattle.pv_model.specs.Bytes.{Bytes}
-use Rattle.pv_model.specs.Grammar.Lines.{lines_of}
-use Rattle.pv_model.specs.Grammar.Manifests.{Taking, Listed, Manifest as ManifestAndLines}
+use Rattle.pv_model.specs.Machine.{Bytes, lines_of, Listed, Manifest as ManifestAndLines}
+use Rattle.pv_model.specs.Grammar.Manifests.{Taking}
 use Rattle.pv_image_manifest.specs.declared.bundle.Bundle.{Bundle}
 use Rattle.pv_image_manifest.specs.declared.entry.Entry.{Entry}
 use Rattle.pv_image_manifest.specs.declared.manifest.Manifest.{Manifest}

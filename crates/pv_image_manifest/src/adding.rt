@@ -3,10 +3,8 @@ ghost use Rattle.std.specs.Prelude.{◌≡◌, ℕ, [], None, IsTrue, IsSome, If
 ghost use Rattle.pv_image_manifest.specs.Adding.{Gives};
 ghost use Rattle.pv_image_manifest.specs.Contents.{has_paths, entry_of_content};
 ghost use Rattle.pv_image_manifest.specs.Paths.{is_path};
-ghost use Rattle.pv_model.specs.Bytes.{Bytes};
-ghost use Rattle.pv_model.specs.Grammar.Manifests.{enter_directory, container as container_in, source_of as source_in, if_room, with_source, entry_in, add_entry};
-ghost use Rattle.pv_model.specs.Tree.{root, node_at, file_node, find_entry, is_directory_at, is_name, is_node, with_new_node};
-ghost use Rattle.pv_model.specs.Walk.{components};
+ghost use Rattle.pv_model.specs.Machine.{Bytes, add_entry, root, node_at, file_node, find_entry, is_directory_at, is_name, is_node, with_new_node, components};
+ghost use Rattle.pv_model.specs.Grammar.Manifests.{enter_directory, container as container_in, source_of as source_in, if_room, with_source, entry_in};
 ghost use Rattle.pv_tree.specs.Changes.{new_node};
 ghost use Rattle.pv_laws_trees.specs.Tree.{Appears};
 

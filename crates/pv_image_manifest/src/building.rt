@@ -3,7 +3,7 @@ ghost use Rattle.std.specs.Prelude.{◌≡◌, []};
 ghost use Rattle.pv_image_manifest.specs.Building.{Makes, GivesStore};
 ghost use Rattle.pv_image_manifest.specs.Entries.{entry_of_line};
 ghost use Rattle.pv_image_manifest.specs.Reading.{manifest_before};
-ghost use Rattle.pv_model.specs.Grammar.Manifests.{add_entry, tree_of};
+ghost use Rattle.pv_model.specs.Machine.{add_entry, tree_of};
 ghost use Rattle.pv_model.specs.declared.version.Version.TheVariants.{V1};
 
 use crate::adding::add_entry;

@@ -1,6 +1,6 @@
 //! Bundles: a manifest, the line `schedule`, and a schedule.
 ghost use Rattle.std.specs.Prelude.{◌+◌, ◌<◌, ◌≤◌, ◌^◌, length, IfOk};
-ghost use Rattle.pv_model.specs.Grammar.Manifests.{read_bundle};
+ghost use Rattle.pv_model.specs.Machine.{read_bundle};
 ghost use Rattle.pv_image_manifest.specs.Reading.{GivesBundle};
 
 use crate::manifest::Manifest;

@@ -1,6 +1,6 @@
 //! The entries of manifests.
 ghost use Rattle.std.specs.Prelude.{IsTrue};
-ghost use Rattle.pv_model.specs.Grammar.Manifests.{is_manifest_path};
+ghost use Rattle.pv_model.specs.Machine.{is_manifest_path};
 ghost use Rattle.pv_image_manifest.specs.Contents.{is_content};
 
 /// The node or name that an entry of a manifest creates at its path.

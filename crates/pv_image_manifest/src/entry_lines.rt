@@ -1,8 +1,7 @@
 //! Parsing a line of a manifest, with the lines that belong to it.
 ghost use Rattle.std.specs.Prelude.{IfOk};
-ghost use Rattle.pv_model.specs.Grammar.Arguments.{text_at, word_at, one_argument, two_arguments};
-ghost use Rattle.pv_model.specs.Grammar.Lines.{lines_of, decimal_of};
-ghost use Rattle.pv_model.specs.Grammar.Manifests.{directory_line, file_line, program_line, link_line, name_line, entry_by, entry_of};
+ghost use Rattle.pv_model.specs.Machine.{text_at, word_at, one_argument, two_arguments, lines_of, decimal_of, entry_of};
+ghost use Rattle.pv_model.specs.Grammar.Manifests.{directory_line, file_line, program_line, link_line, name_line, entry_by};
 ghost use Rattle.pv_image_manifest.specs.Reading.{Takes};
 
 use crate::entry::Content;

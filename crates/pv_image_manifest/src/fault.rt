@@ -5,7 +5,7 @@ ghost use Rattle.pv_image_manifest.specs.Adding.{fault_at};
 use pv_model::ManifestFault;
 
 /// Why an entry cannot be added to a tree.
-#[derive(Clone, Copy, Debug, PartialEq, Eq)]
+#[derive(Clone, Copy, Debug)]
 pub enum EntryFault {
     /// The parent of its path is not a directory.
     Parent,

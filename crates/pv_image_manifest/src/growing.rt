@@ -1,7 +1,7 @@
 //! A tree that grows entry by entry, also after an error.
 ghost use Rattle.std.specs.Prelude.{◌≡◌, IsTrue, IfOk, IfErr};
-ghost use Rattle.pv_model.specs.Grammar.Manifests.{add_entry, are_sizes, data_blocks};
-ghost use Rattle.pv_model.specs.Manifest.{empty_tree};
+ghost use Rattle.pv_model.specs.Machine.{add_entry, data_blocks, empty_tree};
+ghost use Rattle.pv_model.specs.Grammar.Manifests.{are_sizes};
 ghost use Rattle.pv_image_manifest.specs.Entries.{entry_of_line};
 ghost use Rattle.pv_image_manifest.specs.Growing.{Grows};
 

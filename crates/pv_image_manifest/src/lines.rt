@@ -1,7 +1,7 @@
 //! The first line of a manifest, and lines that are skipped.
 ghost use Rattle.std.specs.Prelude.{◌≡◌, ◌&&◌, ◌<◌, ◌≤◌, length, take, drop, flat_map, option_map, IfOk, IfSome, IfNone};
-ghost use Rattle.pv_model.specs.Grammar.Lines.{lines_of};
-ghost use Rattle.pv_model.specs.Grammar.Manifests.{are_sizes, sizes_of, is_schedule_line, with_line_end};
+ghost use Rattle.pv_model.specs.Machine.{lines_of, sizes_of, with_line_end};
+ghost use Rattle.pv_model.specs.Grammar.Manifests.{are_sizes, is_schedule_line};
 ghost use Rattle.pv_image_manifest.specs.Reading.{held_sizes, IsEnd};
 
 use pv_model::limits::{BLOCKS_V1, INODES};

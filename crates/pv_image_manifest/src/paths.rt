@@ -1,8 +1,7 @@
 //! The paths of entries, and the targets of symbolic links.
 ghost use Rattle.std.specs.Prelude.{◌≡◌};
 ghost use Rattle.std.specs.List.{list_all};
-ghost use Rattle.pv_model.specs.Grammar.Manifests.{is_manifest_path as encodes_manifest_path};
-ghost use Rattle.pv_model.specs.Tree.{is_link_text as may_be_link_text};
+ghost use Rattle.pv_model.specs.Machine.{is_manifest_path as encodes_manifest_path, is_link_text as may_be_link_text};
 ghost use Rattle.pv_image_manifest.specs.Contents.{is_link_byte};
 ghost use Rattle.pv_image_manifest.specs.Paths.{is_path as encodes_path};
 

@@ -1,6 +1,6 @@
 //! The result of parsing a line of a manifest.
 ghost use Rattle.std.specs.Prelude.{IsTrue};
-ghost use Rattle.pv_model.specs.Grammar.Manifests.{is_manifest_path};
+ghost use Rattle.pv_model.specs.Machine.{is_manifest_path};
 ghost use Rattle.pv_image_manifest.specs.Contents.{is_content};
 
 use crate::entry::Content;

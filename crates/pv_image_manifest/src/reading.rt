@@ -1,7 +1,7 @@
 //! Parsing whole manifests, alone or in a bundle.
 ghost use Rattle.std.specs.Prelude.{◌≡◌, ◌+◌, ◌<◌, ◌^◌, [], length, false, IfOk};
-ghost use Rattle.pv_model.specs.Grammar.Lines.{lines_of};
-ghost use Rattle.pv_model.specs.Grammar.Manifests.{entry_of, entries_from, manifest_by, read_manifest};
+ghost use Rattle.pv_model.specs.Machine.{lines_of, entry_of, read_manifest};
+ghost use Rattle.pv_model.specs.Grammar.Manifests.{entries_from, manifest_by};
 ghost use Rattle.pv_image_manifest.specs.Reading.{IsEnd, GivesListed, GivesManifest, GivesManifestAndRest};
 
 use crate::entry::Entry;

@@ -5,10 +5,7 @@ use Rattle.std.proofs.lemmas.Bool.Decides.{nat_tests}
 use Rattle.std.specs.Prelude.{◌&&◌, ◌||◌, ◌==◌, bytes_eq}
 use Rattle.std.specs.List.{list_any}
 use Rattle.pv_model.specs.declared.version.Version.{Version}
-use Rattle.pv_model.specs.Bytes.{Bytes}
-use Rattle.pv_model.specs.Image.{content, size}
-use Rattle.pv_model.specs.Mount.{has_bad_content, is_bad_slot, is_free, kind, slot_name, slots_of, appears_twice}
-use Rattle.pv_model.specs.Room.{entry_length}
+use Rattle.pv_model.specs.Machine.{Bytes, content, size, has_bad_content, is_bad_slot, is_free, kind, slot_name, slots_of, appears_twice, entry_length}
 use Rattle.pv_image_mount.proofs.InodeBlocks.{or_none}
 use Rattle.pv_image_mount.specs.Slots.{are_bad_slots}
 

@@ -7,8 +7,7 @@ use Rattle.std.proofs.lemmas.List.Sums.{count_by-le-length, count_by_more_no, co
 use Rattle.std.specs.Prelude.{◌==◌, ◌^◌, cond, flat_map, nat_lt}
 use Rattle.std.specs.List.{range_with_len}
 use Rattle.pv_model.specs.declared.version.Version.{Version}
-use Rattle.pv_model.specs.Bytes.{Bytes}
-use Rattle.pv_model.specs.Mount.{inode_number, name_count}
+use Rattle.pv_model.specs.Machine.{Bytes, inode_number, name_count}
 use Rattle.pv_image_mount.proofs.InodeBlocks.{range_more}
 use Rattle.pv_image_mount.proofs.SlotTargets.{name_count-times}
 use Rattle.pv_image_mount.specs.Places.{targets_of, times}

@@ -1,8 +1,7 @@
 -- Numbers in bytes, and the position of inodes.
 use Rattle.std.proofs.Common.{◌≡◌, ℕ, zero, suc, ◌+◌, ◌*◌, ◌≤◌, ◌<◌, length, take, drop, get_or, ap, sym, ◌∙◌, refl, arith, drop-cons}
 use Rattle.byteorder.specs.Endian.{little_from}
-use Rattle.pv_model.specs.Bytes.{Bytes}
-use Rattle.pv_model.specs.Image.{number_of}
+use Rattle.pv_model.specs.Machine.{Bytes, number_of}
 
 -- a number that is read is that of the specification
 pub little_from-number_of : (i n : ℕ) (xs : Bytes) → i + n ≤ length xs → little_from i n xs ≡ number_of (take n (drop i xs))

@@ -4,9 +4,8 @@ use Rattle.std.proofs.lemmas.Bool.{and_parts, leb-true}
 use Rattle.std.specs.Prelude.{◌&&◌, ◌==◌, nat_le}
 use Rattle.pv_model.specs.declared.limits.TheConstants.{BLOCK, INODES}
 use Rattle.pv_model.specs.declared.version.Version.{Version}
-use Rattle.pv_model.specs.Bytes.{Bytes}
-use Rattle.pv_model.specs.Image.{greatest_blocks, inode_blocks}
-use Rattle.pv_model.specs.Mount.{are_image_sizes, block_number, inode_number, HasSizes}
+use Rattle.pv_model.specs.Machine.{Bytes, greatest_blocks, inode_blocks, are_image_sizes, block_number, inode_number}
+use Rattle.pv_model.specs.Mount.{HasSizes}
 
 -- the root has an inode
 pub root_within : (v : Version) (bytes : Bytes) → HasSizes bytes v → 1 ≤ inode_number bytes

@@ -9,10 +9,8 @@ use Rattle.std.specs.List.{list_any, range_with_len}
 use Rattle.pv_blocks.specs.declared.block_set.BlockSet.{BlockSet}
 use Rattle.pv_blocks.specs.BlockSet.{is_member}
 use Rattle.pv_model.specs.declared.version.Version.{Version}
-use Rattle.pv_model.specs.Bytes.{Bytes}
-use Rattle.pv_model.specs.Image.{size, used_content, used_index}
-use Rattle.pv_model.specs.Mount.{has_bad_block, has_bad_inode, is_data_block, is_free, kind, appears_twice, used_before, used_by}
-use Rattle.pv_model.specs.Room.{entry_length, greatest_length}
+use Rattle.pv_model.specs.Machine.{Bytes, size, used_content, used_index, has_bad_block, has_bad_inode, is_data_block, is_free, kind, appears_twice, entry_length, greatest_length}
+use Rattle.pv_model.specs.Mount.{used_before, used_by}
 use Rattle.pv_image_mount.specs.Claims.{is_refused, is_taken_by, HasUsedBefore}
 
 -- ---- lists

@@ -6,10 +6,8 @@ use Rattle.std.proofs.lemmas.List.Folds.{list_any-append, list_any_at}
 use Rattle.std.specs.Prelude.{not, ◌||◌, ◌==◌, nat_lt, flat_map}
 use Rattle.std.specs.List.{list_any}
 use Rattle.pv_model.specs.declared.version.Version.{Version}
-use Rattle.pv_model.specs.Bytes.{Bytes}
-use Rattle.pv_model.specs.Image.{block, block_count, content, inode, inode_blocks, size, used_content, used_index}
-use Rattle.pv_model.specs.Mount.{block_number, inode_number, has_bad_block, has_bad_inode, is_data_block, is_free, appears_twice, used_before, used_by}
-use Rattle.pv_model.specs.Room.{rounded_up}
+use Rattle.pv_model.specs.Machine.{Bytes, block, block_count, content, inode, inode_blocks, size, used_content, used_index, block_number, inode_number, has_bad_block, has_bad_inode, is_data_block, is_free, appears_twice, rounded_up}
+use Rattle.pv_model.specs.Mount.{used_before, used_by}
 use Rattle.pv_image_mount.proofs.InodeBlocks.{size_fits, used_by-used}
 use Rattle.pv_image_mount.proofs.PointerRows.{length-row, used_content-rows, used_index-row}
 use Rattle.pv_image_mount.specs.Rows.{pointer_row}

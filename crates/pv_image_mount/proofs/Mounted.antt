@@ -1,11 +1,8 @@
 -- The image of bytes that pass the check.
 use Rattle.std.proofs.Common.{◌≡◌, ◌∙◌, sym, subst, arith, ℕ, ◌+◌, ◌≤◌, length, Ok}
 use Rattle.pv_model.specs.declared.version.Version.{Version}
-use Rattle.pv_model.specs.Bytes.{Bytes}
-use Rattle.pv_model.specs.Image.{IsImageOf, field}
-use Rattle.pv_model.specs.Mount.{mounted}
-use Rattle.pv_model.specs.Tree.{Tree}
-use Rattle.pv_dirs.specs.Images.{IsImage}
+use Rattle.pv_model.specs.Machine.{Bytes, IsImageOf, field, mounted, Tree}
+use Rattle.pv_tree.specs.OfDirs.Images.{IsImage}
 use Rattle.pv_laws_trees.proofs.Images.{mounted-image}
 
 -- the bytes are an image of a tree of this version

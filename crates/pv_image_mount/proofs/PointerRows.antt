@@ -4,9 +4,8 @@ use Rattle.std.proofs.lemmas.List.{drop-drop, drop_all, drop_more, flat_map_more
 use Rattle.std.specs.Prelude.{flat_map}
 use Rattle.pv_model.specs.declared.version.Version.{Version}
 use Rattle.pv_model.specs.declared.version.Version.TheVariants.{V1, V2}
-use Rattle.pv_model.specs.Bytes.{Bytes}
-use Rattle.pv_model.specs.Image.{field, pointers, index_pointers, block, block_count, inode, size, used_content, used_index}
-use Rattle.pv_model.specs.Room.{rounded_up, greatest_length}
+use Rattle.pv_model.specs.Machine.{Bytes, field, index_pointers, block, block_count, inode, size, used_content, used_index, rounded_up, greatest_length}
+use Rattle.pv_model.specs.Image.{pointers}
 use Rattle.pv_laws_trees.proofs.Inodes.{length-pointers}
 use Rattle.pv_image_mount.specs.Rows.{pointed_row, pointer_row}
 

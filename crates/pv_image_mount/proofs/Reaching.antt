@@ -9,9 +9,8 @@ use Rattle.std.specs.Cmp.{both_ways}
 use Rattle.pv_blocks.specs.declared.block_set.BlockSet.{BlockSet}
 use Rattle.pv_blocks.specs.BlockSet.{is_member}
 use Rattle.pv_model.specs.declared.version.Version.{Version}
-use Rattle.pv_model.specs.Bytes.{Bytes}
-use Rattle.pv_model.specs.Mount.{has_bad_content, has_slot_for, inode_number, inode_numbers, is_reached_within, PassesNone}
-use Rattle.pv_model.specs.Tree.{root}
+use Rattle.pv_model.specs.Machine.{Bytes, has_bad_content, inode_number, is_reached_within, PassesNone, root}
+use Rattle.pv_model.specs.Mount.{has_slot_for, inode_numbers}
 use Rattle.pv_image_mount.proofs.InodeBlocks.{same_tests}
 use Rattle.pv_image_mount.proofs.Joining.{among_at, at_among, joined_each, joined_front, joined_has, joined_keeps, joined_longer}
 use Rattle.pv_image_mount.proofs.Refusals.{eq_flips}

@@ -8,7 +8,7 @@ use Rattle.std.proofs.lemmas.Map.Keys.{IsDistinct-IsPermutation}
 use Rattle.std.specs.Prelude.{not, ◌||◌, ◌==◌}
 use Rattle.std.specs.List.{list_any}
 use Rattle.pv_laws_trees.proofs.Ranges.{apart-once, distinct-once, once-apart, once-distinct}
-use Rattle.pv_model.specs.Mount.{appears_twice}
+use Rattle.pv_model.specs.Machine.{appears_twice}
 use Rattle.pv_image_mount.proofs.InodeBlocks.{or_none, same_tests}
 use Rattle.pv_image_mount.specs.Claims.{is_refused, is_taken_by}
 

@@ -11,10 +11,7 @@ use Rattle.std.specs.List.{list_any}
 use Rattle.std.specs.Ordering.{is_lt, nat_cmp}
 use Rattle.pv_model.specs.declared.version.Version.{Version}
 use Rattle.pv_model.specs.declared.version.Version.TheVariants.{V1, V2}
-use Rattle.pv_model.specs.Bytes.{Bytes}
-use Rattle.pv_model.specs.Mount.{inode_number, is_bad_slot, is_free, slot_length, slot_name, slot_number, slots_of, appears_twice}
-use Rattle.pv_model.specs.Room.{entry_length}
-use Rattle.pv_model.specs.Tree.{greatest_name, is_name}
+use Rattle.pv_model.specs.Machine.{Bytes, inode_number, is_bad_slot, is_free, slot_length, slot_name, slot_number, slots_of, appears_twice, entry_length, greatest_name, is_name}
 use Rattle.pv_laws_trees.proofs.NameOrder.{less_from}
 use Rattle.pv_laws_trees.proofs.Images.{length-slots_of, room_for}
 use Rattle.pv_image_mount.proofs.InodeContents.{none_at}

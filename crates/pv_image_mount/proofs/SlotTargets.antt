@@ -7,11 +7,8 @@ use Rattle.std.specs.Prelude.{not, ◌&&◌, ◌||◌, ◌==◌, nat_le, nat_lt,
 use Rattle.std.specs.List.{list_any}
 use Rattle.pv_model.specs.declared.version.Version.{Version}
 use Rattle.pv_model.specs.declared.version.Version.TheVariants.{V1, V2}
-use Rattle.pv_model.specs.Bytes.{Bytes}
-use Rattle.pv_model.specs.Image.{content, size}
-use Rattle.pv_model.specs.Mount.{has_bad_content, has_bad_inode, has_slot_for, inode_number, inode_numbers, is_bad_slot, is_free, kind, name_count, slot_length, slot_name, slot_number, slots_at, slots_of, appears_twice}
-use Rattle.pv_model.specs.Room.{entry_length, greatest_length}
-use Rattle.pv_model.specs.Tree.{greatest_name, is_name}
+use Rattle.pv_model.specs.Machine.{Bytes, content, size, has_bad_content, has_bad_inode, inode_number, is_bad_slot, is_free, kind, name_count, slot_length, slot_name, slot_number, slots_at, slots_of, appears_twice, entry_length, greatest_length, greatest_name, is_name}
+use Rattle.pv_model.specs.Mount.{has_slot_for, inode_numbers}
 use Rattle.pv_laws_trees.proofs.Images.{length-slots_of}
 use Rattle.pv_image_mount.proofs.BadContents.{used_kind}
 use Rattle.pv_image_mount.proofs.InodeBlocks.{size_fits}

@@ -4,8 +4,8 @@ use Rattle.std.specs.List.{list_any}
 use Rattle.pv_blocks.specs.declared.block_set.BlockSet.{BlockSet}
 use Rattle.pv_blocks.specs.BlockSet.{is_member}
 use Rattle.pv_model.specs.declared.version.Version.{Version}
-use Rattle.pv_model.specs.Bytes.{Bytes}
-use Rattle.pv_model.specs.Mount.{appears_twice, used_before}
+use Rattle.pv_model.specs.Machine.{Bytes, appears_twice}
+use Rattle.pv_model.specs.Mount.{used_before}
 
 -- whether a block of the list is invalid, is taken, or occurs twice
 unfoldable pub is_refused : (may_be_used taken : ℕ → Bool) → List ℕ → Bool

@@ -1,7 +1,6 @@
 -- Numbers of inodes.
 use Rattle.std.specs.Prelude.{ℕ, ◌≤◌}
-use Rattle.pv_model.specs.Bytes.{Bytes}
-use Rattle.pv_model.specs.Mount.{inode_number}
+use Rattle.pv_model.specs.Machine.{Bytes, inode_number}
 
 -- the number of an inode of the image
 abbrev pub IsNumber : Bytes → ℕ → Type 0

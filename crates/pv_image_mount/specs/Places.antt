@@ -4,8 +4,7 @@ use Rattle.std.specs.List.{list_any, IsDistinct}
 use Rattle.pv_blocks.specs.declared.block_set.BlockSet.{BlockSet}
 use Rattle.pv_blocks.specs.BlockSet.{is_member}
 use Rattle.pv_model.specs.declared.version.Version.{Version}
-use Rattle.pv_model.specs.Bytes.{Bytes}
-use Rattle.pv_model.specs.Mount.{slot_number, slots_at}
+use Rattle.pv_model.specs.Machine.{Bytes, slot_number, slots_at}
 
 -- the inode numbers in the slots of a directory, or none if the inode is not a directory
 unfoldable pub targets_of : Version → Bytes → ℕ → List ℕ

@@ -1,7 +1,7 @@
 -- Sequences of pointers.
 use Rattle.std.specs.Prelude.{ℕ, List, take, flat_map}
-use Rattle.pv_model.specs.Bytes.{Bytes}
-use Rattle.pv_model.specs.Image.{block, pointers}
+use Rattle.pv_model.specs.Machine.{Bytes, block}
+use Rattle.pv_model.specs.Image.{pointers}
 
 -- the first `count` pointers in bytes, as a definition that proofs unfold only on request
 unfoldable pub pointer_row : ℕ → Bytes → List ℕ

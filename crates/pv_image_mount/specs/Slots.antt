@@ -4,9 +4,7 @@ use Rattle.std.specs.Cmp.Lexicographic.{slice_cmp}
 use Rattle.std.specs.List.{list_any}
 use Rattle.std.specs.Ordering.{nat_cmp, is_lt}
 use Rattle.pv_model.specs.declared.version.Version.{Version}
-use Rattle.pv_model.specs.Bytes.{Bytes}
-use Rattle.pv_model.specs.Mount.{is_bad_slot, slot_name, appears_twice}
-use Rattle.pv_model.specs.Room.{entry_length}
+use Rattle.pv_model.specs.Machine.{Bytes, is_bad_slot, slot_name, appears_twice, entry_length}
 use Rattle.pv_image_mount.specs.declared.slots.TheConstants.{FACTOR}
 
 -- slot i of a directory's contents

@@ -1,7 +1,6 @@
 //! Reading the contents of inodes.
 ghost use Rattle.std.specs.Prelude.{◌≡◌, ◌<◌, ℕ, false, flat_map, length, slice_index, IfOk};
-ghost use Rattle.pv_model.specs.Image.{block, content, used_content};
-ghost use Rattle.pv_model.specs.Mount.{block_number, has_bad_block, has_bad_inode, is_free};
+ghost use Rattle.pv_model.specs.Machine.{block, content, used_content, block_number, has_bad_block, has_bad_inode, is_free};
 ghost use Rattle.pv_image_mount.specs.Numbers.{IsNumber};
 
 use crate::image::Image;

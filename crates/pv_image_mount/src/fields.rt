@@ -1,6 +1,6 @@
 //! Little-endian numbers in bytes.
 ghost use Rattle.std.specs.Prelude.{◌≡◌, ◌+◌, ◌<◌, ◌≤◌, length};
-ghost use Rattle.pv_model.specs.Image.{field};
+ghost use Rattle.pv_model.specs.Machine.{field};
 
 use byteorder::{ByteOrder, LittleEndian};
 

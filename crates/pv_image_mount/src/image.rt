@@ -2,8 +2,9 @@
 ghost use Rattle.std.specs.Prelude.{◌≡◌, ◌+◌, ◌*◌, ◌<◌, ◌≤◌, length, IfOk, IfErr};
 ghost use Rattle.pv_model.specs.declared.format.TheConstants.{HEADER, MAGIC};
 ghost use Rattle.pv_model.specs.declared.limits.TheConstants.{BLOCK, INODES};
-ghost use Rattle.pv_model.specs.Image.{block, inode, inode_blocks, inode_length, size, stored_count};
-ghost use Rattle.pv_model.specs.Mount.{block_number, has_sizes, inode_number, is_data_block, kind, version_of, HasSizes, IsFaultOf};
+ghost use Rattle.pv_model.specs.Machine.{block, inode, inode_blocks, inode_length, size, block_number, inode_number, is_data_block, kind};
+ghost use Rattle.pv_model.specs.Image.{stored_count};
+ghost use Rattle.pv_model.specs.Mount.{has_sizes, version_of, HasSizes, IsFaultOf};
 ghost use Rattle.pv_image_mount.specs.Numbers.{IsNumber};
 
 use crate::fields::{u8_at, u16_at, u32_at};

@@ -1,6 +1,7 @@
 //! Checking the kinds and sizes of inodes.
 ghost use Rattle.std.specs.Prelude.{◌≡◌, IfNone, IfSome};
-ghost use Rattle.pv_model.specs.Mount.{has_bad_inode, PassesLeast, PassesNone};
+ghost use Rattle.pv_model.specs.Machine.{has_bad_inode, PassesNone};
+ghost use Rattle.pv_model.specs.Mount.{PassesLeast};
 ghost use Rattle.pv_image_mount.specs.Numbers.{IsNumber};
 
 use crate::image::Image;

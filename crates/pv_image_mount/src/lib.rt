@@ -11,8 +11,7 @@
 #![tactic(auto)]
 
 ghost use Rattle.std.specs.Prelude.{◌≡◌, ◌⊎◌, IfErr, IfOk};
-ghost use Rattle.pv_model.specs.Mount.{mounted};
-ghost use Rattle.pv_model.specs.Tree.{Tree};
+ghost use Rattle.pv_model.specs.Machine.{mounted, Tree};
 
 mod contents;
 mod fields;
@@ -29,6 +28,7 @@ mod used_blocks;
 use crate::image::Image;
 pub use mounting::mount;
 use pv_model::{ImageFault, Version};
+pub use pv_tree as tree;
 pub use sizes::{are_image_sizes, inode_blocks};
 use std::alloc::Global;
 

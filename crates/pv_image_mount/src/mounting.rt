@@ -1,6 +1,6 @@
 //! Mounting images.
 ghost use Rattle.std.specs.Prelude.{◌≡◌, ◌⊎◌, Ok, Err, IfOk, IfErr};
-ghost use Rattle.pv_model.specs.Mount.{mounted};
+ghost use Rattle.pv_model.specs.Machine.{mounted};
 
 use crate::check;
 use crate::fields::u16_at;

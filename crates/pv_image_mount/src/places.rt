@@ -1,7 +1,8 @@
 //! Checking the position of inodes in the tree.
 ghost use Rattle.std.specs.Prelude.{◌≡◌, ◌+◌, ◌≤◌, ◌<◌, ℕ, length, slice_index, IfNone, IfOk, IfSome};
 ghost use Rattle.pv_blocks.specs.BlockSet.{is_member};
-ghost use Rattle.pv_model.specs.Mount.{has_bad_block, has_bad_content, has_bad_inode, has_bad_place, inode_number, is_reached_within, may_be_named, name_count, PassesLeast, PassesNone};
+ghost use Rattle.pv_model.specs.Machine.{has_bad_block, has_bad_content, has_bad_inode, inode_number, is_reached_within, name_count, PassesNone};
+ghost use Rattle.pv_model.specs.Mount.{has_bad_place, may_be_named, PassesLeast};
 ghost use Rattle.pv_image_mount.specs.Numbers.{IsNumber};
 
 use crate::image::Image;

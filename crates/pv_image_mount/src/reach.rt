@@ -1,7 +1,7 @@
 //! Finding the inodes that are reachable from the root.
 ghost use Rattle.std.specs.Prelude.{◌≡◌, ◌≤◌, ℕ, IfOk, OnOk};
 ghost use Rattle.pv_blocks.specs.BlockSet.{is_member};
-ghost use Rattle.pv_model.specs.Mount.{has_bad_block, has_bad_content, has_bad_inode, inode_number, is_reached_within, PassesNone};
+ghost use Rattle.pv_model.specs.Machine.{has_bad_block, has_bad_content, has_bad_inode, inode_number, is_reached_within, PassesNone};
 ghost use Rattle.pv_image_mount.specs.Places.{joined, HasEach};
 
 use crate::image::Image;

@@ -1,7 +1,6 @@
 //! The sizes of images.
 ghost use Rattle.std.specs.Prelude.{◌≡◌};
-ghost use Rattle.pv_model.specs.Image.{inode_blocks};
-ghost use Rattle.pv_model.specs.Mount.{are_image_sizes};
+ghost use Rattle.pv_model.specs.Machine.{inode_blocks, are_image_sizes};
 
 use pv_model::Version;
 use pv_model::limits::{BLOCK, INODES};

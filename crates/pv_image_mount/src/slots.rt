@@ -3,8 +3,8 @@ ghost use Rattle.std.specs.Prelude.{◌≡◌, ◌==◌, ◌+◌, ◌*◌, ◌/�
 ghost use Rattle.std.specs.Cmp.Lexicographic.{slice_cmp};
 ghost use Rattle.std.specs.List.{list_any};
 ghost use Rattle.std.specs.Ordering.{nat_cmp, is_lt};
-ghost use Rattle.pv_model.specs.Mount.{has_bad_block, has_bad_content, has_bad_inode, is_bad_slot, kind, slot_length, slot_name, slots_at, slots_of, appears_twice, PassesLeast, PassesNone};
-ghost use Rattle.pv_model.specs.Room.{entry_length};
+ghost use Rattle.pv_model.specs.Machine.{has_bad_block, has_bad_content, has_bad_inode, is_bad_slot, kind, slot_length, slot_name, slots_at, slots_of, appears_twice, PassesNone, entry_length};
+ghost use Rattle.pv_model.specs.Mount.{PassesLeast};
 ghost use Rattle.pv_image_mount.specs.Numbers.{IsNumber};
 ghost use Rattle.pv_image_mount.specs.Slots.{are_bad_slots, name_key, slot_at, slot_key, NamesAscend};
 

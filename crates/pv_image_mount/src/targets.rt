@@ -1,7 +1,6 @@
 //! The inodes that the slots of directories name.
 ghost use Rattle.std.specs.Prelude.{◌≡◌, ◌+◌, ◌/◌, ◌≤◌, ◌<◌, ◌^◌, ℕ, false, length, map, slice_index, IfOk};
-ghost use Rattle.pv_model.specs.Mount.{has_bad_block, has_bad_content, has_bad_inode, inode_number, name_count, slot_number, slots_of, PassesNone};
-ghost use Rattle.pv_model.specs.Room.{entry_length};
+ghost use Rattle.pv_model.specs.Machine.{has_bad_block, has_bad_content, has_bad_inode, inode_number, name_count, slot_number, slots_of, PassesNone, entry_length};
 ghost use Rattle.pv_image_mount.specs.Numbers.{IsNumber};
 ghost use Rattle.pv_image_mount.specs.Places.{targets_of, times};
 

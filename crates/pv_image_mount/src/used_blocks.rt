@@ -1,9 +1,8 @@
 //! Checking the blocks that inodes use.
 ghost use Rattle.std.specs.Prelude.{◌≡◌, ◌+◌, ◌*◌, ◌≤◌, ◌<◌, ◌++◌, ℕ, false, length, slice_index, IfNone, IfOk, IfSome, OnOk};
 ghost use Rattle.pv_blocks.specs.BlockSet.{is_member};
-ghost use Rattle.pv_model.specs.Image.{block_count, size, used_content, used_index};
-ghost use Rattle.pv_model.specs.Mount.{block_number, has_bad_block, has_bad_inode, is_data_block, PassesLeast, PassesNone};
-ghost use Rattle.pv_model.specs.Room.{greatest_length, rounded_up};
+ghost use Rattle.pv_model.specs.Machine.{block_count, size, used_content, used_index, block_number, has_bad_block, has_bad_inode, is_data_block, PassesNone, greatest_length, rounded_up};
+ghost use Rattle.pv_model.specs.Mount.{PassesLeast};
 ghost use Rattle.pv_image_mount.specs.Claims.{is_refused, is_taken_by, HasUsedBefore};
 ghost use Rattle.pv_image_mount.specs.Numbers.{IsNumber};
 ghost use Rattle.pv_image_mount.specs.Rows.{pointed_row, pointer_row};

@@ -4,10 +4,8 @@ use Rattle.std.specs.Prelude.{flat_map, slice_get}
 use Rattle.std.proofs.lemmas.List.{length-append}
 use Rattle.pv_model.specs.declared.version.Version.{Version}
 use Rattle.pv_model.specs.declared.version.Version.TheVariants.{V1, V2}
-use Rattle.pv_model.specs.Bytes.{Bytes, little_endian}
-use Rattle.pv_model.specs.Image.{IsSlot, AreSlots, no_slot, one_more}
-use Rattle.pv_model.specs.Room.{entry_length, node_length}
-use Rattle.pv_model.specs.Tree.{Entries, Node, directory_node, file_node, link_node, greatest_name}
+use Rattle.pv_model.specs.Machine.{Bytes, little_endian, AreSlots, entry_length, node_length, Entries, Node, directory_node, file_node, link_node, greatest_name}
+use Rattle.pv_model.specs.Image.{IsSlot, no_slot, one_more}
 use Rattle.pv_image_write.specs.Encoding.{padded, slot_of, contained}
 use Rattle.pv_image_write.proofs.Components.{length-padded}
 use Rattle.pv_image_write.proofs.Ranges.{two-bytes}

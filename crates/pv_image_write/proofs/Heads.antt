@@ -5,9 +5,8 @@ use Rattle.std.proofs.lemmas.List.{append_assoc, length-append, drop-drop}
 use Rattle.std.proofs.lemmas.List.FromFn.{length-range_with_len}
 use Rattle.pv_model.specs.declared.version.Version.{Version}
 use Rattle.pv_model.specs.declared.version.Version.TheVariants.{V1, V2}
-use Rattle.pv_model.specs.Bytes.{Bytes, little_endian}
-use Rattle.pv_model.specs.Image.{number_of, field, pointers, inode_length, index_pointers, stored_count}
-use Rattle.pv_model.specs.Room.{greatest_length}
+use Rattle.pv_model.specs.Machine.{Bytes, little_endian, number_of, field, inode_length, index_pointers, greatest_length}
+use Rattle.pv_model.specs.Image.{pointers, stored_count}
 use Rattle.pv_image_write.specs.Encoding.{padded, encoded, blocks_for, index_for, direct_for, before_size, after_pointers, inode_bytes}
 use Rattle.pv_image_write.specs.Writable.{names_end}
 use Rattle.pv_image_write.proofs.Components.{front-is, past-is, length-padded}

@@ -8,14 +8,11 @@ use Rattle.std.proofs.lemmas.List.Folds.{list_all-append}
 use Rattle.std.proofs.lemmas.List.Sorted.{IsPermutation-refl}
 use Rattle.pv_model.specs.declared.version.Version.{Version}
 use Rattle.pv_model.specs.declared.version.Version.TheVariants.{V1, V2}
-use Rattle.pv_model.specs.Bytes.{Bytes, little_endian}
+use Rattle.pv_model.specs.Machine.{Bytes, little_endian, number_of, field, magic, block, inode_blocks, inode_length, AreSlots, inode, size, content, used_content, used_index, Holds, HoldsAny, used_blocks, IsImageOf, IsWrittenImageOf, Numbered, at_number, numbered_from, node_length, greatest_length, Entries, Node, directory_node, file_node, link_node, Tree, node_at, entries_of, entries_at, is_directory, is_name, names_of, root}
 use Rattle.pv_model.specs.Effect.{sort_number}
-use Rattle.pv_model.specs.Image.{number_of, field, magic, block, inode_blocks, inode_length, stored_count, AreSlots, inode, size, content, used_content, used_index, HasContent, Holds, HoldsAny, used_blocks, IsImageOf, free_numbers, free_blocks, IsWrittenImageOf}
-use Rattle.pv_model.specs.Numbered.{Numbered, at_number, numbered_from}
-use Rattle.pv_model.specs.Room.{node_length, greatest_length}
-use Rattle.pv_model.specs.Tree.{Entries, Node, directory_node, file_node, link_node, Tree, node_at, entries_of, entries_at, is_directory, is_name, names_of, root}
+use Rattle.pv_model.specs.Image.{stored_count, HasContent, free_numbers, free_blocks}
 use Rattle.pv_laws_trees.proofs.Numbered.{at_number-below}
-use Rattle.pv_dirs.proofs.Strides.{name_length}
+use Rattle.pv_tree.proofs.OfDirs.Strides.{name_length}
 use Rattle.pv_laws_trees.proofs.Ranges.{each_in_range}
 use Rattle.pv_laws_trees.proofs.ImageBytes.{length-little_endian}
 use Rattle.pv_image_write.specs.Encoding.{contained, content_of, taken, taken_of, inode_of, blocks_of, taken_before, first_data, first_of, first_block, image_bytes, inode_bytes, content_blocks}

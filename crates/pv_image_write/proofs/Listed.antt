@@ -12,14 +12,10 @@ use Rattle.std.proofs.lemmas.Grind.{flat_map-append}
 use Rattle.std.proofs.lemmas.List.{append_assoc, append-nil, take_all}
 use Rattle.pv_model.specs.declared.version.Version.{Version}
 use Rattle.pv_model.specs.declared.version.Version.TheVariants.{V1, V2}
-use Rattle.pv_model.specs.Bytes.{Bytes}
-use Rattle.pv_model.specs.Calls.Descriptors.{next_name}
-use Rattle.pv_model.specs.Effect.{size_of}
-use Rattle.pv_model.specs.Room.{entry_length}
-use Rattle.pv_model.specs.Tree.{Entries, Node, directory_node, file_node, link_node, Tree, node_at, entries_of, entries_at, is_directory, is_directory_at, find_entry, greatest_name, is_name, IsWellFormed}
+use Rattle.pv_model.specs.Machine.{Bytes, next_name, size_of, entry_length, Entries, Node, directory_node, file_node, link_node, Tree, node_at, entries_of, entries_at, is_directory, is_directory_at, find_entry, greatest_name, is_name, IsWellFormed}
 use Rattle.pv_laws_trees.proofs.Changes.{entries-good}
 use Rattle.pv_laws_trees.proofs.Entries.{by_name, tied_itself, find_after}
-use Rattle.pv_dirs.proofs.Strides.{name_length}
+use Rattle.pv_tree.proofs.OfDirs.Strides.{name_length}
 use Rattle.pv_laws_trees.proofs.NameOrder.{less_from}
 use Rattle.pv_image_write.specs.Encoding.{slot_of}
 

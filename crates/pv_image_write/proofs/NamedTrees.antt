@@ -1,9 +1,8 @@
 -- The named tree, and the tree that is written.
 use Rattle.std.proofs.Common.{◌≡◌, ◌≢◌, ℕ, ◌<◌, ◌||◌, ◌==◌, List, ◌∷◌, None, Some, refl, ap, sym, ◌∙◌, ⊎_elim}
 use Rattle.std.proofs.lemmas.Bool.{cases_Bool, ne_eqb, or_right}
-use Rattle.pv_model.specs.Held.{among, named_tree}
-use Rattle.pv_model.specs.Tree.{Node, Tree, root, node_at, named_numbers, IsWellFormed}
-use Rattle.pv_laws_trees.proofs.Keeping.{Covers, entries-only}
+use Rattle.pv_model.specs.Machine.{among, named_tree, Node, Tree, root, node_at, named_numbers, IsWellFormed}
+use Rattle.pv_laws_trees.proofs.Collection.{Covers, entries-only}
 use Rattle.pv_laws_trees.proofs.NameCounts.{name_count, named-is, is_positive, positive-is, names-same}
 use Rattle.pv_laws_trees.proofs.Numbered.{keep-passes, keep-fails, keep-some, length-keep}
 use Rattle.pv_laws_trees.proofs.Trees.{sound}

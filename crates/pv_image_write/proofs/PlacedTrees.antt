@@ -9,18 +9,13 @@ use Rattle.std.proofs.lemmas.List.Sums.{sum_by-cons}
 use Rattle.pv_model.specs.declared.limits.TheConstants.{INODES}
 use Rattle.pv_model.specs.declared.version.Version.{Version}
 use Rattle.pv_model.specs.declared.version.Version.TheVariants.{V1, V2}
-use Rattle.pv_model.specs.Bytes.{Bytes, is_empty}
-use Rattle.pv_model.specs.Effect.{size_of}
-use Rattle.pv_model.specs.Held.{among, named_tree, only_nodes}
-use Rattle.pv_model.specs.Image.{inode_blocks, greatest_blocks}
-use Rattle.pv_model.specs.Mount.{are_image_sizes}
-use Rattle.pv_model.specs.Numbered.{Numbered, at_number, present, numbered, numbered_from}
-use Rattle.pv_model.specs.Room.{entry_length, node_length, need, greatest_length, fits}
-use Rattle.pv_model.specs.Tree.{Entries, Node, directory_node, file_node, link_node, Tree, root, node_at, entries_of, entries_at, is_directory, is_directory_at, find_entry, first_parent, named_numbers, parent, names_in, names_of, greatest_name, is_name, is_name_byte, is_node, IsWellFormed}
+use Rattle.pv_model.specs.Machine.{Bytes, is_empty, size_of, among, named_tree, inode_blocks, greatest_blocks, are_image_sizes, Numbered, at_number, present, numbered, numbered_from, entry_length, node_length, need, greatest_length, fits, Entries, Node, directory_node, file_node, link_node, Tree, root, node_at, entries_of, entries_at, is_directory, is_directory_at, find_entry, named_numbers, parent, names_in, names_of, greatest_name, is_name, is_name_byte, is_node, IsWellFormed}
+use Rattle.pv_model.specs.Held.{only_nodes}
+use Rattle.pv_model.specs.Tree.{first_parent}
 use Rattle.pv_laws_trees.specs.Preserved.{preserved}
 use Rattle.pv_laws_trees.specs.Room.{IsNoLarger}
 use Rattle.pv_laws_trees.proofs.Entries.{by_name}
-use Rattle.pv_laws_trees.proofs.Keeping.{only-sound, reached-along}
+use Rattle.pv_laws_trees.proofs.Collection.{only-sound, reached-along}
 use Rattle.pv_laws_trees.proofs.NameCounts.{names-in_most, names-most}
 use Rattle.pv_laws_trees.proofs.Numbered.{at_number-below, length-keep}
 use Rattle.pv_laws_trees.proofs.Places.{list_all-weaker}
@@ -28,7 +23,7 @@ use Rattle.pv_laws_trees.proofs.Rooms.{preserved-no_larger, length-within, small
 use Rattle.pv_laws_trees.proofs.Trees.{sound, well_formed}
 use Rattle.pv_tree.specs.Holding.{HeldTree}
 use Rattle.pv_tree.specs.Present.{IsPresent}
-use Rattle.pv_dirs.proofs.Strides.{name_length}
+use Rattle.pv_tree.proofs.OfDirs.Strides.{name_length}
 use Rattle.pv_image_write.specs.Placed.{lengthened, placed, written_at, named_need}
 use Rattle.pv_image_write.specs.Encoding.{contained, content_of, taken, taken_of, taken_before}
 use Rattle.pv_image_write.specs.Writable.{IsWritable, names_end}

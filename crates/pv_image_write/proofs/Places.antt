@@ -4,11 +4,8 @@ use Rattle.std.specs.List.{list_all}
 use Rattle.std.proofs.lemmas.List.{append_assoc, length-append, length-replicate, drop-drop, drop-replicate}
 use Rattle.pv_model.specs.declared.version.Version.{Version}
 use Rattle.pv_model.specs.declared.version.Version.TheVariants.{V1, V2}
-use Rattle.pv_model.specs.Bytes.{Bytes, little_endian}
+use Rattle.pv_model.specs.Machine.{Bytes, little_endian, magic, inode_blocks, inode_length, inode, block, greatest_blocks, greatest_length, Node, Tree, node_at, names_of}
 use Rattle.pv_model.specs.Effect.{sort_number}
-use Rattle.pv_model.specs.Image.{magic, inode_blocks, inode_length, inode, block, greatest_blocks}
-use Rattle.pv_model.specs.Room.{greatest_length}
-use Rattle.pv_model.specs.Tree.{Node, Tree, node_at, names_of}
 use Rattle.pv_image_write.specs.Encoding.{padded, contained, content_of, taken_of, inode_of, blocks_of, taken_before, first_data, first_of, joined, inode_at, blocks_at, all_inodes, all_contents, first_block, image_bytes}
 use Rattle.pv_image_write.specs.Writable.{IsWritable}
 use Rattle.pv_image_write.proofs.Heads.{length-inode_bytes}

@@ -8,8 +8,8 @@ use Rattle.std.proofs.lemmas.List.{take-take, drop-take, drop-drop}
 use Rattle.std.proofs.lemmas.List.Folds.{list_all-append}
 use Rattle.std.proofs.lemmas.List.FromFn.{length-range_with_len}
 use Rattle.std.proofs.Math.Seq.{take-add}
-use Rattle.pv_model.specs.Bytes.{Bytes, little_endian}
-use Rattle.pv_model.specs.Image.{number_of, field, pointers, block}
+use Rattle.pv_model.specs.Machine.{Bytes, little_endian, number_of, field, block}
+use Rattle.pv_model.specs.Image.{pointers}
 use Rattle.pv_laws_trees.proofs.Ranges.{each_in_range}
 use Rattle.pv_image_write.specs.Encoding.{encoded}
 

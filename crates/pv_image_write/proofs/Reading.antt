@@ -6,9 +6,8 @@ use Rattle.std.proofs.lemmas.Bool.{cases_lt}
 use Rattle.std.proofs.lemmas.List.{append_assoc, length-append, drop-drop, take-take}
 use Rattle.std.proofs.lemmas.List.FromFn.{length-range_with_len}
 use Rattle.pv_model.specs.declared.version.Version.{Version}
-use Rattle.pv_model.specs.Bytes.{Bytes}
-use Rattle.pv_model.specs.Image.{pointers, block, index_pointers, inode, size, block_count, used_index, used_content, content}
-use Rattle.pv_model.specs.Room.{greatest_length}
+use Rattle.pv_model.specs.Machine.{Bytes, block, index_pointers, inode, size, block_count, used_index, used_content, content, greatest_length}
+use Rattle.pv_model.specs.Image.{pointers}
 use Rattle.pv_image_write.specs.Encoding.{padded, encoded, blocks_for, index_for, direct_for, taken, content_blocks, inode_bytes}
 use Rattle.pv_image_write.proofs.Heads.{index-few, row-read, row-taken, size-inode, direct-inode, index-inode}
 use Rattle.pv_image_write.proofs.Components.{front-is, past-is, length-padded}

@@ -4,9 +4,7 @@ use Rattle.std.proofs.lemmas.List.{append_assoc, append-nil, length-append}
 use Rattle.std.specs.List.{range_with_len}
 use Rattle.pv_model.specs.declared.version.Version.{Version}
 use Rattle.pv_model.specs.declared.version.Version.TheVariants.{V1, V2}
-use Rattle.pv_model.specs.Bytes.{Bytes}
-use Rattle.pv_model.specs.Image.{inode_blocks, inode_length}
-use Rattle.pv_model.specs.Tree.{Node, Tree, node_at, names_of}
+use Rattle.pv_model.specs.Machine.{Bytes, inode_blocks, inode_length, Node, Tree, node_at, names_of}
 use Rattle.pv_streams.specs.Sinks.{WritesPrefix}
 use Rattle.pv_image_write.specs.Encoding.{padded, encoded, contained, content_of, blocks_for, direct_for, index_for, content_blocks, after_content, taken_of, inode_of, blocks_of, taken_before, first_data, first_of, joined, blocks_at, first_block, all_inodes, all_contents, image_bytes}
 use Rattle.pv_image_write.specs.Written.{IsPut}

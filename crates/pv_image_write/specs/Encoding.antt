@@ -4,11 +4,8 @@ use Rattle.std.specs.List.{range_with_len}
 use Rattle.pv_model.specs.declared.limits.TheConstants.{BLOCK}
 use Rattle.pv_model.specs.declared.version.Version.{Version}
 use Rattle.pv_model.specs.declared.version.Version.TheVariants.{V1, V2}
-use Rattle.pv_model.specs.Bytes.{Bytes, little_endian}
+use Rattle.pv_model.specs.Machine.{Bytes, little_endian, magic, inode_blocks, inode_length, index_pointers, entry_length, rounded_up, Node, directory_node, file_node, link_node, Tree, node_at, names_of}
 use Rattle.pv_model.specs.Effect.{sort_number}
-use Rattle.pv_model.specs.Image.{magic, inode_blocks, inode_length, index_pointers}
-use Rattle.pv_model.specs.Room.{entry_length, rounded_up}
-use Rattle.pv_model.specs.Tree.{Node, directory_node, file_node, link_node, Tree, node_at, names_of}
 
 -- bytes padded with zeros to a length
 unfoldable pub padded : ℕ → Bytes → Bytes

@@ -2,3 +2,4 @@ pub mod Placed
 pub mod Encoding
 pub mod Written
 pub mod Writable
+pub use Rattle.pv_tree.specs.OfDirs

@@ -2,12 +2,7 @@
 use Rattle.std.specs.Prelude.{ℕ, suc, ◌+◌, ◌-◌, ◌*◌, ◌++◌, length, replicate, sum_by, Option, None}
 use Rattle.pv_model.specs.declared.limits.TheConstants.{BLOCK}
 use Rattle.pv_model.specs.declared.version.Version.{Version}
-use Rattle.pv_model.specs.Bytes.{Bytes}
-use Rattle.pv_model.specs.Held.{named_tree}
-use Rattle.pv_model.specs.Image.{inode_blocks}
-use Rattle.pv_model.specs.Numbered.{Numbered, present}
-use Rattle.pv_model.specs.Room.{node_length, need}
-use Rattle.pv_model.specs.Tree.{Node, Tree, node_at}
+use Rattle.pv_model.specs.Machine.{Bytes, named_tree, inode_blocks, Numbered, present, node_length, need, Node, Tree, node_at}
 use Rattle.pv_image_write.specs.Encoding.{all_contents, padded}
 
 -- a map extended to n numbers without values

@@ -3,10 +3,7 @@ use Rattle.std.specs.Prelude.{◌≡◌, ℕ, suc, ◌+◌, ◌^◌, ◌<◌, �
 use Rattle.pv_model.specs.declared.limits.TheConstants.{INODES}
 use Rattle.pv_model.specs.declared.version.Version.{Version}
 use Rattle.pv_model.specs.declared.version.Version.TheVariants.{V1, V2}
-use Rattle.pv_model.specs.Bytes.{Bytes}
-use Rattle.pv_model.specs.Image.{inode_blocks, greatest_blocks}
-use Rattle.pv_model.specs.Room.{greatest_length}
-use Rattle.pv_model.specs.Tree.{Node, Tree, root, greatest_name, node_at, names_of, IsWellFormed}
+use Rattle.pv_model.specs.Machine.{Bytes, inode_blocks, greatest_blocks, greatest_length, Node, Tree, root, greatest_name, node_at, names_of, IsWellFormed}
 use Rattle.pv_image_write.specs.Placed.{placed}
 use Rattle.pv_image_write.specs.Encoding.{content_of, taken_before, first_data, first_of}
 

@@ -3,10 +3,7 @@ use Rattle.std.specs.Prelude.{◌≡◌, ◌++◌, Option, Result, Err, OnOk}
 use Rattle.pv_image_write.specs.declared.fault.WriteFault.{WriteFault}
 use Rattle.pv_image_write.specs.declared.fault.WriteFault.TheVariants.{Memory, Write}
 use Rattle.pv_model.specs.declared.stream.Sink.{Ghosts as Writing}
-use Rattle.pv_model.specs.Bytes.{Bytes}
-use Rattle.pv_model.specs.Image.{IsWrittenImageOf}
-use Rattle.pv_model.specs.Stream.{Rose}
-use Rattle.pv_model.specs.Tree.{Tree}
+use Rattle.pv_model.specs.Machine.{Bytes, IsWrittenImageOf, Rose, Tree}
 use Rattle.pv_streams.specs.Sinks.{and_all, WritesPrefix}
 
 -- the output grew by an image of exactly this tree

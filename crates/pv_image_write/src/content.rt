@@ -1,9 +1,7 @@
 //! The contents of nodes.
 ghost use Rattle.std.specs.Prelude.{◌≡◌, ◌+◌, ◌*◌, ◌≤◌, ◌++◌, false, length, flat_map, option_map, vec_capacity, vec_len, Some, IsTrue, IsSome, IfSome};
-ghost use Rattle.pv_dirs.specs.Trees.{bytes_at};
-ghost use Rattle.pv_model.specs.Calls.Descriptors.{next_name};
-ghost use Rattle.pv_model.specs.Room.{entry_length, greatest_length};
-ghost use Rattle.pv_model.specs.Tree.{greatest_name, node_at, entries_at, find_entry, is_directory_at};
+ghost use Rattle.pv_tree.specs.OfDirs.Trees.{bytes_at};
+ghost use Rattle.pv_model.specs.Machine.{next_name, entry_length, greatest_length, greatest_name, node_at, entries_at, find_entry, is_directory_at};
 ghost use Rattle.pv_image_write.specs.Encoding.{content_of, slot_of};
 
 use crate::filling::{put, put_u16, put_zeros};

@@ -1,7 +1,7 @@
 //! Appending bytes, zeros and numbers to a vector with sufficient capacity.
 ghost use Rattle.std.specs.Prelude.{◌≡◌, ◌+◌, ◌*◌, ◌^◌, ◌<◌, ◌≤◌, ◌++◌, vec_capacity, vec_len, length, replicate};
 ghost use Rattle.std.specs.List.{range_with_len};
-ghost use Rattle.pv_model.specs.Bytes.{little_endian};
+ghost use Rattle.pv_model.specs.Machine.{little_endian};
 ghost use Rattle.pv_image_write.specs.Encoding.{padded, encoded};
 
 use byteorder::{ByteOrder, LittleEndian};

@@ -1,11 +1,7 @@
 //! Writing images.
 ghost use Rattle.std.specs.Prelude.{◌≡◌, ◌+◌, ◌-◌, ◌*◌, ◌^◌, ◌<◌, ◌≤◌, ◌++◌, false, length, vec_capacity, vec_len, IsTrue, IsSome, None, Err, IfOk, OnOk, OnErr};
 ghost use Rattle.pv_model.specs.declared.limits.TheConstants.{BLOCK, INODES};
-ghost use Rattle.pv_model.specs.Held.{named_tree};
-ghost use Rattle.pv_model.specs.Image.{inode_blocks, inode_length};
-ghost use Rattle.pv_model.specs.Mount.{are_image_sizes};
-ghost use Rattle.pv_model.specs.Stream.{Rose};
-ghost use Rattle.pv_model.specs.Tree.{greatest_name, names_of, node_at};
+ghost use Rattle.pv_model.specs.Machine.{named_tree, inode_blocks, inode_length, are_image_sizes, Rose, greatest_name, names_of, node_at};
 ghost use Rattle.pv_streams.specs.Sinks.{and_all, Writes, WritesPrefix};
 ghost use Rattle.pv_image_write.specs.Placed.{placed, placed_contents, written_at, named_need};
 ghost use Rattle.pv_image_write.specs.Encoding.{all_inodes, blocks_of, first_block, image_bytes, inode_of, padded, taken_of};

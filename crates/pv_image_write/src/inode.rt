@@ -2,8 +2,7 @@
 ghost use Rattle.std.specs.Prelude.{◌≡◌, ◌+◌, ◌-◌, ◌*◌, ◌^◌, ◌<◌, ◌≤◌, ◌++◌, vec_capacity, vec_len, length};
 ghost use Rattle.pv_model.specs.declared.limits.TheConstants.{BLOCK};
 ghost use Rattle.pv_model.specs.declared.version.Version.TheVariants.{V2};
-ghost use Rattle.pv_model.specs.Image.{inode_length};
-ghost use Rattle.pv_model.specs.Room.{greatest_length};
+ghost use Rattle.pv_model.specs.Machine.{inode_length, greatest_length};
 ghost use Rattle.pv_image_write.specs.Encoding.{before_size, after_content, after_pointers, blocks_for, direct_for, index_for, inode_bytes, taken};
 
 use crate::filling::{put, put_pointers, put_u16, put_u32, put_zeros};

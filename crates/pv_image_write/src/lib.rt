@@ -18,3 +18,4 @@ mod window;
 
 pub use fault::WriteFault;
 pub use image::{needed_blocks, write_as, write_tree};
+pub use pv_tree as tree;

@@ -1,7 +1,7 @@
 //! The window: bytes of an image that are not written yet.
 ghost use Rattle.std.specs.Prelude.{◌≡◌, ◌+◌, ◌*◌, ◌<◌, ◌≤◌, ◌++◌, vec_capacity, vec_len, replicate, OnOk, OnErr};
 ghost use Rattle.pv_model.specs.declared.limits.TheConstants.{BLOCK};
-ghost use Rattle.pv_model.specs.Stream.{Rose};
+ghost use Rattle.pv_model.specs.Machine.{Rose};
 ghost use Rattle.pv_streams.specs.Sinks.{WritesPrefix};
 ghost use Rattle.pv_image_write.specs.Written.{IsPut};
 

@@ -2,9 +2,7 @@
 use Rattle.std.proofs.Common.{◌≡◌, ℕ, zero, suc, ◌-◌, ◌/◌, ◌^◌, ◌<◌, ◌≤◌, ◌≢◌, List, length, get_or, set, Option, Some, is_some, refl, sym, ap, ◌∙◌, inl, inr, arith}
 use Rattle.std.proofs.lemmas.Bool.{cases_eq, cases_lt, false≢true}
 use Rattle.pv_model.specs.declared.version.Version.{Version}
-use Rattle.pv_model.specs.Bytes.{Bytes}
-use Rattle.pv_model.specs.Numbered.{Numbered, at_number, with_number}
-use Rattle.pv_model.specs.Room.{greatest_length}
+use Rattle.pv_model.specs.Machine.{Bytes, Numbered, at_number, with_number, greatest_length}
 use Rattle.pv_blocks.specs.BlockStore.{BlockStore}
 use Rattle.pv_inodes.specs.Files.{Contained, sort_of, held, IsUsed, bytes_of, bytes_at, total_room, replaced, with_bytes}
 use Rattle.pv_inodes.specs.Layout.{block_at, home, kind_at, size_at, pointer_at, owned_at, owned_count, pointer_count, pointer_of, most_owned, wanted, place_of, content_byte, content_at, node_at, nodes_in, with_size}

@@ -5,8 +5,7 @@ use Rattle.std.proofs.lemmas.List.{same_lists, append-nil, append_assoc, length-
 use lib.Seq.{paste}
 use Rattle.std.proofs.Math.Seq.{take-add}
 use Rattle.std.proofs.lemmas.List.Edits.{paste_all, paste-paste}
-use Rattle.pv_model.specs.Bytes.{Bytes}
-use Rattle.pv_model.specs.Effect.{overwrite, resize}
+use Rattle.pv_model.specs.Machine.{Bytes, overwrite, resize}
 use Rattle.pv_inodes.proofs.Splices.{over, length-over}
 
 -- two lists of numbers with equal elements, with the default 0

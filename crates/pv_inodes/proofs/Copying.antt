@@ -5,7 +5,7 @@ use Rattle.std.proofs.lemmas.Bool.{cases_Bool, false_from_ne_true, lt-ltb}
 use Rattle.std.proofs.lemmas.List.{get_or_default, same_lists}
 use Rattle.std.proofs.lemmas.List.FromFn.{get_or-map-range_with_len, length-map-range_with_len}
 use Rattle.pv_model.specs.declared.version.Version.{Version}
-use Rattle.pv_model.specs.Bytes.{Bytes}
+use Rattle.pv_model.specs.Machine.{Bytes}
 use Rattle.pv_blocks.specs.BlockStore.{BlockStore, CopiesUsed}
 use Rattle.pv_inodes.specs.Files.{Contained}
 use Rattle.pv_inodes.specs.Layout.{block_at, home, most_owned, node_at, nodes_in, owned_at, owned_count, pointer_of}

@@ -1,11 +1,8 @@
 -- Files with other contents of one inode.
 use Rattle.std.proofs.Common.{◌≡◌, ℕ, ◌+◌, ◌<◌, ◌≤◌, [], ◌∷◌, length, take, drop, max, Option, None, Some, IsSome, is_some, refl, sym, ap, ◌∙◌, arith}
 use Rattle.std.proofs.lemmas.Bool.{false≢true}
-use Rattle.pv_model.specs.Bytes.{Bytes}
+use Rattle.pv_model.specs.Machine.{Bytes, overwrite, resize, Numbered, with_number, need}
 use Rattle.std.proofs.lemmas.List.{length-take-le, take-append-drop}
-use Rattle.pv_model.specs.Effect.{overwrite, resize}
-use Rattle.pv_model.specs.Numbered.{Numbered, with_number}
-use Rattle.pv_model.specs.Room.{need}
 use Rattle.pv_model.specs.declared.version.Version.{Version}
 use Rattle.pv_inodes.specs.Files.{Contained, Files, held, IsUsed, bytes_of, bytes_at, room_of, total_room, HasRoom, LacksRoom, replaced, with_bytes, written, cut, without}
 use Rattle.pv_inodes.proofs.Bytes.{length-resize, resize-resize, length-overwrite, overwrite-over, overwrite-overwrite, overwrite-resized, length-overwrite_any}

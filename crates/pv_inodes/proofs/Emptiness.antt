@@ -6,8 +6,7 @@ use Rattle.std.proofs.lemmas.List.{same_lists, length-replicate, get_or-replicat
 use Rattle.std.proofs.lemmas.List.FromFn.{length-map-range_with_len, get_or-map-range_with_len, sum_by-map-range_with_len_more}
 use Rattle.std.proofs.lemmas.List.Sums.{sum_by-cons}
 use Rattle.pv_model.specs.declared.version.Version.{Version}
-use Rattle.pv_model.specs.Bytes.{Bytes}
-use Rattle.pv_model.specs.Image.{block}
+use Rattle.pv_model.specs.Machine.{Bytes, block}
 use Rattle.pv_blocks.specs.declared.block_set.BlockSet.{BlockSet}
 use Rattle.pv_blocks.specs.BlockSet.{is_member}
 use Rattle.pv_blocks.specs.BlockStore.{BlockStore, blocks_of, free_from}

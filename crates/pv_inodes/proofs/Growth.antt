@@ -6,8 +6,7 @@ use Rattle.std.proofs.lemmas.Option.{slice_get-get_or}
 use Rattle.pv_model.specs.declared.version.Version.{Version}
 use Rattle.pv_inodes.proofs.Heads.{index-is}
 use Rattle.pv_inodes.proofs.Layouts.{index_of, IsContent}
-use Rattle.pv_model.specs.Bytes.{Bytes}
-use Rattle.pv_model.specs.Effect.{overwrite, resize}
+use Rattle.pv_model.specs.Machine.{Bytes, overwrite, resize}
 use Rattle.pv_blocks.specs.BlockStore.{BlockStore, IsFree, IsTaken, give_back}
 use Rattle.pv_inodes.specs.Layout.{block_at, splice, kind_at, size_at, pointer_at, owned_at, owned_count, most_owned, pointer_of, wanted, place_of, content_byte, content_at, zeros}
 use Rattle.pv_inodes.specs.Owning.{changed, IsOwning}

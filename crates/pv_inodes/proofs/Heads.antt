@@ -4,8 +4,7 @@ use Rattle.std.proofs.lemmas.Bool.{cases_eq, cases_lt, eq-eqb, ne_eqb}
 use Rattle.byteorder.specs.Endian.{little_bytes}
 use Rattle.byteorder.specs.Numbers.{length-bytes_low_first}
 use Rattle.pv_model.specs.declared.version.Version.{Version}
-use Rattle.pv_model.specs.Bytes.{Bytes}
-use Rattle.pv_model.specs.Image.{inode_length}
+use Rattle.pv_model.specs.Machine.{Bytes, inode_length}
 use Rattle.pv_inodes.specs.Layout.{block_at, number, splice, home, offset, kind_at, size_at, pointer_at, owned_at, with_kind, with_size, with_owned, pointer_count, most_owned, after_index, pointer_of}
 use Rattle.pv_inodes.proofs.Layouts.{pointers-fit, inode-fits, offset-apart, pointer_of-few, index_of, index_of-direct, pointer_of-index}
 use Rattle.pv_inodes.proofs.Splices.{number-same, block_at-splice_other, number-splice_other, number-splice_below, number-splice_above, number-splice_same, number-splice_byte, length-splice, length-block_splice}

@@ -7,10 +7,8 @@ use Rattle.byteorder.specs.Endian.{little_from}
 use Rattle.byteorder.specs.Numbers.{little_from-cons, little_from-take}
 use Rattle.pv_model.specs.declared.version.Version.{Version}
 use Rattle.pv_model.specs.declared.version.Version.TheVariants.{V1, V2}
-use Rattle.pv_model.specs.Bytes.{Bytes}
-use Rattle.pv_model.specs.Image.{number_of, field, pointers, block, inode, inode_length, index_pointers, size, block_count, used_index, used_content, content}
-use Rattle.pv_model.specs.Mount.{kind}
-use Rattle.pv_model.specs.Room.{greatest_length}
+use Rattle.pv_model.specs.Machine.{Bytes, number_of, field, block, inode, inode_length, index_pointers, size, block_count, used_index, used_content, content, kind, greatest_length}
+use Rattle.pv_model.specs.Image.{pointers}
 use Rattle.pv_blocks.specs.BlockStore.{blocks_of}
 use Rattle.pv_blocks.proofs.Stores.{length-block, length-blocks_of, get_or-blocks_of}
 use Rattle.pv_inodes.specs.Layout.{block_at, number, home, offset, kind_at, size_at, pointer_at, pointer_count, owned_at, content_at, pointer_of, after_index, place_of}

@@ -1,6 +1,6 @@
 -- An inode in use, and the room that remains.
 use Rattle.std.proofs.Common.{◌≡◌, ℕ, suc, ◌+◌, ◌-◌, ◌/◌, ◌%◌, ◌<◌, ◌≤◌, ◌≢◌, length, Option, Some, option_map, sym, ap, subst, ◌∙◌, arith}
-use Rattle.pv_model.specs.Room.{greatest_length}
+use Rattle.pv_model.specs.Machine.{greatest_length}
 use Rattle.pv_model.specs.declared.version.Version.{Version}
 use Rattle.pv_blocks.specs.BlockStore.{BlockStore, free_count}
 use Rattle.pv_inodes.specs.Files.{Contained, Files, sort_of, IsUsed, bytes_at, sort_at, total_room}

@@ -1,8 +1,7 @@
 -- The sizes of each version, and the sequence of the blocks of an inode.
 use Rattle.std.proofs.Common.{◌≡◌, ℕ, suc, ◌+◌, ◌*◌, ◌-◌, ◌/◌, ◌%◌, ◌^◌, ◌<◌, ◌≤◌, ◌≢◌, ◌⊎◌, refl, inl, inr, arith}
 use Rattle.std.proofs.lemmas.Bool.{cases_lt, cases_order, le-leb, lt-leb}
-use Rattle.pv_model.specs.Image.{inode_length, inode_blocks, index_pointers}
-use Rattle.pv_model.specs.Room.{need, greatest_length}
+use Rattle.pv_model.specs.Machine.{inode_length, inode_blocks, index_pointers, need, greatest_length}
 use Rattle.pv_model.specs.declared.version.Version.{Version}
 use Rattle.pv_model.specs.declared.version.Version.TheVariants.{V1, V2}
 use Rattle.pv_inodes.specs.Layout.{home, offset, pointer_count, most_owned, after_index, pointer_of, wanted, place_of}

@@ -2,8 +2,7 @@
 use Rattle.std.proofs.Common.{◌≡◌, ◌≢◌, ℕ, zero, suc, ◌+◌, ◌-◌, ◌<◌, ◌≤◌, [], ◌∷◌, min, Option, None, Some, IsSome, is_some, refl, sym, ap, subst, arith}
 use Rattle.std.proofs.lemmas.Bool.{false≢true}
 use Rattle.pv_blocks.specs.BlockStore.{BlockStore}
-use Rattle.pv_model.specs.Bytes.{Bytes}
-use Rattle.pv_model.specs.Numbered.{Numbered, at_number, with_number, without_number}
+use Rattle.pv_model.specs.Machine.{Bytes, Numbered, at_number, with_number, without_number}
 use Rattle.pv_model.specs.declared.kind.Kind.{Kind}
 use Rattle.pv_model.specs.declared.version.Version.{Version}
 use Rattle.pv_inodes.specs.Files.{Contained, Files, held, IsUsed, replaced, with_bytes, with_new, without}

@@ -7,9 +7,7 @@ use Rattle.pv_model.specs.declared.version.Version.{Version}
 use Rattle.pv_blocks.proofs.Stores.{count-cleared}
 use Rattle.pv_inodes.proofs.Heads.{length-with_owned, index-is}
 use Rattle.pv_inodes.proofs.Ownership.{changed-same}
-use Rattle.pv_model.specs.Bytes.{Bytes}
-use Rattle.pv_model.specs.Effect.{overwrite, resize}
-use Rattle.pv_model.specs.Room.{greatest_length}
+use Rattle.pv_model.specs.Machine.{Bytes, overwrite, resize, greatest_length}
 use Rattle.pv_blocks.specs.BlockStore.{BlockStore, IsFree, free_count}
 use Rattle.pv_inodes.specs.Files.{Files, IsUsed, bytes_at, HasRoom, with_bytes}
 use Rattle.pv_inodes.specs.Layout.{splice, home, pointer_at, size_at, owned_at, owned_count, most_owned, after_index, pointer_of, wanted, place_of, content_at, with_size, zeros}

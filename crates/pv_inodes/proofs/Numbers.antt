@@ -2,7 +2,7 @@
 use Rattle.std.proofs.Common.{◌≡◌, ℕ, zero, suc, ◌+◌, ◌<◌, ◌≢◌, [], ◌∷◌, length, get_or, set, Option, None, Some, refl, sym, ap, arith}
 use Rattle.std.specs.List.{sum_by}
 use Rattle.std.proofs.lemmas.List.Sums.{sum_by-cons}
-use Rattle.pv_model.specs.Numbered.{Numbered, at_number, with_number, without_number, least_free, present}
+use Rattle.pv_model.specs.Machine.{Numbered, at_number, with_number, without_number, least_free, present}
 
 module _ {X : Type 0} where
   pub at_number-get_or : (xs : Numbered X) (n : ℕ) → at_number xs n ≡ get_or xs n None

@@ -4,7 +4,7 @@ use Rattle.std.proofs.lemmas.Bool.{cases_eq}
 use Rattle.std.proofs.lemmas.List.{get_or-set_same, get_or-set_other, length-set, length-replicate}
 use Rattle.std.proofs.lemmas.Option.{get_or_from_slice_get, slice_get_within}
 use Rattle.pv_model.specs.declared.version.Version.{Version}
-use Rattle.pv_model.specs.Bytes.{Bytes}
+use Rattle.pv_model.specs.Machine.{Bytes}
 use Rattle.pv_blocks.specs.BlockStore.{BlockStore, IsFree, take, with_block}
 use Rattle.pv_inodes.specs.Layout.{block_at, home, kind_at, size_at, pointer_at, owned_at, with_owned, zeros, number, pointer_count, most_owned, after_index, pointer_of}
 use Rattle.pv_inodes.specs.Owning.{changed, IsOwning}

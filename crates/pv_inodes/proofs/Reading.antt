@@ -6,10 +6,7 @@ use Rattle.std.proofs.Math.Seq.{take-add}
 use borrow.Rule.Slice.PartMut.{put_mid}
 use Rattle.std.proofs.lemmas.List.FromFn.{length-map-range_with_len}
 use Rattle.pv_model.specs.declared.version.Version.{Version}
-use Rattle.pv_model.specs.Bytes.{Bytes}
-use Rattle.pv_model.specs.Effect.{resize}
-use Rattle.pv_model.specs.Numbered.{Numbered, least_free}
-use Rattle.pv_model.specs.Room.{greatest_length}
+use Rattle.pv_model.specs.Machine.{Bytes, resize, Numbered, least_free, greatest_length}
 use Rattle.pv_blocks.specs.BlockStore.{BlockStore, free_count}
 use Rattle.pv_inodes.specs.Files.{Contained, Files, IsUsed, bytes_at, total_room, HasRoom, LacksRoom, cut, new_number}
 use Rattle.pv_inodes.specs.Layout.{block_at, kind_at, owned_at, wanted, place_of, content_byte, node_at, nodes_in}

@@ -10,10 +10,8 @@ use Rattle.std.proofs.lemmas.List.Folds.{length-flat_map-take}
 use Rattle.std.proofs.lemmas.List.FromFn.{length-range_with_len, get_or-range_with_len}
 use Rattle.std.proofs.lemmas.Map.Made.{AllPairs-from_IsDistinct}
 use Rattle.pv_model.specs.declared.version.Version.{Version}
-use Rattle.pv_model.specs.Bytes.{Bytes}
-use Rattle.pv_model.specs.Image.{size, used_index, used_content, inode_blocks}
-use Rattle.pv_model.specs.Mount.{kind, used_by}
-use Rattle.pv_model.specs.Room.{greatest_length}
+use Rattle.pv_model.specs.Machine.{Bytes, size, used_index, used_content, inode_blocks, kind, greatest_length}
+use Rattle.pv_model.specs.Mount.{used_by}
 use Rattle.pv_blocks.specs.BlockStore.{blocks_of}
 use Rattle.pv_blocks.proofs.Stores.{length-blocks_of}
 use Rattle.pv_inodes.specs.Images.{AreInodes}

@@ -3,10 +3,7 @@ use Rattle.std.specs.Prelude.{ℕ, zero, suc, ◌<◌, ◌≤◌, [], ◌∷◌,
 use Rattle.pv_model.specs.declared.kind.Kind.{Kind}
 use Rattle.pv_model.specs.declared.kind.Kind.TheVariants.{Directory, File, Executable, Symlink}
 use Rattle.pv_model.specs.declared.version.Version.{Version}
-use Rattle.pv_model.specs.Bytes.{Bytes}
-use Rattle.pv_model.specs.Effect.{overwrite, resize}
-use Rattle.pv_model.specs.Numbered.{Numbered, at_number, with_number, without_number, least_free, present}
-use Rattle.pv_model.specs.Room.{need}
+use Rattle.pv_model.specs.Machine.{Bytes, overwrite, resize, Numbered, at_number, with_number, without_number, least_free, present, need}
 
 -- the kind and the contents of an inode
 pub record Contained : Type 0 where

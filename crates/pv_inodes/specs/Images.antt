@@ -3,10 +3,8 @@ use Rattle.std.specs.Prelude.{ℕ, ◌+◌, ◌-◌, ◌/◌, ◌<◌, ◌≤◌
 use Rattle.std.specs.List.{AllByRecursion, IsDistinct, range_with_len}
 use Rattle.pv_model.specs.declared.version.Version.{Version}
 use Rattle.pv_model.specs.declared.limits.TheConstants.{BLOCK}
-use Rattle.pv_model.specs.Bytes.{Bytes}
-use Rattle.pv_model.specs.Image.{inode_blocks, size, content}
-use Rattle.pv_model.specs.Mount.{kind, is_free, used_by}
-use Rattle.pv_model.specs.Room.{greatest_length}
+use Rattle.pv_model.specs.Machine.{Bytes, inode_blocks, size, content, kind, is_free, greatest_length}
+use Rattle.pv_model.specs.Mount.{used_by}
 use Rattle.pv_inodes.specs.Files.{Contained, Files, sort_of}
 
 -- the blocks that the inodes use

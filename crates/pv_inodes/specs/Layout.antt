@@ -4,8 +4,7 @@ use Rattle.std.specs.List.{range_with_len}
 use Rattle.byteorder.specs.Endian.{little_from, little_bytes}
 use Rattle.pv_model.specs.declared.version.Version.{Version}
 use Rattle.pv_model.specs.declared.limits.TheConstants.{BLOCK}
-use Rattle.pv_model.specs.Bytes.{Bytes}
-use Rattle.pv_model.specs.Image.{inode_length, index_pointers}
+use Rattle.pv_model.specs.Machine.{Bytes, inode_length, index_pointers}
 use Rattle.pv_inodes.specs.Files.{Contained, sort_of}
 
 abbrev pub block_at : List Bytes → ℕ → Bytes

@@ -2,7 +2,7 @@
 use Rattle.std.specs.Prelude.{ℕ, ◌+◌, ◌≤◌}
 use Rattle.pv_model.specs.declared.limits.TheConstants.{INODES}
 use Rattle.pv_model.specs.declared.version.Version.{Version}
-use Rattle.pv_model.specs.Image.{inode_blocks, greatest_blocks}
+use Rattle.pv_model.specs.Machine.{inode_blocks, greatest_blocks}
 
 -- an image of this version may have these numbers of blocks and inodes
 pub record AreImageSizes (v : Version) (blocks inodes : ℕ) : Type 0 where

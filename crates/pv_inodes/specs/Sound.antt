@@ -1,10 +1,8 @@
 -- The invariant of the blocks of files, and the files in them.
 use Rattle.std.specs.Prelude.{◌≡◌, ℕ, suc, ◌+◌, ◌-◌, ◌<◌, ◌≤◌, false, true, length, slice_index_or, slice_set}
-use Rattle.pv_model.specs.Room.{greatest_length}
-use Rattle.pv_model.specs.Image.{inode_blocks}
+use Rattle.pv_model.specs.Machine.{greatest_length, inode_blocks, Bytes}
 use Rattle.pv_model.specs.declared.version.Version.{Version}
 use Rattle.pv_model.specs.declared.limits.TheConstants.{BLOCK}
-use Rattle.pv_model.specs.Bytes.{Bytes}
 use Rattle.pv_blocks.specs.BlockStore.{BlockStore}
 use Rattle.pv_inodes.specs.Files.{Files, IsUsed}
 use Rattle.pv_inodes.specs.Layout.{block_at, kind_at, size_at, owned_at, owned_count, most_owned, nodes_in, splice, with_kind, with_owned, with_size, zeros}

@@ -1,9 +1,7 @@
 //! The inodes of an image and their contents.
 ghost use Rattle.std.specs.Prelude.{◌≡◌, ◌+◌, ◌-◌, ◌*◌, ◌/◌, ◌%◌, ◌<◌, ◌≤◌, ◌≢◌, ◌↔◌, suc, min, false, length, replicate, vec_len, All, take, drop, ◌++◌, IsTrue, None, Some, IsNone, IfNone, IfSome, OnOk, OnErr};
 ghost use Rattle.pv_model.specs.declared.limits.TheConstants.{BLOCK};
-ghost use Rattle.pv_model.specs.Effect.{overwrite, resize};
-ghost use Rattle.pv_model.specs.Image.{inode_blocks};
-ghost use Rattle.pv_model.specs.Room.{greatest_length};
+ghost use Rattle.pv_model.specs.Machine.{overwrite, resize, inode_blocks, greatest_length};
 ghost use Rattle.pv_inodes.specs.Layout.{place_of, wanted};
 ghost use Rattle.pv_inodes.specs.Sizes.{AreImageSizes};
 ghost use Rattle.pv_inodes.specs.Files.{held, IsUsed, bytes_at, sort_at, sort_of, sort_number, total_room, HasRoom, LacksRoom, with_bytes, written, cut, with_new, without, new_number};

@@ -2,7 +2,7 @@
 ghost use Rattle.std.specs.Prelude.{◌≡◌, ◌<◌, ◌≤◌, ◌≢◌, length};
 ghost use Rattle.pv_blocks.specs.BlockStore.{free_count, IsFree, with_block};
 ghost use Rattle.pv_model.specs.declared.version.Version.TheVariants.{V2};
-ghost use Rattle.pv_model.specs.Room.{greatest_length};
+ghost use Rattle.pv_model.specs.Machine.{greatest_length};
 ghost use Rattle.pv_inodes.specs.Layout.{home, kind_at, size_at, pointer_at, pointer_count, pointer_of, after_index, most_owned, owned_at, owned_count, place_of, with_kind, with_size, with_owned, zeros};
 ghost use Rattle.pv_inodes.specs.Sound.{pushed};
 

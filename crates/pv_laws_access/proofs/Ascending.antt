@@ -10,20 +10,7 @@ use Rattle.pv_model.specs.declared.errno.Errno.TheVariants.{EBADF, EFBIG, EISDIR
 use Rattle.pv_model.specs.declared.outcome.Cause.TheVariants.{Promise as ByPromise}
 use Rattle.pv_model.specs.declared.outcome.Outcome.{Outcome}
 use Rattle.pv_model.specs.declared.outcome.Outcome.TheVariants.{Text}
-use Rattle.pv_model.specs.Answer.{answer, answer_by_attempt, at_next_line, with_front, update, effect}
-use Rattle.pv_model.specs.Attempt.{Attempt, done, refused}
-use Rattle.pv_model.specs.Bytes.{Bytes}
-use Rattle.pv_model.specs.Calls.Descriptors.{within, next_name, open_file_for, seek_base, list_name, natural, is_past_greatest, write_end, after_write, read, write, lseek, fstat, ftruncate, getdents, fchdir, directory_of}
-use Rattle.pv_model.specs.Calls.Processes.{with_result, end_process}
-use Rattle.pv_model.specs.Effect.{Effect, Reply, returns, returns_bytes, ends, waits, answers, answers_bytes, open_file, status}
-use Rattle.pv_model.specs.Errno.{errno_number}
-use Rattle.pv_model.specs.Held.{among, collect}
-use Rattle.pv_model.specs.Numbered.{Numbered, at_number, with_number, least_free}
-use Rattle.pv_model.specs.Program.{Next, inside, calls_for, next}
-use Rattle.pv_model.specs.State.{OpenFile, Program, Process, State, reads, writes, process_at, with_process}
-use Rattle.pv_model.specs.Step.{Stepped, step, step_by, run}
-use Rattle.pv_model.specs.Touch.{descriptor_of}
-use Rattle.pv_model.specs.Tree.{entries_at, is_directory_at}
+use Rattle.pv_model.specs.Machine.{answer, answer_by_attempt, at_next_line, with_front, update, effect, Attempt, done, refused, Bytes, within, next_name, open_file_for, seek_base, list_name, natural, is_past_greatest, write_end, after_write, read, write, lseek, fstat, ftruncate, getdents, fchdir, directory_of, with_result, end_process, Effect, Reply, returns, returns_bytes, ends, waits, answers, answers_bytes, open_file, status, errno_number, among, collect, Numbered, at_number, with_number, least_free, Next, inside, calls_for, next, OpenFile, Program, Process, State, reads, writes, process_at, with_process, Stepped, step, step_by, run, descriptor_of, entries_at, is_directory_at}
 use Rattle.pv_laws_trees.proofs.Changes.{entries-good}
 use Rattle.pv_laws_trees.proofs.Entries.{by_name}
 use Rattle.pv_laws_trees.proofs.Numbered.{at_number-below, with_number-same, with_number-other, with_number-other_within, least_free-free, least_free-within, keep-some}
@@ -35,19 +22,19 @@ use Rattle.pv_laws_states.proofs.BySteps.{step-keeps_whole}
 use Rattle.pv_laws_states.proofs.Outcomes.{at_call, by_answer}
 use Rattle.pv_laws_states.proofs.Processes.{files-update}
 use Rattle.pv_laws_states.proofs.Replies.{whole-at_call}
-use Rattle.pv_laws_states.proofs.Rests
+use Rattle.pv_laws_states.proofs.CallRests
 use Rattle.pv_laws_states.proofs.Collect.{files-collect}
-use Rattle.pv_laws_access.proofs.HasEffect.{HasEffect, stays, restrains, begins, closes, copies, forks, reaps, moves, cuts, writes_bytes, makes, links, unlinks, renames, opens, creates, Did}
+use Rattle.pv_laws_access.proofs.CallEffects.{HasEffect, stays, restrains, begins, closes, copies, forks, reaps, moves, cuts, writes_bytes, makes, links, unlinks, renames, opens, creates, Did}
 use Rattle.pv_laws_access.proofs.EffectByCall.{does-effect}
 use Rattle.pv_laws_access.proofs.Ends.{step-is, step-gone}
-use Rattle.pv_laws_access.proofs.Touched.{leads-weaker}
-use Rattle.pv_laws_access.proofs.Next.{NextAmong, next-among, reports-next}
-use Rattle.pv_laws_access.specs.Order.{IsLess, IsPast, IsReported, ReportsTheNext, a_name, none_left, ReportsBy, StaysOpen}
+use Rattle.pv_laws_access.proofs.TouchingCalls.{leads-weaker}
+use Rattle.pv_laws_access.proofs.NextNames.{NextAmong, next-among, reports-next}
+use Rattle.pv_laws_access.specs.Order.{IsSmallerName, IsAfterName, IsReported, ReportsTheNext, a_name, none_left, ReportsBy, StaysOpen}
 
 -- ---- open files whose last name stays or ascends
 
 abbrev Later : OpenFile → OpenFile → Type 0
-Later f g = (g.listed ≡ f.listed) ⊎ ((name : Bytes) × (g.listed ≡ Some name) × IsPast f.listed name)
+Later f g = (g.listed ≡ f.listed) ⊎ ((name : Bytes) × (g.listed ≡ Some name) × IsAfterName f.listed name)
 
 abbrev Ascends : ℕ → Numbered OpenFile → Numbered OpenFile → Type 0
 Ascends k old new = (f g : OpenFile) → at_number old k ≡ Some f → at_number new k ≡ Some g → Later f g
@@ -113,16 +100,16 @@ module _ (s : State) (pid : ℕ) (me : Process) (k : ℕ) where
 
   call-read : (d n : ℤ) → Leads D (read s pid me d n)
   call-read d n =
-      leads-demand D EBADF (open_file_for s pid me reads d) (Rests.read_1 s pid me n) (λ f is.
-      leads-demand D EINVAL (within 4096 n) (Rests.read_2 s pid me f.0 f.1) (λ count low.
-      leads-refuse_if D EISDIR (is_directory_at s.tree f.1.node) (Rests.read_3 s pid me f.0 f.1 count) (λ plain.
+      leads-demand D EBADF (open_file_for s pid me reads d) (CallRests.read_1 s pid me n) (λ f is.
+      leads-demand D EINVAL (within 4096 n) (CallRests.read_2 s pid me f.0 f.1) (λ count low.
+      leads-refuse_if D EISDIR (is_directory_at s.tree f.1.node) (CallRests.read_3 s pid me f.0 f.1 count) (λ plain.
       moved-file k s.files f.0 f.1 _ (open_file_for-at s pid me reads d f.0 f.1 is).0 (inl refl))))
 
   call-lseek : (d by : ℤ) (whence : Whence) → Leads D (lseek s pid me d by whence)
   call-lseek d by whence =
-      leads-demand D EBADF (open_file s me d) (Rests.lseek_1 s pid me by whence) (λ f is.
-      leads-refuse_if D EINVAL (is_directory_at s.tree f.1.node) (Rests.lseek_2 s pid me by whence f.0 f.1) (λ plain.
-      leads-demand D EINVAL (within 2147483647 (pos (seek_base s pid me f.1 whence) +ℤ by)) (Rests.lseek_3 s pid me f.0 f.1) (λ offset low.
+      leads-demand D EBADF (open_file s me d) (CallRests.lseek_1 s pid me by whence) (λ f is.
+      leads-refuse_if D EINVAL (is_directory_at s.tree f.1.node) (CallRests.lseek_2 s pid me by whence f.0 f.1) (λ plain.
+      leads-demand D EINVAL (within 2147483647 (pos (seek_base s pid me f.1 whence) +ℤ by)) (CallRests.lseek_3 s pid me f.0 f.1) (λ offset low.
       moved-file k s.files f.0 f.1 _ (open_file-at s me d f.0 f.1 is) (inl refl))))
 
   written : (f : ℕ × OpenFile) → at_number s.files f.0 ≡ Some f.1 → (count : ℕ) → Ascends k s.files (after_write s pid me f.0 f.1 count).files
@@ -131,9 +118,9 @@ module _ (s : State) (pid : ℕ) (me : Process) (k : ℕ) where
 
   call-write : (d n : ℤ) → Leads D (write s pid me d n)
   call-write d n =
-      leads-demand D EBADF (open_file_for s pid me writes d) (Rests.write_1 s pid me n) (λ f is.
-      leads-demand D EINVAL (within 4096 n) (Rests.write_2 s pid me f.0 f.1) (λ count low.
-      leads-refuse_if D EFBIG (is_past_greatest s.tree (write_end s pid me f.1 count)) (Rests.write_3 s pid me f.0 f.1 count) (λ fine.
+      leads-demand D EBADF (open_file_for s pid me writes d) (CallRests.write_1 s pid me n) (λ f is.
+      leads-demand D EINVAL (within 4096 n) (CallRests.write_2 s pid me f.0 f.1) (λ count low.
+      leads-refuse_if D EFBIG (is_past_greatest s.tree (write_end s pid me f.1 count)) (CallRests.write_3 s pid me f.0 f.1 count) (λ fine.
       leads-room D (after_write s pid me f.0 f.1 count) (λ after. answers after count) (λ long fits.
       written f (open_file_for-at s pid me writes d f.0 f.1 is).0 count))))
 
@@ -142,11 +129,11 @@ module _ (s : State) (pid : ℕ) (me : Process) (k : ℕ) where
 
   call-ftruncate : (d n : ℤ) → Leads D (ftruncate s pid me d n)
   call-ftruncate d n =
-      leads-demand D EBADF (open_file s me d) (Rests.ftruncate_1 s pid me n) (λ f is.
-      leads-refuse_if D EINVAL (not (writes f.1.mode)) (Rests.ftruncate_2 s pid me n f.1) (λ open_for.
-      leads-demand D EINVAL (natural n) (Rests.ftruncate_3 s pid me f.1) (λ size low.
-      leads-refuse_if D EFBIG (is_past_greatest s.tree size) (Rests.ftruncate_4 s pid me f.1 size) (λ fine.
-      leads-room D (Rests.resized s pid me f.1 size) (λ after. answers after 0) (λ long fits. same-files k s.files)))))
+      leads-demand D EBADF (open_file s me d) (CallRests.ftruncate_1 s pid me n) (λ f is.
+      leads-refuse_if D EINVAL (not (writes f.1.mode)) (CallRests.ftruncate_2 s pid me n f.1) (λ open_for.
+      leads-demand D EINVAL (natural n) (CallRests.ftruncate_3 s pid me f.1) (λ size low.
+      leads-refuse_if D EFBIG (is_past_greatest s.tree size) (CallRests.ftruncate_4 s pid me f.1 size) (λ fine.
+      leads-room D (CallRests.resized s pid me f.1 size) (λ after. answers after 0) (λ long fits. same-files k s.files)))))
 
   call-fchdir : (d : ℤ) → Leads D (fchdir s pid me d)
   call-fchdir d =
@@ -155,8 +142,8 @@ module _ (s : State) (pid : ℕ) (me : Process) (k : ℕ) where
   module _ (whole : IsValid s) where
     call-getdents : (d : ℤ) → Leads D (getdents s pid me d)
     call-getdents d =
-        leads-demand D EBADF (open_file s me d) (Rests.getdents_1 s pid me) (λ f is.
-        leads-refuse_if D EINVAL (not (is_directory_at s.tree f.1.node)) (Rests.getdents_2 s pid me f.0 f.1) (λ dir.
+        leads-demand D EBADF (open_file s me d) (CallRests.getdents_1 s pid me) (λ f is.
+        leads-refuse_if D EINVAL (not (is_directory_at s.tree f.1.node)) (CallRests.getdents_2 s pid me f.0 f.1) (λ dir.
         listed f (open_file-at s me d f.0 f.1 is) (next_name f.1.listed (entries_at s.tree f.1.node)) (next-among f.1.listed (entries_at s.tree f.1.node) (entries-good s.tree f.1.node whole.tree.well_formed.each_node).0)))
       where
         listed : (f : ℕ × OpenFile) → at_number s.files f.0 ≡ Some f.1 → (o : Option Bytes) → NextAmong (entries_at s.tree f.1.node) f.1.listed o → Leads D (list_name s pid me f.0 f.1 o)
@@ -231,9 +218,9 @@ reported-once program_of s pid me bytes others a b =
 
 -- a name, or a greater one
 abbrev AtOrPast : Bytes → Bytes → Type 0
-AtOrPast name other = (other ≡ name) ⊎ IsLess name other
+AtOrPast name other = (other ≡ name) ⊎ IsSmallerName name other
 
-at-or-past : (name middle other : Bytes) → AtOrPast name middle → IsLess middle other → IsLess name other
+at-or-past : (name middle other : Bytes) → AtOrPast name middle → IsSmallerName middle other → IsSmallerName name other
 at-or-past name middle other (inl same) less = ap (λ (n : Bytes). by_name n other) (sym same) ∙ less
 at-or-past name middle other (inr past) less = nat_list_cmp_total.trans name middle other past less
 
@@ -256,7 +243,7 @@ module _ (program_of : Bytes → Option Program) (k : ℕ) (name : Bytes) where
         last = next;
         there = there;
         listed = listed;
-        reached = inr (at-or-past name to.last next to.reached (subst (λ o. IsPast o next) to.listed past));
+        reached = inr (at-or-past name to.last next to.reached (subst (λ o. IsAfterName o next) to.listed past));
       }
 
       by : (o : Option OpenFile) → at_number t.files k ≡ o → is_some o ≡ true → IsTo t
@@ -288,20 +275,20 @@ module _ (program_of : Bytes → Option Program) (k : ℕ) (name : Bytes) where
       by (none_left none reported preserved) = absurd (reports.some (reported-once program_of s pid reports.me name [] reports.reported reported))
 
   -- a later step that returns a name through the open file
-  then-past : (s : State) (pid : ℕ) (other : Bytes) → IsValid s → IsTo s → ReportsBy program_of s pid k other → IsLess name other
+  then-past : (s : State) (pid : ℕ) (other : Bytes) → IsValid s → IsTo s → ReportsBy program_of s pid k other → IsSmallerName name other
   then-past s pid other whole to reports = by (reports-next program_of s pid reports.me reports.d k reports.file reports.made reports.opened reports.directory whole)
     where
       same : to.file ≡ reports.file
       same = let both : Some to.file ≡ Some reports.file = sym to.there ∙ open_file-at s reports.me reports.d k reports.file reports.opened in cc both
 
-      by : ReportsTheNext program_of s pid reports.me k reports.file → IsLess name other
+      by : ReportsTheNext program_of s pid reports.me k reports.file → IsSmallerName name other
       by (a_name next least reported preserved) =
-          let past : IsLess to.last next = subst (λ o. IsPast o next) (ap (λ (f : OpenFile). f.listed) (sym same) ∙ to.listed) least.past in
-          subst (IsLess name) (reported-once program_of s pid reports.me next other reported reports.reported) (at-or-past name to.last next to.reached past)
+          let past : IsSmallerName to.last next = subst (λ o. IsAfterName o next) (ap (λ (f : OpenFile). f.listed) (sym same) ∙ to.listed) least.past in
+          subst (IsSmallerName name) (reported-once program_of s pid reports.me next other reported reports.reported) (at-or-past name to.last next to.reached past)
       by (none_left none reported preserved) = absurd (reports.some (reported-once program_of s pid reports.me other [] reports.reported reported))
 
 pub names-ascend : (program_of : Bytes → Option Program) → EncodesPrograms program_of → (s : State) (pid k : ℕ) (name : Bytes) (pids : List ℕ) (last : ℕ) (other : Bytes) → IsValid s
-    → ReportsBy program_of s pid k name → StaysOpen program_of k pids (step program_of s pid).after → ReportsBy program_of (run program_of pids (step program_of s pid).after).final last k other → IsLess name other
+    → ReportsBy program_of s pid k name → StaysOpen program_of k pids (step program_of s pid).after → ReportsBy program_of (run program_of pids (step program_of s pid).after).final last k other → IsSmallerName name other
 names-ascend program_of encodes s pid k name pids last other whole reports remains later =
     let after = (step program_of s pid).after in
     let end = along program_of k name encodes pids after (step-keeps_whole program_of encodes s pid whole) remains (begins-to program_of k name s pid whole reports) in

@@ -3,13 +3,10 @@ use Rattle.std.proofs.Common.{ℕ, Option}
 use Rattle.pv_model.specs.declared.call.Call.{Call}
 use Rattle.pv_model.specs.declared.call.Call.TheVariants.{Exit, GetPid, GetPpid, Fork, Wait, Pledge, Unveil, Execve, Open, OpenAt, Close, Dup, Dup2, Read, Write, Lseek, Fstat, Ftruncate, Getdents, Fchdir, Chdir, Stat, Lstat, Readlink, Mkdir, Symlink, Link, Unlink, Rmdir, Rename}
 use Rattle.pv_model.specs.declared.follow.Follow.TheVariants.{Last, Keep}
-use Rattle.pv_model.specs.Answer.{effect}
-use Rattle.pv_model.specs.Bytes.{Bytes}
+use Rattle.pv_model.specs.Machine.{effect, Bytes, returns, ends, Program, Process, State}
 use Rattle.pv_model.specs.Calls.Processes.{exit_status}
-use Rattle.pv_model.specs.Effect.{returns, ends}
-use Rattle.pv_model.specs.State.{Program, Process, State}
 use Rattle.pv_laws_states.proofs.Attempts.{Leads}
-use Rattle.pv_laws_access.proofs.HasEffect.{stays, Did}
+use Rattle.pv_laws_access.proofs.CallEffects.{stays, Did}
 use Rattle.pv_laws_access.proofs.EffectByOpen.{does-open, does-open_at}
 use Rattle.pv_laws_access.proofs.EffectByProcess.{does-fork, does-wait, does-pledge, does-unveil, does-execve, does-chdir, does-stat, does-readlink, does-fstat, does-fchdir, does-close, does-dup, does-dup2, does-lseek, does-read, does-getdents}
 use Rattle.pv_laws_access.proofs.EffectByTree.{does-mkdir, does-symlink, does-link, does-unlink, does-rmdir, does-rename, does-write, does-ftruncate}

@@ -7,26 +7,15 @@ use Rattle.pv_model.specs.declared.instruction.Instruction.{Instruction}
 use Rattle.pv_model.specs.declared.instruction.Instruction.TheVariants as Line
 use Rattle.pv_model.specs.declared.outcome.Outcome.TheVariants.{Killed}
 use Rattle.pv_model.specs.declared.promise.Promise.{Promise}
-use Rattle.pv_model.specs.Answer.{answer_by_attempt, at_next_line, update_live, update}
-use Rattle.pv_model.specs.Attempt.{Attempt, done, refused}
-use Rattle.pv_model.specs.Bytes.{Bytes}
-use Rattle.pv_model.specs.Calls.Processes.{is_unclaimed, adopter, end_process}
-use Rattle.pv_model.specs.Effect.{Effect, returns, returns_bytes, ends, waits}
-use Rattle.pv_model.specs.Held.{collect}
-use Rattle.pv_model.specs.Program.{jump_if, Next, inside, calls_for, perform, next_by, next}
-use Rattle.pv_model.specs.State.{Program, Process, ProcessRecord, live, ended_record, State, process_at, live_process}
-use Rattle.pv_model.specs.Step.{step, step_of, step_by}
-use Rattle.pv_laws_states.specs.States.{is_number, IsValid}
-use Rattle.pv_laws_states.proofs.Ending.{mapped, sorted-mapped, found-mapped, mapped-found, found-filtered, filtered-found, adopted, map-adopt, adopted-live, live-adopted}
+use Rattle.pv_model.specs.Machine.{answer_by_attempt, at_next_line, update_live, update, Attempt, done, refused, Bytes, is_unclaimed, adopter, end_process, Effect, returns, returns_bytes, ends, waits, collect, jump_if, Next, inside, calls_for, perform, next_by, next, Program, Process, ProcessRecord, live, ended_record, State, process_at, live_process, step, step_of, step_by}
+use Rattle.pv_laws_states.specs.States.{is_process_number, IsValid}
+use Rattle.pv_laws_states.proofs.ValidEnds.{mapped, sorted-mapped, found-mapped, mapped-found, found-filtered, filtered-found, adopted, map-adopt, adopted-live, live-adopted}
 use Rattle.pv_laws_states.proofs.Members.{find_number-list_all, live-found}
 use Rattle.pv_laws_states.proofs.Outcomes.{at_call}
 use Rattle.pv_laws_states.proofs.Processes.{find-put_same, find-put_other, process_at-same, process_at-other, update-is}
 use Rattle.pv_laws_states.proofs.Collect.{processes-collect}
-use Rattle.pv_laws_states.proofs.Whole.{sorted-put_number}
+use Rattle.pv_laws_states.proofs.ValidStates.{sorted-put_number}
 use Rattle.pv_laws_access.specs.Growth.{HasTheSame, IsInOrder, IsLeftAlone}
-
-pub same-itself : (p : Process) → HasTheSame p p
-same-itself p = record { promises = refl; execpromises = refl; table = refl; locked = refl; descriptors = refl }
 
 pub alone-itself : (p : Process) → IsLeftAlone p p
 alone-itself p = record { all = refl }
@@ -58,7 +47,7 @@ whole-in_order s whole = record { ascending = whole.processes.ascending; next_is
     by : (o : Option ProcessRecord) → find nat_cmp (suc s.last_process) s.processes ≡ o → o ≡ None
     by None none = refl
     by (Some r) found =
-        let number = find_number-list_all (is_number s.last_process) (suc s.last_process) r s.processes whole.processes.numbers found in
+        let number = find_number-list_all (is_process_number s.last_process) (suc s.last_process) r s.processes whole.processes.numbers found in
         absurd (omega (arith, leb-true (suc s.last_process) s.last_process (and_parts (nat_le 1 (suc s.last_process)) _ number).1))
 
 -- the number of a live process is not the next process number

@@ -1,67 +1,71 @@
 -- Lemmas about access control.
--- - Rights: Narrowing (promises and tables), Ends, Callers (the caller and other processes after a call), Images (one
---   program image), Frames and Framed (open files), Promised and Missing (missing promises), Refused, Inherited
---   (descendants), Ended (exit and kills).
--- - Effects: HasEffect (the possible effects of a call, in sixteen cases), EffectByProcess, EffectByTree, EffectByOpen,
---   EffectByCall; Touched (from a touch to an effect), Changed (changes of trees).
--- - Justification: JustFiles, JustGains, JustReporting, JustReads.
--- - Secrecy: Near and NearCalls (states that differ in one file's bytes), Closed, Verdicts (audits), Brought (new
---   names), Provenance, Confinement, Preserved (governing entries), Invariant (one step), ForEver (runs).
--- - Refusals: Judged (decisions), Decided (the last walk decides), TableSays (UNVL lines), Firsts (orders of promises),
---   Spared and Pledged (promises).
--- - Names: Named, Moved (permissions that come with names), Next and Ascending (getdents), Listed (listings).
--- - Examples by computation: ExampleRuns, EndExampleRuns, Held, RefusalExampleRuns, NameExampleRuns, Reported.
+-- - Rights: Narrowing (promises and tables), Ends, ImageGrowth (the caller and other processes after a call),
+--   ProgramImages (one program image), OtherOpenFiles and OpenFilesAfterSteps (open files), PromiseLimits and
+--   MissingPromises (missing promises), RefusedSteps, Inheritance (descendants), StatesAfterEnds (exit and kills).
+-- - Effects: CallEffects (the possible effects of a call, in sixteen cases), EffectByProcess, EffectByTree, EffectByOpen,
+--   EffectByCall; TouchingCalls (from a touch to an effect), ChangedTrees (changes of trees).
+-- - Justification: JustifiedChanges, JustifiedGains, JustifiedReports, JustifiedReads.
+-- - Secrecy: SimilarTrees and SimilarCalls (states that differ in one file's bytes), ClosedProcesses, Verdicts
+--   (audits), NameOrigins (new names), Provenance, Confinement, GoverningEntries (governing entries), SealedSteps (one
+--   step), SealedRuns (runs), OwnRuns (runs of one process).
+-- - Refusals: Judgements (decisions), Decisions (the last walk decides), TableLines (UNVL lines), FirstMissing (orders
+--   of promises), PledgeRefusals and PromiseRefusals (promises).
+-- - Names: NamingCalls, MovedPermissions (permissions that come with names), NextNames and Ascending (getdents),
+--   ListingOrder (listings).
+-- - Examples by computation: ExampleRuns, EndExampleRuns, DescentExampleRuns, RefusalExampleRuns, NameExampleRuns,
+--   NamesExampleRuns.
 pub mod Narrowing
-pub mod HasEffect
+pub mod CallEffects
 pub mod EffectByProcess
 pub mod EffectByTree
 pub mod EffectByOpen
 pub mod EffectByCall
 pub mod Ends
-pub mod Callers
-pub mod Images
-pub mod Changed
-pub mod Touched
-pub mod JustFiles
-pub mod JustGains
-pub mod JustReporting
-pub mod Near
-pub mod NearCalls
-pub mod JustReads
+pub mod ImageGrowth
+pub mod ProgramImages
+pub mod ChangedTrees
+pub mod TouchingCalls
+pub mod JustifiedChanges
+pub mod JustifiedGains
+pub mod JustifiedReports
+pub mod SimilarTrees
+pub mod SimilarCalls
+pub mod JustifiedReads
 pub mod ExampleRuns
-pub mod Closed
-pub mod Frames
+pub mod ClosedProcesses
+pub mod OtherOpenFiles
 pub mod Verdicts
-pub mod Promised
+pub mod PromiseLimits
 -- ---- effects on others
-pub mod Ended
-pub mod Framed
+pub mod StatesAfterEnds
+pub mod OpenFilesAfterSteps
 pub mod EndExampleRuns
 -- ---- secrecy along runs
-pub mod Brought
+pub mod NameOrigins
 pub mod Provenance
 pub mod Confinement
-pub mod Preserved
-pub mod Invariant
-pub mod ForEver
+pub mod GoverningEntries
+pub mod SealedSteps
+pub mod SealedRuns
+pub mod OwnRuns
 -- ---- the sandbox
-pub mod Judged
-pub mod Inherited
-pub mod Missing
-pub mod Refused
-pub mod Held
+pub mod Judgements
+pub mod Inheritance
+pub mod MissingPromises
+pub mod RefusedSteps
+pub mod DescentExampleRuns
 -- ---- refusals
-pub mod Decided
-pub mod TableSays
-pub mod Firsts
-pub mod Spared
-pub mod Pledged
+pub mod Decisions
+pub mod TableLines
+pub mod FirstMissing
+pub mod PledgeRefusals
+pub mod PromiseRefusals
 pub mod RefusalExampleRuns
 -- ---- names and their order
-pub mod Named
-pub mod Moved
-pub mod Next
+pub mod NamingCalls
+pub mod MovedPermissions
+pub mod NextNames
 pub mod Ascending
-pub mod Listed
+pub mod ListingOrder
 pub mod NameExampleRuns
-pub mod Reported
+pub mod NamesExampleRuns

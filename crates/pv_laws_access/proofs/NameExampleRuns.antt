@@ -1,29 +1,24 @@
 -- The tables of three worked runs, by computation.
-use Rattle.std.proofs.Common.{ℕ, zero, suc, [], Option, None, Some, refl}
+use Rattle.std.proofs.Common.{ℕ, zero, suc, None, Some, refl}
 use Rattle.std.specs.Prelude.{codes}
 use Rattle.pv_model.specs.declared.place.Place.TheVariants.{At}
-use Rattle.pv_model.specs.OnLiterals.{machine_on_literals}
-use Rattle.pv_model.specs.State.{Process, first_process, process_at}
-use Rattle.pv_model.specs.Unveil.{Table, permissions_at}
+use Rattle.pv_model.specs.Machine.{machine_on_literals, Process, process_at, Table, permissions_at}
 use Rattle.pv_laws_access.specs.Moves.{gives_any}
-use Rattle.pv_laws_access.specs.NameExamples.{state_after, shut, moving, linking, table_of, MoveExamples}
+use Rattle.pv_laws_access.specs.NameExamples.{state_after_steps, shut, renaming_readable, linking_readable, entries_of_process, MoveExamples}
 use Rattle.std.proofs.Common.{◌≡◌, false}
-
-abbrev pub or_first : Option Process → Process
-or_first None = first_process []
-or_first (Some p) = p
+use Rattle.pv_laws_states.proofs.ExampleStates.{or_first}
 
 abbrev mover : Process
-mover = or_first (process_at (state_after moving 5) 1)
+mover = or_first (process_at (state_after_steps renaming_readable 5) 1)
 
 abbrev linker : Process
-linker = or_first (process_at (state_after linking 5) 1)
+linker = or_first (process_at (state_after_steps linking_readable 5) 1)
 
 abbrev first : Process
-first = or_first (process_at (state_after shut 3) 1)
+first = or_first (process_at (state_after_steps shut 3) 1)
 
 abbrev its_table : Table
-its_table = table_of (process_at (state_after shut 3) 1)
+its_table = entries_of_process (process_at (state_after_steps shut 3) 1)
 
 none-given : (k : ℕ) → gives_any (permissions_at its_table k) ≡ false
 unfolding machine_on_literals

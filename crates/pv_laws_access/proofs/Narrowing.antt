@@ -11,13 +11,11 @@ use Rattle.pv_model.specs.declared.perms.Perms.{Perms}
 use Rattle.pv_model.specs.declared.promise.Promise.{Promise}
 use Rattle.pv_model.specs.declared.promise.Promise.TheVariants.{Stdio, Rpath, Wpath, Cpath, Proc, Exec, Unveil, Error, Dpath, Fattr, Chown, Flock, Unix, Inet, Mcast, Dns, Getpw, Sendfd, Recvfd, Tape, Tty, ProtExec, Settime, Ps, Vminfo, Id, Pf, Route, Wroute, Audio, Video, Bpf}
 use Rattle.pv_model.specs.declared.target.Target.{Target}
-use Rattle.pv_model.specs.Attempt.{refused, give, refuse}
-use Rattle.pv_model.specs.Calls.Restraints.{unless_refused, entries_of_table, add_entry}
-use Rattle.pv_model.specs.Perms.{covers}
-use Rattle.pv_model.specs.Promise.{all_promises, promise_bit}
-use Rattle.pv_model.specs.Promises.{Promises, mask, contains, first_increase, unless_increase, narrow_promises}
-use Rattle.pv_model.specs.State.{Process}
-use Rattle.pv_model.specs.Unveil.{Table, same_target, entry_for, permissions_of, permissions_at, with_permissions}
+use Rattle.pv_model.specs.Machine.{refused, give, refuse, unless_refused, entries_of_table, covers, all_promises, Promises, contains, narrow_promises, Process, Table, same_target, entry_for, permissions_at, with_permissions}
+use Rattle.pv_model.specs.Calls.Restraints.{add_entry}
+use Rattle.pv_model.specs.Promise.{promise_bit}
+use Rattle.pv_model.specs.Promises.{mask, first_increase, unless_increase}
+use Rattle.pv_model.specs.Unveil.{permissions_of}
 use Rattle.pv_laws_states.proofs.Attempts.{Leads}
 use Rattle.pv_laws_trees.proofs.Targets.{same_target-same}
 use Rattle.pv_laws_access.specs.Growth.{GainsNone, IsLesserEntry, KeepsEntries, KeepsTable, MayDoNoMore, HasTheSame}

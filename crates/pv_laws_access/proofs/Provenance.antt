@@ -10,40 +10,29 @@ use Rattle.pv_model.specs.declared.open_flags.OpenFlags.{OpenFlags}
 use Rattle.pv_model.specs.declared.outcome.Outcome.{Outcome}
 use Rattle.pv_model.specs.declared.outcome.Outcome.TheVariants.{Value}
 use Rattle.pv_model.specs.declared.place.Place.{Place}
-use Rattle.pv_model.specs.Answer.{at_next_line, update}
-use Rattle.pv_model.specs.Bytes.{Bytes}
+use Rattle.pv_model.specs.Machine.{at_next_line, update, Bytes, child, with_program, end_process, Reply, node_of, among, needs, permissions_of_open, Numbered, at_number, Next, calls_for, next, missing_promise, OpenFile, Program, Process, live, ended_record, State, process_at, with_process, Stepped, step, step_by, flags_of, IsAllowed, Touches, gain_descriptor, new_number}
 use Rattle.pv_model.specs.Closed.{HasOn}
-use Rattle.pv_model.specs.Calls.Processes.{child, with_program, end_process}
-use Rattle.pv_model.specs.Effect.{Reply, node_of}
-use Rattle.pv_model.specs.Held.{among}
-use Rattle.pv_model.specs.Needs.{needs, permissions_of_open}
-use Rattle.pv_model.specs.Numbered.{Numbered, at_number}
-use Rattle.pv_model.specs.Program.{Next, calls_for, next}
-use Rattle.pv_model.specs.Promises.{missing_promise}
-use Rattle.pv_model.specs.State.{OpenFile, Program, Process, live, ended_record, State, process_at, with_process}
-use Rattle.pv_model.specs.Step.{Stepped, step, step_by}
-use Rattle.pv_model.specs.Touch.{flags_of, IsAllowed, Touches, gain_descriptor, gain_by_open}
-use Rattle.pv_model.specs.Tree.{new_number}
+use Rattle.pv_model.specs.Touch.{gain_by_open}
 use Rattle.pv_laws_states.specs.Held.{used}
 use Rattle.pv_laws_states.specs.States.{IsValid}
 use Rattle.pv_laws_trees.proofs.Numbered.{keep-some}
-use Rattle.pv_laws_states.proofs.Ending.{mapped, sorted-mapped, found-mapped, found-filtered, adopted, map-adopt, live-adopted}
+use Rattle.pv_laws_states.proofs.ValidEnds.{mapped, sorted-mapped, found-mapped, found-filtered, adopted, map-adopt, live-adopted}
 use Rattle.pv_laws_states.proofs.Members.{live-found, found-live}
 use Rattle.pv_laws_states.proofs.Outcomes.{at_call, by_answer}
 use Rattle.pv_laws_states.proofs.Processes.{find-put_other, process_at-same, process_at-other, files-update}
 use Rattle.pv_laws_states.proofs.Replies.{whole-at_call}
-use Rattle.pv_laws_states.proofs.Present.{IsFinePlace}
+use Rattle.pv_laws_states.proofs.ChangedStates.{IsFinePlace}
 use Rattle.pv_laws_states.proofs.Collect.{files-collect}
-use Rattle.pv_laws_states.proofs.Whole.{sorted-put_number}
+use Rattle.pv_laws_states.proofs.ValidStates.{sorted-put_number}
 use Rattle.pv_laws_access.specs.Growth.{MayDoNoMore, HasTheSame, HasExecuted, begins_image}
-use Rattle.pv_laws_access.proofs.HasEffect
+use Rattle.pv_laws_access.proofs.CallEffects
 use Rattle.pv_laws_access.proofs.Ends.{process_at-collect, update-other, put_away, heir, claimed, whole-in_order, alone-same, step-is, step-gone}
-use Rattle.pv_laws_access.proofs.Frames.{others-files}
-use Rattle.pv_laws_access.proofs.Images.{grows-never, others-keep, execve-leaves}
-use Rattle.pv_laws_access.proofs.JustGains.{Opens, opens-has, gains-opened}
+use Rattle.pv_laws_access.proofs.OtherOpenFiles.{others-files}
+use Rattle.pv_laws_access.proofs.ProgramImages.{grows-never, others-keep, execve-leaves}
+use Rattle.pv_laws_access.proofs.JustifiedGains.{Opens, opens-has, gains-opened}
 use Rattle.pv_laws_access.proofs.Narrowing.{no_more-of_same}
 use Rattle.pv_laws_access.specs.Justice.{IsExplained}
-use Rattle.pv_laws_access.proofs.Touched.{touched, allowed-back}
+use Rattle.pv_laws_access.proofs.TouchingCalls.{touched, allowed-back}
 use Rattle.pv_laws_access.specs.Origins.{IsHeirOf, origin}
 
 -- ---- a process that was not live before is a child
@@ -60,13 +49,13 @@ module _ (s : State) (pid : ℕ) (me : Process) (call : Call) (k : ℕ) (q : Pro
   beside : (p : Process) → process_at (with_process s pid p) k ≡ Some q → (files : Numbered OpenFile) → IsBorn files
   beside p there files = still (sym (process_at-other s pid p k apart) ∙ there) files
 
-  pub born-by : (after : State) (r : Reply) → HasEffect.HasEffect s pid me call after r → is_sorted nat_cmp s.processes ≡ true → process_at after k ≡ Some q → IsBorn after.files
-  born-by _ _ (HasEffect.stays r waiting) ascending there = still there s.files
-  born-by _ _ (HasEffect.restrains p r no_more same parent table goes) ascending there = beside p there _
-  born-by _ _ (HasEffect.begins path program is) ascending there = beside (with_program s pid me program) there _
-  born-by _ _ (HasEffect.closes d) ascending there = beside _ there _
-  born-by _ _ (HasEffect.copies e x n is) ascending there = beside _ there _
-  born-by _ _ (HasEffect.forks is) ascending there =
+  pub born-by : (after : State) (r : Reply) → CallEffects.HasEffect s pid me call after r → is_sorted nat_cmp s.processes ≡ true → process_at after k ≡ Some q → IsBorn after.files
+  born-by _ _ (CallEffects.stays r waiting) ascending there = still there s.files
+  born-by _ _ (CallEffects.restrains p r no_more same parent table goes) ascending there = beside p there _
+  born-by _ _ (CallEffects.begins path program is) ascending there = beside (with_program s pid me program) there _
+  born-by _ _ (CallEffects.closes d) ascending there = beside _ there _
+  born-by _ _ (CallEffects.copies e x n is) ascending there = beside _ there _
+  born-by _ _ (CallEffects.forks is) ascending there =
       ⊎_elim
       (λ here.
       let both : Some (child s pid me) ≡ Some q = sym (process_at-same s (suc s.last_process) (child s pid me)) ∙ ap (process_at (with_process s (suc s.last_process) (child s pid me))) (sym here) ∙ there in
@@ -74,19 +63,19 @@ module _ (s : State) (pid : ℕ) (me : Process) (call : Call) (k : ℕ) (q : Pro
       (subst (HasTheSame me) same (record { promises = refl; execpromises = refl; table = refl; locked = refl; descriptors = refl }), refl, is))
       (λ away. still (sym (process_at-other s (suc s.last_process) (child s pid me) k away) ∙ there) _)
       (cases_eq k (suc s.last_process))
-  born-by _ _ (HasEffect.reaps j r ended goes) ascending there =
+  born-by _ _ (CallEffects.reaps j r ended goes) ascending there =
       still
       (found-live s k q
       (found-filtered (λ e. not (e.0 == j)) s.processes ascending k (live q) (live-found (record s { processes = where_key nat_cmp (λ other. not (other == j)) s.processes }) k q there)).0) _
-  born-by _ _ (HasEffect.moves j old new r was node mode named goes) ascending there = still there _
-  born-by _ _ (HasEffect.cuts f bytes own) ascending there = still there _
-  born-by _ _ (HasEffect.writes_bytes f bytes j old new n own was node mode named) ascending there = still there _
-  born-by _ _ (HasEffect.makes place p node change free bare) ascending there = still there _
-  born-by _ _ (HasEffect.links place p old n change allowed is fine) ascending there = still there _
-  born-by _ _ (HasEffect.unlinks place p change) ascending there = still there _
-  born-by _ _ (HasEffect.renames place p next r n from into is) ascending there = still there _
-  born-by _ _ (HasEffect.opens flags place n m flagged allowed is fine written) ascending there = beside _ there _
-  born-by _ _ (HasEffect.creates flags place p m flagged allowed create named free fine) ascending there = beside _ there _
+  born-by _ _ (CallEffects.moves j old new r was node mode named goes) ascending there = still there _
+  born-by _ _ (CallEffects.cuts f bytes own) ascending there = still there _
+  born-by _ _ (CallEffects.writes_bytes f bytes j old new n own was node mode named) ascending there = still there _
+  born-by _ _ (CallEffects.makes place p node change free bare) ascending there = still there _
+  born-by _ _ (CallEffects.links place p old n change allowed is fine) ascending there = still there _
+  born-by _ _ (CallEffects.unlinks place p change) ascending there = still there _
+  born-by _ _ (CallEffects.renames place p next r n from into is) ascending there = still there _
+  born-by _ _ (CallEffects.opens flags place n m flagged allowed is fine written) ascending there = beside _ there _
+  born-by _ _ (CallEffects.creates flags place p m flagged allowed create named free fine) ascending there = beside _ there _
 
 -- a process that is live after the end of another was live before
 ended-was : (s : State) (pid : ℕ) (me : Process) (status : ℕ) → is_sorted nat_cmp s.processes ≡ true → (k : ℕ) (q : Process) → k ≢ pid → process_at (end_process s pid me status) k ≡ Some q
@@ -174,7 +163,7 @@ module _ (program_of : Bytes → Option Program) (s : State) (pid : ℕ) (whole 
     -- the descriptors that it opens
     gained : (n : ℕ) (mode : Mode) → Opens after.files q.descriptors n mode → (Opens s.files p.descriptors n mode → ⊥) → IsCalled s pid p (λ call. IsGained s p call n mode)
     gained n mode now before =
-        let touch : Touches program_of s pid (gain_descriptor n mode) = (opens-has after pid n mode q there now, λ had. before (Rattle.pv_laws_access.proofs.JustGains.has-opens s pid n mode had p at)) in
+        let touch : Touches program_of s pid (gain_descriptor n mode) = (opens-has after pid n mode q there now, λ had. before (Rattle.pv_laws_access.proofs.JustifiedGains.has-opens s pid n mode had p at)) in
         let e = gains-opened program_of s pid n mode whole touch in
         let both : Some e.me ≡ Some p = sym e.at ∙ at in
         let same : e.me ≡ p = cc both in

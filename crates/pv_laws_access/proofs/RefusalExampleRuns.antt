@@ -1,6 +1,6 @@
 -- The refusals of two worked runs, by computation.
 use Rattle.std.proofs.Common.{refl}
-use Rattle.pv_model.specs.OnLiterals.{machine_on_literals}
+use Rattle.pv_model.specs.Machine.{machine_on_literals}
 use Rattle.pv_laws_access.specs.RefusalExamples.{RefusalExamples}
 
 pub refusals-happen : RefusalExamples

@@ -14,17 +14,11 @@ use Rattle.pv_model.specs.declared.verdict.Verdict.{Verdict}
 use Rattle.pv_model.specs.declared.verdict.Verdict.TheVariants as TheVerdict
 use Rattle.pv_model.specs.declared.verdict.Why.{Why}
 use Rattle.pv_model.specs.declared.verdict.Why.TheVariants.{Reads, NoTable, NotLocked, Gives, Above, Exec}
-use Rattle.pv_model.specs.Bytes.{Bytes, is_empty}
+use Rattle.pv_model.specs.Machine.{Bytes, is_empty, live_processes, at_number, numbered, Promises, contains, OpenFile, Descriptor, Process, State, reads, writes, names_of, ancestors, IsWellFormed, Table, entry_for, permissions_at, directory_rights}
 use Rattle.pv_model.specs.Closed
-use Rattle.pv_model.specs.Held.{live_processes}
-use Rattle.pv_model.specs.Numbered.{at_number, numbered}
-use Rattle.pv_model.specs.Promises.{Promises, contains}
 use Rattle.pv_model.specs.Sealed
-use Rattle.pv_model.specs.State.{OpenFile, Descriptor, Process, State, reads, writes}
-use Rattle.pv_model.specs.Tree.{names_of, ancestors, IsWellFormed}
-use Rattle.pv_model.specs.Unveil.{Table, entry_for, permissions_at, directory_rights}
 use Rattle.pv_model.proofs.Rights.{Governs-directory_rights, directory_rights-Governs}
-use Rattle.pv_laws_trees.proofs.Above.{ancestors-above}
+use Rattle.pv_laws_trees.proofs.Ancestors.{ancestors-above}
 use Rattle.pv_laws_trees.proofs.Trees.{IsOrdered, ordered, sound}
 use Rattle.pv_laws_access.specs.Reasons.{IsFirstReason, IsFirstLeak, IsExact}
 use Rattle.pv_laws_trees.proofs.Members.{In, empty-from, none-in, in-map, map-in, in-filter, filter-in, in-preserved, preserved-in, in-flat, flat-in, any-in, in-any, least-in, least-low, numbered-at, at-numbered, entry-in, in-entry}

@@ -1,10 +1,7 @@
 -- What descendants inherit through any forks and execves: pledge(2), unveil(2).
 use Rattle.std.specs.Prelude.{◌≡◌, ℕ, IsTrue, List, [], ◌∷◌, Option, Some, is_some}
-use Rattle.pv_model.specs.Bytes.{Bytes}
+use Rattle.pv_model.specs.Machine.{Bytes, Program, Process, State, process_at, step, run, Table}
 use Rattle.pv_model.specs.Closed.{IsHeldOverExec}
-use Rattle.pv_model.specs.State.{Program, Process, State, process_at}
-use Rattle.pv_model.specs.Step.{step, run}
-use Rattle.pv_model.specs.Unveil.{Table}
 use Rattle.pv_laws_states.specs.States.{EncodesPrograms, IsValid}
 use Rattle.pv_laws_access.specs.Growth.{GainsNone}
 use Rattle.pv_laws_access.specs.Origins.{origin}

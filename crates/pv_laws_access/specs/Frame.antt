@@ -4,12 +4,7 @@ use Rattle.pv_model.specs.declared.call.Call.{Call}
 use Rattle.pv_model.specs.declared.open_flags.OpenFlags.{OpenFlags}
 use Rattle.pv_model.specs.declared.outcome.Outcome.{Outcome}
 use Rattle.pv_model.specs.declared.outcome.Outcome.TheVariants.{Killed, Exited}
-use Rattle.pv_model.specs.Bytes.{Bytes}
-use Rattle.pv_model.specs.Numbered.{at_number, least_free}
-use Rattle.pv_model.specs.Program.{calls_for, next}
-use Rattle.pv_model.specs.State.{OpenFile, Descriptor, Program, Process, State, process_at}
-use Rattle.pv_model.specs.Step.{step}
-use Rattle.pv_model.specs.Touch.{flags_of}
+use Rattle.pv_model.specs.Machine.{Bytes, at_number, least_free, calls_for, next, OpenFile, Descriptor, Program, Process, State, process_at, step, flags_of}
 use Rattle.pv_laws_access.specs.Growth.{IsInOrder, IsSameFile, IsNamedBy}
 
 -- the origin of an open file after a step: it is unchanged; or the call names it by a descriptor of its process, and

@@ -9,16 +9,7 @@ use Rattle.pv_model.specs.declared.outcome.Outcome.TheVariants.{Value}
 use Rattle.pv_model.specs.declared.perms.Perms.{Perms}
 use Rattle.pv_model.specs.declared.promise.Promise.{Promise}
 use Rattle.pv_model.specs.declared.target.Target.{Target}
-use Rattle.pv_model.specs.Bytes.{Bytes}
-use Rattle.pv_model.specs.Effect.{open_file}
-use Rattle.pv_model.specs.Numbered.{at_number}
-use Rattle.pv_model.specs.Perms.{covers}
-use Rattle.pv_model.specs.Program.{Next, calls_for, next}
-use Rattle.pv_model.specs.Promises.{Promises, contains}
-use Rattle.pv_model.specs.State.{OpenFile, Descriptor, Program, Process, State, process_at}
-use Rattle.pv_model.specs.Step.{step, run}
-use Rattle.pv_model.specs.Touch.{descriptor_of}
-use Rattle.pv_model.specs.Unveil.{Table}
+use Rattle.pv_model.specs.Machine.{Bytes, open_file, at_number, covers, Next, calls_for, next, Promises, contains, OpenFile, Descriptor, Program, Process, State, process_at, step, run, descriptor_of, Table}
 use Rattle.pv_laws_states.specs.States.{EncodesPrograms, IsValid}
 
 -- promises that are set stay set and gain no keyword

@@ -4,12 +4,8 @@ use Rattle.pv_model.specs.declared.call.Call.{Call}
 use Rattle.pv_model.specs.declared.call.Call.TheVariants.{Execve, Open, OpenAt, Read, Write, Lseek, Fstat, Ftruncate, Stat, Lstat}
 use Rattle.pv_model.specs.declared.call.Whence.TheVariants.{End}
 use Rattle.pv_model.specs.declared.open_flags.Mode.{Mode}
-use Rattle.pv_model.specs.Bytes.{Bytes}
-use Rattle.pv_model.specs.Needs.{needs}
-use Rattle.pv_model.specs.Program.{calls_for, next}
-use Rattle.pv_model.specs.Promises.{missing_promise}
-use Rattle.pv_model.specs.State.{Program, Process, State, process_at}
-use Rattle.pv_model.specs.Touch.{Touch, read_file, change_entry, change_file, report_node, gain_descriptor, Touches, Justifies, IsJustified}
+use Rattle.pv_model.specs.Machine.{Bytes, needs, calls_for, next, missing_promise, Program, Process, State, process_at, read_file, change_file, report_node, gain_descriptor, Touches, Justifies}
+use Rattle.pv_model.specs.Touch.{Touch, change_entry, IsJustified}
 use Rattle.pv_laws_states.specs.States.{IsValid}
 
 -- a touch is justified by the call of its process, whose promises are held

@@ -8,16 +8,9 @@ use Rattle.pv_model.specs.declared.outcome.Cause.TheVariants.{Promise as ByPromi
 use Rattle.pv_model.specs.declared.outcome.Outcome.TheVariants.{Failed, Killed}
 use Rattle.pv_model.specs.declared.promise.Promise.{Promise}
 use Rattle.pv_model.specs.declared.promise.Promise.TheVariants.{Rpath, Wpath, Cpath, Proc, Exec, Unveil}
-use Rattle.pv_model.specs.Bytes.{Bytes}
-use Rattle.pv_model.specs.Needs.{needs}
-use Rattle.pv_model.specs.Program.{calls_for, next}
-use Rattle.pv_model.specs.Promises.{is_lenient, missing_promise}
+use Rattle.pv_model.specs.Machine.{Bytes, needs, calls_for, next, is_lenient, missing_promise, Program, Process, State, reads, writes, process_at, step, read_file, change_file, report_node, Touches, node_at, walks_of}
 use Rattle.pv_model.specs.Sealed.{is_pledged_without}
-use Rattle.pv_model.specs.State.{Program, Process, State, reads, writes, process_at}
-use Rattle.pv_model.specs.Step.{step}
-use Rattle.pv_model.specs.Touch.{Touch, read_file, change_file, report_node, Touches, HasDescriptor, any_mode, lists_names}
-use Rattle.pv_model.specs.Tree.{node_at}
-use Rattle.pv_model.specs.Walks.{walks_of}
+use Rattle.pv_model.specs.Touch.{Touch, HasDescriptor, any_mode, lists_names}
 use Rattle.pv_laws_states.specs.States.{IsValid}
 use Rattle.pv_laws_access.specs.Growth.{begins_image}
 

@@ -9,6 +9,7 @@ pub mod EndExamples
 pub mod Frame
 pub mod Origins
 pub mod Sealing
+pub mod OwnRuns
 pub mod Lacking
 pub mod Tables
 pub mod Descent

@@ -2,12 +2,8 @@
 use Rattle.std.specs.Prelude.{◌≡◌, ℕ, IsTrue, [], ◌∷◌, Option, Some}
 use Rattle.pv_model.specs.declared.open_flags.Mode.{Mode}
 use Rattle.pv_model.specs.declared.promise.Promise.TheVariants.{Rpath, Wpath, Cpath}
-use Rattle.pv_model.specs.Bytes.{Bytes}
+use Rattle.pv_model.specs.Machine.{Bytes, Program, Process, State, reads, writes, process_at, step, gain_descriptor, Touches, find_entry}
 use Rattle.pv_model.specs.Sealed.{is_pledged_without}
-use Rattle.pv_model.specs.State.{Program, Process, State, reads, writes, process_at}
-use Rattle.pv_model.specs.Step.{step}
-use Rattle.pv_model.specs.Touch.{gain_descriptor, Touches}
-use Rattle.pv_model.specs.Tree.{find_entry}
 use Rattle.pv_laws_states.specs.States.{IsValid}
 
 -- without cpath, no entry changes

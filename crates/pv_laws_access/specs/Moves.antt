@@ -6,23 +6,15 @@ use Rattle.pv_model.specs.declared.judgement.Judgement.TheVariants.{Allowed}
 use Rattle.pv_model.specs.declared.outcome.Outcome.TheVariants.{Value}
 use Rattle.pv_model.specs.declared.perms.Perms.{Perms}
 use Rattle.pv_model.specs.declared.place.Place.{Place}
-use Rattle.pv_model.specs.Bytes.{Bytes}
-use Rattle.pv_model.specs.Closed.{GovernsName}
-use Rattle.pv_model.specs.Effect.{node_of, name_of, end_of}
-use Rattle.pv_model.specs.Program.{next}
-use Rattle.pv_model.specs.Sealed.{is_file}
-use Rattle.pv_model.specs.State.{Program, Process, State, process_at}
-use Rattle.pv_model.specs.Step.{step}
-use Rattle.pv_model.specs.Tree.{Tree, node_at, is_directory_at, find_entry, IsAtOrAbove}
-use Rattle.pv_model.specs.Unveil.{Table, permissions_at, judgement}
-use Rattle.pv_model.specs.Walks.{Walk, linked_walk, new_link_walk, rename_walk}
+use Rattle.pv_model.specs.Machine.{Bytes, GovernsName, node_of, name_of, end_of, next, is_file, Program, Process, State, process_at, step, Tree, node_at, is_directory_at, find_entry, IsAtOrAbove, Table, permissions_at, judgement, Walk, rename_walk}
+use Rattle.pv_model.specs.Walks.{linked_walk, new_link_walk}
 use Rattle.pv_laws_states.specs.States.{EncodesPrograms, IsValid}
 use Rattle.pv_laws_access.specs.Growth.{begins_image}
-use Rattle.pv_laws_access.specs.Origins.{IsMade}
+use Rattle.pv_laws_access.specs.Origins.{MakesCall}
 
 -- a walk of a call ends at a place that the caller's table allows for the permissions that the walk needs
-abbrev pub LeadsTo : State → Process → Walk → Place → Type 0
-LeadsTo s me w place = (end_of s me w ≡ Ok place) × (judgement s.tree me.table place w.needed ≡ Allowed)
+abbrev pub LeadsToAllowed : State → Process → Walk → Place → Type 0
+LeadsToAllowed s me w place = (end_of s me w ≡ Ok place) × (judgement s.tree me.table place w.needed ≡ Allowed)
 
 module _ (program_of : Bytes → Option Program) (s : State) (pid : ℕ) where
   -- the step is a successful rename that gives node n a name in directory d instead of its old name; the caller's table
@@ -33,9 +25,9 @@ module _ (program_of : Bytes → Option Program) (s : State) (pid : ℕ) where
     pub new : Bytes
     pub from : Place
     pub into : Place
-    pub made : IsMade s pid me (Rename path new)
-    pub leads_from : LeadsTo s me (rename_walk path) from
-    pub leads_into : LeadsTo s me (rename_walk new) into
+    pub made : MakesCall s pid me (Rename path new)
+    pub leads_from : LeadsToAllowed s me (rename_walk path) from
+    pub leads_into : LeadsToAllowed s me (rename_walk new) into
     pub node : node_of from ≡ Some n
     pub named : name_of into ≡ Some (d, name)
     pub succeeds : (step program_of s pid).outcome ≡ Value 0
@@ -48,9 +40,9 @@ module _ (program_of : Bytes → Option Program) (s : State) (pid : ℕ) where
     pub new : Bytes
     pub from : Place
     pub into : Place
-    pub made : IsMade s pid me (Link path new)
-    pub leads_from : LeadsTo s me (linked_walk path) from
-    pub leads_into : LeadsTo s me (new_link_walk new) into
+    pub made : MakesCall s pid me (Link path new)
+    pub leads_from : LeadsToAllowed s me (linked_walk path) from
+    pub leads_into : LeadsToAllowed s me (new_link_walk new) into
     pub node : node_of from ≡ Some n
     pub plain : IsFalse (is_directory_at s.tree n)
     pub named : name_of into ≡ Some (d, name)

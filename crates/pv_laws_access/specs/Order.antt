@@ -1,5 +1,5 @@
 -- The order of names in getdents(2), listings and reports.
-use Rattle.std.specs.Prelude.{◌≡◌, ◌≢◌, ◌⊎◌, ℕ, ℤ, IsTrue, List, [], ◌∷◌, ◌++◌, length, drop, flat_map, codes, Option, None, Some, is_some, option_and_then}
+use Rattle.std.specs.Prelude.{◌≡◌, ◌≢◌, ◌⊎◌, ℕ, ℤ, IsTrue, List, [], ◌∷◌, ◌++◌, length, drop, flat_map, Option, None, Some, is_some, option_and_then}
 use Rattle.std.specs.Cmp.Lexicographic.{slice_cmp}
 use Rattle.std.specs.FinMap.Entries.{find, is_sorted}
 use Rattle.std.specs.Ordering.{nat_cmp}
@@ -7,20 +7,15 @@ use Rattle.std.specs.declared.cmp.Ordering.{Ordering}
 use Rattle.std.specs.declared.cmp.Ordering.TheVariants.{Less}
 use Rattle.pv_model.specs.declared.call.Call.TheVariants.{Getdents}
 use Rattle.pv_model.specs.declared.outcome.Outcome.TheVariants.{Text}
-use Rattle.pv_model.specs.Bytes.{Bytes}
-use Rattle.pv_model.specs.Effect.{open_file}
-use Rattle.pv_model.specs.Listing.{node_line, found_line, lines_of_all, listing, report}
-use Rattle.pv_model.specs.Numbered.{at_number}
-use Rattle.pv_model.specs.Sealed.{audit_node}
-use Rattle.pv_model.specs.State.{OpenFile, Program, Process, State, process_at}
-use Rattle.pv_model.specs.Step.{step, run}
-use Rattle.pv_model.specs.Tree.{Tree, root, node_at, is_directory_at, find_entry, IsWellFormed}
+use Rattle.pv_model.specs.Machine.{Bytes, open_file, listing, report, at_number, audit_node, OpenFile, Program, Process, State, process_at, step, run, Tree, root, node_at, is_directory_at, find_entry, IsWellFormed}
+use Rattle.pv_model.specs.Listing.{node_line, found_line, lines_of_all}
+use Rattle.pv_model.specs.Grammar.Entries.{path_of_names}
 use Rattle.pv_laws_states.specs.States.{EncodesPrograms, IsValid}
-use Rattle.pv_laws_access.specs.Origins.{IsMade}
+use Rattle.pv_laws_access.specs.Origins.{MakesCall}
 
 -- a name is less than another in byte order
-abbrev pub IsLess : Bytes → Bytes → Type 0
-IsLess name other = slice_cmp nat_cmp name other ≡ Less
+abbrev pub IsSmallerName : Bytes → Bytes → Type 0
+IsSmallerName name other = slice_cmp nat_cmp name other ≡ Less
 
 -- a directory has an entry under a name
 abbrev pub HasEntry : Tree → ℕ → Bytes → Type 0
@@ -29,19 +24,19 @@ HasEntry t d name = (n : ℕ) × (find_entry t d name ≡ Some n)
 -- ---- getdents
 
 -- a name is greater than the last one that was listed, if there is one
-abbrev pub IsPast : Option Bytes → Bytes → Type 0
-IsPast None name = Unit {0}
-IsPast (Some last) name = IsLess last name
+abbrev pub IsAfterName : Option Bytes → Bytes → Type 0
+IsAfterName None name = Unit {0}
+IsAfterName (Some last) name = IsSmallerName last name
 
 -- the least of the directory's entries after the last one that was listed
-pub record IsLeastPast (t : Tree) (d : ℕ) (last : Option Bytes) (name : Bytes) : Type 0 where
+pub record IsNextEntryName (t : Tree) (d : ℕ) (last : Option Bytes) (name : Bytes) : Type 0 where
   pub entry : HasEntry t d name
-  pub past : IsPast last name
-  pub least : (other : Bytes) → HasEntry t d other → IsPast last other → (other ≡ name) ⊎ IsLess name other
+  pub past : IsAfterName last name
+  pub least : (other : Bytes) → HasEntry t d other → IsAfterName last other → (other ≡ name) ⊎ IsSmallerName name other
 
 -- no entry of the directory comes after the last one that was listed
 abbrev pub NonePast : Tree → ℕ → Option Bytes → Type 0
-NonePast t d last = (name : Bytes) → HasEntry t d name → ¬ IsPast last name
+NonePast t d last = (name : Bytes) → HasEntry t d name → ¬ IsAfterName last name
 
 module _ (program_of : Bytes → Option Program) (s : State) (pid : ℕ) where
   -- the step returns these bytes: its value is their number, and they are at the start of the buffer
@@ -53,7 +48,7 @@ module _ (program_of : Bytes → Option Program) (s : State) (pid : ℕ) where
 
   -- the step returns the next name, which the open file records as its last; or no bytes if there is none
   pub data ReportsTheNext (me : Process) (k : ℕ) (file : OpenFile) : Type 0 where
-    a_name : (name : Bytes) → IsLeastPast s.tree file.node file.listed name → IsReported me name
+    a_name : (name : Bytes) → IsNextEntryName s.tree file.node file.listed name → IsReported me name
         → at_number (step program_of s pid).after.files k ≡ Some (record file { listed = Some name }) → ReportsTheNext me k file
     none_left : NonePast s.tree file.node file.listed → IsReported me []
         → at_number (step program_of s pid).after.files k ≡ Some file → ReportsTheNext me k file
@@ -61,7 +56,7 @@ module _ (program_of : Bytes → Option Program) (s : State) (pid : ℕ) where
 -- a getdents of a directory returns the least entry after the last one listed, in byte order
 abbrev pub ReportsTheNextName : Type 0
 ReportsTheNextName =
-    (program_of : Bytes → Option Program) (s : State) (pid : ℕ) (me : Process) (d : ℤ) (k : ℕ) (file : OpenFile) → IsValid s → IsMade s pid me (Getdents d)
+    (program_of : Bytes → Option Program) (s : State) (pid : ℕ) (me : Process) (d : ℤ) (k : ℕ) (file : OpenFile) → IsValid s → MakesCall s pid me (Getdents d)
     → open_file s me d ≡ Some (k, file) → IsTrue (is_directory_at s.tree file.node) → ReportsTheNext program_of s pid me k file
 
 module _ (program_of : Bytes → Option Program) where
@@ -70,7 +65,7 @@ module _ (program_of : Bytes → Option Program) where
     pub me : Process
     pub d : ℤ
     pub file : OpenFile
-    pub made : IsMade s pid me (Getdents d)
+    pub made : MakesCall s pid me (Getdents d)
     pub opened : open_file s me d ≡ Some (k, file)
     pub directory : IsTrue (is_directory_at s.tree file.node)
     pub reported : IsReported program_of s pid me name
@@ -86,7 +81,7 @@ abbrev pub NamesReportedAscend : Type 0
 NamesReportedAscend =
     (program_of : Bytes → Option Program) → EncodesPrograms program_of → (s : State) (pid k : ℕ) (name : Bytes) (pids : List ℕ) (last : ℕ) (other : Bytes) → IsValid s
     → ReportsBy program_of s pid k name → StaysOpen program_of k pids (step program_of s pid).after
-    → ReportsBy program_of (run program_of pids (step program_of s pid).after).final last k other → IsLess name other
+    → ReportsBy program_of (run program_of pids (step program_of s pid).after).final last k other → IsSmallerName name other
 
 -- ---- listings
 
@@ -94,10 +89,6 @@ NamesReportedAscend =
 abbrev pub led_to : Tree → ℕ → List Bytes → Option ℕ
 led_to t n [] = Some n
 led_to t n (name ∷ names) = option_and_then (λ m. led_to t m names) (find_entry t n name)
-
--- the path of these names from the root; the root's path is empty
-abbrev pub path_of : List Bytes → Bytes
-path_of names = flat_map (λ name. codes "/" ++ name) names
 
 -- lists of names are ordered name by name: everything below a directory comes directly after it
 abbrev pub by_names : List Bytes → List Bytes → Ordering
@@ -109,7 +100,7 @@ Places = List (List Bytes × ℕ)
 
 -- the lines of places, in order
 abbrev pub lines_at : (Bytes → ℕ → Bytes) → Places → Bytes
-lines_at line places = flat_map (λ p. line (path_of p.0) p.1) places
+lines_at line places = flat_map (λ p. line (path_of_names p.0) p.1) places
 
 -- these places list a tree: they ascend, entries lead to exactly these from the root, and listing and report consist of
 -- their lines in order

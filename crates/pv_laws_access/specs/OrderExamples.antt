@@ -9,11 +9,10 @@ use Rattle.pv_model.specs.declared.instruction.Instruction.TheVariants.{Open, Ge
 use Rattle.pv_model.specs.declared.instruction.Operand.TheVariants.{Number}
 use Rattle.pv_model.specs.declared.open_flags.OpenFlags.{OpenFlags}
 use Rattle.pv_model.specs.declared.outcome.Outcome.TheVariants.{Text}
-use Rattle.pv_model.specs.Bytes.{Bytes}
+use Rattle.pv_model.specs.Machine.{Bytes, Program, State, step}
 use Rattle.pv_model.specs.Listing.{lines_of_all}
-use Rattle.pv_model.specs.State.{Program, State}
-use Rattle.pv_model.specs.Step.{step}
-use Rattle.pv_laws_access.specs.NameExamples.{no_programs, state_after, making}
+use Rattle.pv_laws_states.specs.ExampleStates.{no_programs, making}
+use Rattle.pv_laws_access.specs.NameExamples.{state_after_steps}
 use Rattle.pv_laws_access.specs.Order.{ReportsBy, StaysOpen, by_names, Places, lines_at}
 
 abbrev pub reading : OpenFlags
@@ -34,11 +33,11 @@ reporting =
     ∷ []
 
 abbrev pub reported_state : State
-reported_state = state_after reporting 5
+reported_state = state_after_steps reporting 5
 
 -- all places of the tree
-abbrev pub named : Places
-named =
+abbrev pub named_places : Places
+named_places =
     ([], 1)
     ∷ (codes "d" ∷ [], 3)
     ∷ (codes "d" ∷ codes "a" ∷ [], 5)
@@ -52,11 +51,11 @@ path_and_number path n = path ++ n ∷ 10 ∷ []
 
 pub record NamesAreReported : Type 0 where
   pub a : ReportsBy no_programs reported_state 1 3 (codes "a")
-  pub stays : StaysOpen no_programs 3 [] (state_after reporting 6)
-  pub b : ReportsBy no_programs (state_after reporting 6) 1 3 (codes "b")
-  pub no_more : (step no_programs (state_after reporting 7) 1).outcome ≡ Text (record { value = 0; len = 0 })
+  pub stays : StaysOpen no_programs 3 [] (state_after_steps reporting 6)
+  pub b : ReportsBy no_programs (state_after_steps reporting 6) 1 3 (codes "b")
+  pub no_more : (step no_programs (state_after_steps reporting 7) 1).outcome ≡ Text (record { value = 0; len = 0 })
   -- the listing of the tree
-  pub ascending : IsTrue (is_sorted by_names named)
-  pub lines : lines_of_all reported_state.tree path_and_number ≡ lines_at path_and_number named
+  pub ascending : IsTrue (is_sorted by_names named_places)
+  pub lines : lines_of_all reported_state.tree path_and_number ≡ lines_at path_and_number named_places
   -- compared as bytes, the last path would come before those of the directory's names
   pub not_by_bytes : slice_cmp nat_cmp (codes "/d.x") (codes "/d/a") ≡ Less

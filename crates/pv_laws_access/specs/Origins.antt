@@ -3,23 +3,14 @@ use Rattle.std.specs.Prelude.{◌≡◌, ◌≢◌, ◌⊎◌, ℕ, Bool, if◌t
 use Rattle.pv_model.specs.declared.call.Call.{Call}
 use Rattle.pv_model.specs.declared.open_flags.Mode.{Mode}
 use Rattle.pv_model.specs.declared.place.Place.{Place}
-use Rattle.pv_model.specs.Bytes.{Bytes}
+use Rattle.pv_model.specs.Machine.{Bytes, node_of, needs, permission_r, permission_c, calls_for, next, missing_promise, Program, Process, State, process_at, step, gain_descriptor, IsAllowed, node_at, find_entry}
 use Rattle.pv_model.specs.Closed.{HasOn}
-use Rattle.pv_model.specs.Effect.{node_of}
-use Rattle.pv_model.specs.Needs.{needs}
-use Rattle.pv_model.specs.Perms.{permission_r, permission_c}
-use Rattle.pv_model.specs.Program.{calls_for, next}
-use Rattle.pv_model.specs.Promises.{missing_promise}
-use Rattle.pv_model.specs.State.{Program, Process, State, process_at}
-use Rattle.pv_model.specs.Step.{step}
-use Rattle.pv_model.specs.Touch.{gain_descriptor, IsAllowed}
-use Rattle.pv_model.specs.Tree.{node_at, find_entry}
 use Rattle.pv_laws_states.specs.States.{IsValid}
 use Rattle.pv_laws_access.specs.Growth.{MayDoNoMore, HasExecuted}
 use Rattle.pv_laws_access.specs.Justice.{IsExplained}
 
 -- a live process makes a call, and its promises are held
-pub record IsMade (s : State) (pid : ℕ) (me : Process) (call : Call) : Type 0 where
+pub record MakesCall (s : State) (pid : ℕ) (me : Process) (call : Call) : Type 0 where
   pub at : process_at s pid ≡ Some me
   pub next_is : next me ≡ calls_for call
   pub held : missing_promise me.promises (needs call) ≡ None
@@ -29,7 +20,7 @@ pub record IsMade (s : State) (pid : ℕ) (me : Process) (call : Call) : Type 0 
 pub record IsBrought (s : State) (pid : ℕ) (n : ℕ) : Type 0 where
   pub me : Process
   pub call : Call
-  pub made : IsMade s pid me call
+  pub made : MakesCall s pid me call
   pub place : Place
   pub node : node_of place ≡ Some n
   pub allowed : IsAllowed s me call permission_r place ⊎ IsAllowed s me call permission_c place

@@ -7,12 +7,9 @@ use Rattle.pv_model.specs.declared.errno.Errno.TheVariants.{EPERM, ENOSYS}
 use Rattle.pv_model.specs.declared.outcome.Cause.TheVariants.{Promise as ByPromise}
 use Rattle.pv_model.specs.declared.outcome.Outcome.TheVariants.{Failed, Killed}
 use Rattle.pv_model.specs.declared.promise.Promise.{Promise}
-use Rattle.pv_model.specs.Answer.{answer}
-use Rattle.pv_model.specs.Bytes.{Bytes}
-use Rattle.pv_model.specs.Needs.{needs}
+use Rattle.pv_model.specs.Machine.{answer, Bytes, needs, Promises, contains, is_lenient, is_met, missing_promise, Program, Process, State, process_at}
 use Rattle.pv_model.specs.Promise.{promise_bit}
-use Rattle.pv_model.specs.Promises.{Promises, contains, read_promises, first_increase, is_lenient, is_met, missing_promise}
-use Rattle.pv_model.specs.State.{Program, Process, State, process_at}
+use Rattle.pv_model.specs.Promises.{read_promises, first_increase}
 
 -- ---- the first promise that is missing
 

@@ -5,12 +5,9 @@ use Rattle.std.specs.List.{list_all}
 use Rattle.pv_model.specs.declared.verdict.Leak.{Leak}
 use Rattle.pv_model.specs.declared.verdict.Verdict.TheVariants.{Sealed, Frozen, Exposed}
 use Rattle.pv_model.specs.declared.verdict.Why.{Why}
-use Rattle.pv_model.specs.Bytes.{is_empty}
+use Rattle.pv_model.specs.Machine.{is_empty, live_processes, leaks, Process, State, names_of, IsWellFormed}
 use Rattle.pv_model.specs.Closed.{IsClosed, IsFrozenTo, IsReason, IsNoLater}
-use Rattle.pv_model.specs.Held.{live_processes}
-use Rattle.pv_model.specs.Sealed.{leaks, is_frozen_to, first_leak, is_sealed, is_frozen, verdict}
-use Rattle.pv_model.specs.State.{Process, State}
-use Rattle.pv_model.specs.Tree.{names_of, IsWellFormed}
+use Rattle.pv_model.specs.Sealed.{is_frozen_to, first_leak, is_sealed, is_frozen, verdict}
 
 -- the list of leaks is empty if and only if the process is closed to the file
 abbrev pub LeaksNothingWhereClosed : Type 0

@@ -1,14 +1,10 @@
 -- Laws of sealed and frozen files along steps and runs: both properties last, and the bytes of a frozen file stay the
 -- same.
 use Rattle.std.specs.Prelude.{◌≡◌, ℕ, IsTrue, List, length, Option}
-use Rattle.pv_model.specs.Bytes.{Bytes}
+use Rattle.pv_model.specs.Machine.{Bytes, is_file, Program, Process, State, Run, step, run, file_bytes, with_bytes, trace_bytes, node_at}
 use Rattle.pv_model.specs.Closed.{IsClosed, IsHeldOverExec}
-use Rattle.pv_model.specs.Sealed.{is_file, is_sealed, is_frozen}
-use Rattle.pv_model.specs.State.{Program, Process, State}
-use Rattle.pv_model.specs.Step.{Run, step, run}
-use Rattle.pv_model.specs.Touch.{file_bytes, with_bytes, SameButFile}
-use Rattle.pv_model.specs.Trace.{trace_bytes}
-use Rattle.pv_model.specs.Tree.{node_at}
+use Rattle.pv_model.specs.Sealed.{is_sealed, is_frozen}
+use Rattle.pv_model.specs.Touch.{SameButFile}
 use Rattle.pv_laws_states.specs.States.{EncodesPrograms, IsValid}
 
 pub record IsSealedFile (s : State) (f : ℕ) : Type 0 where
@@ -43,7 +39,7 @@ ClosedIsHeldOverExec = (s : State) (p : Process) (f : ℕ) → IsClosed s p f �
 
 -- two runs have the same lines and so the same text; their final states differ only in the bytes of one file, which are
 -- of equal length
-pub record RunAlike (f : ℕ) (a b : Run) : Type 0 where
+pub record RunsDifferInFile (f : ℕ) (a b : Run) : Type 0 where
   pub lines : b.lines ≡ a.lines
   pub text : trace_bytes b.lines ≡ trace_bytes a.lines
   pub final : SameButFile f a.final b.final
@@ -53,7 +49,7 @@ pub record RunAlike (f : ℕ) (a b : Run) : Type 0 where
 -- final state differs only in these bytes
 pub record WritesNothing (program_of : Bytes → Option Program) (s : State) (pids : List ℕ) (f : ℕ) (bytes : Bytes) : Type 0 where
   pub still : IsSealedFile (run program_of pids s).final f
-  pub alike : RunAlike f (run program_of pids s) (run program_of pids (with_bytes s f bytes))
+  pub alike : RunsDifferInFile f (run program_of pids s) (run program_of pids (with_bytes s f bytes))
 
 abbrev pub SealedForEver : Type 0
 SealedForEver =

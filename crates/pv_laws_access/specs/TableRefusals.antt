@@ -8,18 +8,8 @@ use Rattle.pv_model.specs.declared.outcome.Cause.TheVariants.{Unveil as ByUnveil
 use Rattle.pv_model.specs.declared.outcome.Outcome.TheVariants.{Failed}
 use Rattle.pv_model.specs.declared.perms.Perms.{Perms}
 use Rattle.pv_model.specs.declared.place.Place.{Place}
-use Rattle.pv_model.specs.Answer.{Answered, answer}
-use Rattle.pv_model.specs.Bytes.{Bytes}
-use Rattle.pv_model.specs.Effect.{end_of}
-use Rattle.pv_model.specs.Needs.{needs}
-use Rattle.pv_model.specs.Perms.{covers, read_permissions}
-use Rattle.pv_model.specs.Promises.{missing_promise}
-use Rattle.pv_model.specs.State.{Program, Process, State, process_at}
-use Rattle.pv_model.specs.Trace.{Word, unvl_word, UnveilVerdict, no_entry, entry_lacks, table_locked, Line, call_lines}
-use Rattle.pv_model.specs.Tree.{Tree}
-use Rattle.pv_model.specs.Unveil.{Table, entry_for, permissions_at, target_of}
-use Rattle.pv_model.specs.Walks.{Walk, walks_of, walk_number}
-use Rattle.pv_laws_states.specs.Courses.{is_unveil}
+use Rattle.pv_model.specs.Machine.{Answered, answer, Bytes, end_of, needs, covers, read_permissions, missing_promise, Program, Process, State, process_at, Word, unvl_word, Line, call_lines, Tree, Table, entry_for, permissions_at, target_of, Walk, walks_of, walk_number, is_unveil}
+use Rattle.pv_model.specs.Trace.{UnveilVerdict, no_entry, entry_lacks, table_locked}
 use Rattle.pv_laws_access.specs.Tables.{GovernsPlace}
 
 -- the place where a call stopped, at the end of the last walk that it began, and the permissions that it needs there
@@ -31,12 +21,12 @@ pub record StoppedAt (s : State) (me : Process) (call : Call) (walks : ℕ) (pla
 
 -- a table refuses a call at a place for the permissions needed there: no entry governs the place; or the entry that
 -- governs it lacks a permission; or an unveil would widen the entry for exactly this place, which governs it
-pub data Refuses (t : Tree) (table : Table) (call : Call) (place : Place) (needed : Perms) : Errno → Option ℕ → Type 0 where
-  none_governs : IsFalse (is_unveil call) → ((k : ℕ) → ¬ GovernsPlace t table place k) → Refuses t table call place needed ENOENT None
+pub data TableRefuses (t : Tree) (table : Table) (call : Call) (place : Place) (needed : Perms) : Errno → Option ℕ → Type 0 where
+  none_governs : IsFalse (is_unveil call) → ((k : ℕ) → ¬ GovernsPlace t table place k) → TableRefuses t table call place needed ENOENT None
   lacks_permission : (k : ℕ) → IsFalse (is_unveil call) → GovernsPlace t table place k → IsFalse (covers (permissions_at table k) needed)
-      → Refuses t table call place needed EACCES (Some k)
+      → TableRefuses t table call place needed EACCES (Some k)
   would_widen : (k : ℕ) → IsTrue (is_unveil call) → entry_for table (target_of t place) ≡ Some k → GovernsPlace t table place k
-      → IsFalse (covers (permissions_at table k) needed) → Refuses t table call place needed EPERM (Some k)
+      → IsFalse (covers (permissions_at table k) needed) → TableRefuses t table call place needed EPERM (Some k)
 
 -- the process's table refuses the call at the place where it stopped
 pub record IsRefusedByTable (s : State) (me : Process) (call : Call) (walks : ℕ) (errno : Errno) (entry : Option ℕ) : Type 0 where
@@ -45,7 +35,7 @@ pub record IsRefusedByTable (s : State) (me : Process) (call : Call) (walks : �
   pub place : Place
   pub needed : Perms
   pub stopped : StoppedAt s me call walks place needed
-  pub refuses : Refuses s.tree table call place needed errno entry
+  pub refuses : TableRefuses s.tree table call place needed errno entry
 
 -- a refusal names an entry, or the lack of one, if and only if the table refuses the call in this way
 abbrev pub TableRefusesExactly : Type 0

@@ -6,11 +6,7 @@ use Rattle.pv_model.specs.declared.judgement.Judgement.TheVariants.{Allowed, Hid
 use Rattle.pv_model.specs.declared.perms.Perms.{Perms}
 use Rattle.pv_model.specs.declared.place.Place.{Place}
 use Rattle.pv_model.specs.declared.place.Place.TheVariants.{At, Node as Unnamed}
-use Rattle.pv_model.specs.Bytes.{Bytes}
-use Rattle.pv_model.specs.Closed.{GovernsName}
-use Rattle.pv_model.specs.Perms.{covers}
-use Rattle.pv_model.specs.Tree.{Tree, is_directory_at}
-use Rattle.pv_model.specs.Unveil.{Table, permissions_at, Governs, judgement}
+use Rattle.pv_model.specs.Machine.{Bytes, GovernsName, covers, Tree, is_directory_at, Table, permissions_at, Governs, judgement}
 
 -- an entry governs a place: for a directory, the entry that governs the directory; otherwise, the entry that governs
 -- the name

@@ -7,11 +7,9 @@ pub fn whole_is_in_order()
     ensures { WholeIsInOrder }
 {}
 
-/// Monotonicity of privilege: if a step starts no new program image and its process stays live, the process loses no
-/// restraint.
-///
-/// Its promises and execpromises stay set and gain no keyword. Its table stays in force, and no entry is removed or
-/// gains a permission. A lock stays, and a locked table does not change.
+/// Monotonicity of privilege: let a step start no new program image, and its process stay live. Then its promises and
+/// execpromises stay set and gain no keyword; its table stays in force, and no entry is removed or gains a permission;
+/// a lock stays, and a locked table does not change.
 pub fn grows_never()
     ensures { GrowsNever }
 {}

@@ -26,9 +26,9 @@ pub fn gains_are_justified()
     ensures { GainsAreJustified }
 {}
 
-/// If the outcome or the next state of a step depends on the bytes of a file, other than on their number, its call
-/// reads by a descriptor on the file that is open for reading, or is an execve of the file at a place that the table
-/// allows for `x`.
+/// If the outcome or the next state of a step depends on the bytes of a file, beyond their number, its call reads by a
+/// descriptor on the file that is open for reading, or is an execve of the file at a place that the table allows for
+/// `x`.
 pub fn reads_are_justified()
     ensures { ReadsAreJustified }
 {}

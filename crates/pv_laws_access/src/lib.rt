@@ -4,7 +4,7 @@
 //!
 //! - Rights: `growth`, `descent` (inheritance), `means` and `lacking` (missing promises), `moves` (rename and link).
 //! - Mediation: `justice` (each touch is justified), `tables` (decisions), `promises` and `table_refusals` (refusals).
-//! - Secrecy: `secrets` (one step), `sealing` (runs), `reasons` (audits).
+//! - Secrecy: `secrets` (one step), `sealing` (runs), `own_runs` (runs of one process), `reasons` (audits).
 //! - Other effects: `origins`, `frame` (open files), `leaving` (exit and kill), `order` (getdents and listings).
 //! - `*examples`: worked runs in which the subjects of these laws occur.
 #![tactic(auto)]
@@ -22,6 +22,7 @@ pub mod moves;
 pub mod name_examples;
 pub mod order;
 pub mod origins;
+pub mod own_runs;
 pub mod promises;
 pub mod reasons;
 pub mod refusal_examples;

@@ -2,19 +2,15 @@
 
 ghost use Rattle.pv_laws_access.specs.Moves.{NamesComeByCalls, PermissionsComeByMoves, OwnStepsGiveNothing};
 
-/// If a step gives an existing node a new name, the step is a successful rename(2) or link(2) of the node to that name.
-///
-/// The caller's table allows the old place for `c` (rename) or for `r` (link), and the new place for `c`. No other call
-/// gives an existing node a name.
+/// If a step gives an existing node a new name, it is a successful rename(2) or link(2) of the node to that name; the
+/// caller's table allows the old place for `c` (rename) or for `r` (link), and the new place for `c`.
 pub fn names_come_by_calls()
     ensures { NamesComeByCalls }
 {}
 
-/// If an entry of any table governs a name of an existing node after a step, then it governed that name of the node
-/// before, or the step gave the node that name by rename(2) or link(2), or the step renamed a directory at or above the
-/// name's directory.
-///
-/// So a node gains permissions only by a successful rename or link.
+/// If an entry of a table governs a name of an existing node after a step, it governed that name of the node before, or
+/// the step gave the node that name by rename(2) or link(2), or the step renamed a directory at or above the name's
+/// directory.
 pub fn permissions_come_by_moves()
     ensures { PermissionsComeByMoves }
 {}

@@ -3,9 +3,8 @@
 ghost use Rattle.pv_laws_access.specs.NameExamples.{MoveExamples};
 ghost use Rattle.pv_laws_access.specs.OrderExamples.{NamesAreReported};
 
-/// After three steps of a worked run, the locked table of a process grants nothing at a file. In another run, a rename
-/// moves a file that may not be read to a place where it may. In a third run, a link gives a file that may not be
-/// written a name where it may.
+/// In three worked runs, a locked table grants nothing at a file, a rename moves a file to a place where it may be
+/// read, and a link gives a file a name where it may be written.
 pub fn moves_happen()
     ensures { MoveExamples }
 {}

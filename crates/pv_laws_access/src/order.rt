@@ -2,10 +2,8 @@
 
 ghost use Rattle.pv_laws_access.specs.Order.{ReportsTheNextName, NamesReportedAscend, ListingsAscend};
 
-/// getdents of a directory returns the least name, in byte order, that is greater than the last name returned through
-/// the open file, or the least of all at first; the open file records it as its last name.
-///
-/// getdents returns no bytes if and only if there is no such name.
+/// getdents returns the least name of the directory, in byte order, above the last name returned through the open file,
+/// and the open file records it. It returns no bytes if and only if there is no such name.
 pub fn getdents_reports_the_next_name()
     ensures { ReportsTheNextName }
 {}
@@ -16,11 +14,8 @@ pub fn names_reported_ascend()
     ensures { NamesReportedAscend }
 {}
 
-/// A listing of a tree, and a report of a state, visit each place that entries reach from the root exactly once, with
-/// paths in ascending order, compared name by name.
-///
-/// So a directory comes before everything below it, and of two names in a directory the lesser comes first, followed by
-/// everything below it. A report has lines for files only.
+/// A listing of a tree, and a report of a state, visit each path from the root exactly once, in ascending order, name
+/// by name: `/d/a` before `/d.x`. A report has lines for files only.
 pub fn listings_ascend()
     ensures { ListingsAscend }
 {}

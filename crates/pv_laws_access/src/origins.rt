@@ -8,10 +8,9 @@ pub fn names_come_by_names()
     ensures { NamesComeByNames }
 {}
 
-/// Provenance: each process that is live after a step derives its restraints and descriptors from a process that was
-/// live before: itself, or the one that made the step.
-///
-/// It may do no more than that process, or has what an execve leaves. Each new descriptor is justified.
+/// Provenance: each process that is live after a step has its restraints and descriptors from a process that was live
+/// before, itself or the one that made the step, and may do no more; or it has what an execve leaves. Each new
+/// descriptor is justified.
 pub fn each_has_an_origin()
     ensures { EachHasAnOrigin }
 {}

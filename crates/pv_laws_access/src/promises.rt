@@ -14,10 +14,9 @@ pub fn first_increase_is_named()
     ensures { FirstIncreaseIsNamed }
 {}
 
-/// A refusal names a promise if and only if the promise is the first missing one, under `error`, with ENOSYS; or a
-/// pledge without `error` requests it first of those not held, with EPERM.
-///
-/// The request may be in the promises, or in the execpromises if the promises request nothing new.
+/// A refusal names a promise if and only if it is the first missing one, under `error`, with ENOSYS; or, without
+/// `error`, the first keyword that a pledge requests and the process does not hold, with EPERM, the promises before the
+/// execpromises.
 pub fn promise_refuses_exactly()
     ensures { PromiseRefusesExactly }
 {}

@@ -13,9 +13,8 @@ pub fn frozen_to_is_tested()
     ensures { FrozenToIsTested }
 {}
 
-/// The first leak is a reason why the process is not closed, and no reason comes before it in the order: a descriptor,
-/// no table, no lock, an entry for a name, an entry for a directory above, exec. Among descriptors and among entries,
-/// the least comes first.
+/// The first leak is the first reason why the process is not closed, in the order: a descriptor, no table, no lock, an
+/// entry for a name, an entry above, exec. Among descriptors and among entries, the least comes first.
 pub fn first_leak_is_first_reason()
     ensures { FirstLeakIsFirstReason }
 {}

@@ -8,9 +8,8 @@ pub fn sealed_is_not_read()
     ensures { SealedIsNotRead }
 {}
 
-/// Confidentiality of one step, as a comparison of two steps: if the bytes of a sealed file are replaced by others of
-/// equal length, each step has the same outcome and the same lines, and the next states differ only in the bytes of
-/// that file, which are again of equal length.
+/// Confidentiality of one step, of two states in parallel: with other bytes of equal length in a sealed file, each step
+/// has the same outcome and lines, and the next states differ in these bytes alone, which are again of equal length.
 pub fn sealed_answers_alike()
     ensures { SealedAnswersAlike }
 {}

@@ -2,12 +2,9 @@
 
 ghost use Rattle.pv_laws_access.specs.TableRefusals.{TableRefusesExactly, LockRefusesExactly, LinesSayWhatDecided};
 
-/// For a call other than unveil, a refusal names entry k if and only if that entry governs the place where the call
-/// stopped and lacks a permission that the call needs there, and it names no entry if and only if no entry governs the
-/// place.
-///
-/// The place of an unveil is not judged. Its refusal names the entry for that place if and only if the requested
-/// permissions would widen the entry.
+/// A refusal of a call other than unveil names entry k if and only if k governs the place where the call stopped and
+/// lacks a permission needed there; it names no entry if and only if none governs the place. A refusal of an unveil
+/// names the entry for its place if and only if the request would widen it.
 pub fn table_refuses_exactly()
     ensures { TableRefusesExactly }
 {}

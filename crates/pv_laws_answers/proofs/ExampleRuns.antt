@@ -1,29 +1,23 @@
 -- The files that the next call of a process may read, and a worked search and its graph, by computation.
-use Rattle.std.proofs.Common.{◌≡◌, ◌∙◌, sym, ap, refl, ℕ, ◌<◌, lit<, Bool, true, false, not, ◌==◌, List, [], ◌∷◌, take, drop, codes, slice_index, Option, None, Some, is_some, inr, ⊎_elim, arith}
+use Rattle.std.proofs.Common.{◌≡◌, ◌∙◌, sym, ap, refl, ℕ, ◌<◌, lit<, Bool, true, false, not, ◌==◌, List, [], ◌∷◌, take, drop, codes, Option, None, Some, is_some, inr, ⊎_elim}
 use Rattle.std.specs.List.{list_any, list_all}
 use Rattle.std.proofs.lemmas.Bool.{eq-eqb}
 use Rattle.std.proofs.lemmas.List.Elements.{All-cons, All-nil}
 use Rattle.pv_model.specs.declared.call.Call.{Call}
 use Rattle.pv_model.specs.declared.call.Call.TheVariants as TheCall
-use Rattle.pv_model.specs.Answers.Explore.{Found, states_found}
-use Rattle.pv_model.specs.Answers.Graph.{graph_lines}
-use Rattle.pv_model.specs.Answers.Lines.{AnswerLine, answer_line}
+use Rattle.pv_model.specs.Machine.{Found, states_found, graph_lines, AnswerLine, answer_line, Bytes, open_file, live_processes, Next, inside, calls_for, next, OpenFile, Program, Process, State, process_at, step, run, read_file, with_bytes, Touches, Justifies, read_by_descriptor, read_by_execve}
 use Rattle.pv_model.specs.Answers.OnLiterals.{answers_on_literals}
-use Rattle.pv_model.specs.Bytes.{Bytes}
-use Rattle.pv_model.specs.Effect.{open_file}
-use Rattle.pv_model.specs.Held.{live_processes}
-use Rattle.pv_model.specs.Program.{Next, inside, calls_for, next}
-use Rattle.pv_model.specs.State.{OpenFile, Program, Process, State, first_process, process_at}
-use Rattle.pv_model.specs.Step.{step, run}
-use Rattle.pv_model.specs.Touch.{read_file, with_bytes, Touches, Justifies, read_by_descriptor, read_by_execve}
+use Rattle.pv_laws_states.specs.ExampleStates.{no_programs}
+use Rattle.pv_laws_states.proofs.ExampleStates.{or_first}
 use Rattle.pv_laws_access.specs.Justice.{reads_bytes}
-use Rattle.pv_laws_access.proofs.JustReads.{near-or_read}
-use Rattle.pv_laws_access.proofs.Near.{as_is, as_is-fine, same-but_file}
-use Rattle.pv_laws_answers.specs.SearchExamples.{no_programs, start, graph, UnreadExamples, GraphExamples}
-use Rattle.pv_laws_answers.specs.Graphs.{HasStep}
+use Rattle.pv_laws_access.proofs.JustifiedReads.{near-or_read}
+use Rattle.pv_laws_access.proofs.SimilarTrees.{as_is, as_is-fine, same-but_file}
+use Rattle.pv_laws_access.proofs.ExampleRuns.{other_byte}
+use Rattle.pv_laws_answers.specs.SearchExamples.{start, graph, UnreadExamples, GraphExamples}
+use Rattle.pv_laws_answers.specs.Graphs.{HasStepLines}
 use Rattle.pv_laws_answers.specs.Unread.{IsReadByNone}
 use Rattle.pv_laws_answers.proofs.Lists.{all-among, none-among, each-from_among}
-use Rattle.pv_laws_answers.proofs.LiveOnes.{live-listed}
+use Rattle.pv_laws_answers.proofs.LiveProcesses.{live-listed}
 
 -- ---- calls that may read a file
 
@@ -78,15 +72,8 @@ all-spare program_of limit s f spared =
 
 -- ---- the worked search
 
-abbrev or_first : Option Process → Process
-or_first None = first_process []
-or_first (Some p) = p
-
 abbrev first_byte : State → Bytes
 first_byte s = take 1 (or_first (process_at s 1)).buffer
-
-other_byte : codes "h" ≡ codes "j" → ⊥
-other_byte same = let number : ◌≡◌ {A = ℕ} 104 106 = ap (λ (bytes : Bytes). slice_index bytes 0) same in omega arith
 
 was_read : Touches no_programs (run no_programs (1 ∷ []) start).final 1 (read_file 2)
 unfolding answers_on_literals
@@ -106,10 +93,10 @@ unread-happens = record { complete = refl; unread = all-spare no_programs 4 star
 abbrev lines_from : ℕ → ℕ → List AnswerLine
 lines_from k n = take n (drop k graph)
 
-opens : HasStep graph (codes "0") 1 (codes "to 1") (lines_from 10 3)
+opens : HasStepLines graph (codes "0") 1 (codes "to 1") (lines_from 10 3)
 opens = record { before = []; inside = lines_from 1 8; end_line = answer_line 0 (codes "AT") (codes "1"); rest = drop 14 graph; parts = refl; one_state = refl; one_step = refl; ends = refl }
 
-reads : HasStep graph (codes "1") 1 (codes "to 2") (lines_from 24 4)
+reads : HasStepLines graph (codes "1") 1 (codes "to 2") (lines_from 24 4)
 reads = record { before = lines_from 0 13; inside = lines_from 14 9; end_line = answer_line 0 (codes "AT") (codes "2"); rest = drop 29 graph; parts = refl; one_state = refl; one_step = refl; ends = refl }
 
 graph-is : graph_lines no_programs 4 false start ≡ graph

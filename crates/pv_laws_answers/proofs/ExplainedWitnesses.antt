@@ -6,23 +6,14 @@ use Rattle.pv_model.specs.declared.call.Call.{Call}
 use Rattle.pv_model.specs.declared.call.Call.TheVariants as TheCall
 use Rattle.pv_model.specs.declared.perms.Perms.{Perms}
 use Rattle.pv_model.specs.declared.place.Place.{Place}
-use Rattle.pv_model.specs.Answer.{Answered, answer}
-use Rattle.pv_model.specs.Answers.Explain.{promise_reason, permissions_lacked, entry_has, found_text, level_words, level_text, judgement_texts, place_walked, walk_reasons, unveil_reasons, moved_text, remarks, with_remarks, explained_next, explained_of, explained_step, setting_text, set_text, settings_next, explain_from, explain_lines}
+use Rattle.pv_model.specs.Machine.{Answered, answer, permissions_lacked, explained_step, settings_next, AnswerLine, answer_line, of_trace, permissions_in_places, locations, Setting, Settings, settings_of, Bytes, entries_of_table, Next, inside, calls_for, next, Program, Process, ProcessRecord, live, ended_record, State, process_at, step, Word, call_word, nami_word, pldg_word, unvl_word, gio_word, ret_word, call_lines, permissions_at, walks_of, walk_number}
+use Rattle.pv_model.specs.Answers.Explain.{promise_reason, entry_has, found_text, level_words, level_text, judgement_texts, place_walked, walk_reasons, unveil_reasons, moved_text, remarks, with_remarks, explained_next, explained_of, setting_text, set_text, explain_from, explain_lines}
 use Rattle.pv_model.specs.Answers.Graph.{unreported}
 use Rattle.pv_model.specs.Answers.Levels.{Level, levels}
-use Rattle.pv_model.specs.Answers.Lines.{AnswerLine, answer_line, of_trace, permissions_in_places}
-use Rattle.pv_model.specs.Answers.ProcessRecord.{location_lines, locations}
-use Rattle.pv_model.specs.Answers.Settings.{Setting, Settings, settings_of}
-use Rattle.pv_model.specs.Bytes.{Bytes}
-use Rattle.pv_model.specs.Calls.Restraints.{entries_of_table}
-use Rattle.pv_model.specs.Program.{Next, inside, calls_for, next}
-use Rattle.pv_model.specs.State.{Program, Process, ProcessRecord, live, ended_record, State, process_at}
-use Rattle.pv_model.specs.Step.{step}
-use Rattle.pv_model.specs.Trace.{UnveilVerdict, entry_lacks, table_locked, asked_permissions, Word, call_word, nami_word, pldg_word, unvl_word, gio_word, ret_word, psig_word, wait_word, gone_word, call_lines, gone_lines}
-use Rattle.pv_model.specs.Unveil.{permissions_at}
-use Rattle.pv_model.specs.Walks.{walks_of, walk_number}
+use Rattle.pv_model.specs.Answers.ProcessRecord.{location_lines}
+use Rattle.pv_model.specs.Trace.{UnveilVerdict, entry_lacks, table_locked, asked_permissions, psig_word, wait_word, gone_word, gone_lines}
 use Rattle.pv_laws_answers.specs.Graphs.{is_beside, explained_run, AreSameButSettings}
-use Rattle.pv_laws_answers.proofs.Marks.{none-map, none-flat}
+use Rattle.pv_laws_answers.proofs.MarkedLists.{none-map, none-flat}
 
 module _ (program_of : Bytes → Option Program) where
   abbrev Same : List AnswerLine → List AnswerLine → Type 0

@@ -1,48 +1,53 @@
 -- Lemmas about the answers and about the search.
--- - `explain`: Remarks (lines that only explain), Climbs (levels), Added, Unveiled and Settled (settings of entries).
--- - `reach`: Letters (single permissions), LastLinks (walks that do not end at links), Asking (calls that need
---   permissions), Flows (the governing entry before and after a step), ReachedNames (the names listed).
--- - `needs`: Wants (lines and walks), Listed (program images), Counted (their counts), Otherwise (other promises or another table), Pledged
---   (runs with other promises).
--- - The search: Lists, New, Reading (decoding of states), Witnesses (their order), LiveOnes, Searching (step by step),
---   Sound, Complete, Least, Observations, Observing. The graph: Marks, Marked, Along, ExplainedWitnesses.
--- - Files that are not read: Answering, NotRead (one step), Beside (runs). Deadlocks: Older, Waiting.
--- - Examples by computation: Worked, ExampleRuns.
-pub mod Remarks
-pub mod Climbs
-pub mod Letters
-pub mod LastLinks
-pub mod Asking
+-- - `explain`: ExplainLines (lines that only explain), PlaceLevels (levels), AddedEntries, TablesAfterSteps and
+--   EntrySettings (settings of entries).
+-- - `reach`: SinglePermissions (single permissions), FinalLinks (walks that do not end at links), AskingCalls (calls that need
+--   permissions), GoverningChanges (the governing entry before and after a step), ReachedNames (the names listed).
+-- - `needs`: RestraintLines (lines and walks), ListedNeeds (program images), NeedCounts (their counts), OtherRestraints
+--   (other promises or another table), OtherPromises (runs with other promises).
+-- - The search: Lists, NewKeys, StateDecoding (decoding of states), Witnesses and WitnessOrders (their order), LiveProcesses,
+--   SearchInvariant (step by step), SoundStates, CompleteSearches, LeastWitnesses, Observations, CompleteObservations.
+--   The graph: MarkedLists, GraphLines, GraphPaths, ExplainedWitnesses.
+-- - Files that are not read: EqualSteps, UnreadSteps (one step), UnreadRuns (runs). Deadlocks: ParentNumbers, WaitingProcesses.
+-- - Examples by computation: AnswerExampleRuns, ExampleRuns.
+pub mod ExplainLines
+pub mod PlaceLevels
+pub mod SinglePermissions
+pub mod FinalLinks
+pub mod AskingCalls
 pub mod ReachedNames
-pub mod Added
-pub mod Unveiled
-pub mod Settled
-pub mod Wants
-pub mod Listed
-pub mod Counted
-pub mod Otherwise
-pub mod Pledged
-pub mod Flows
-pub mod Worked
+pub mod AddedEntries
+pub mod TablesAfterSteps
+pub mod EntrySettings
+pub mod RestraintLines
+pub mod ListedNeeds
+pub mod NeedCounts
+pub mod OtherRestraints
+pub mod OtherPromises
+pub mod GoverningChanges
+pub mod AnswerExampleRuns
 -- ---- the search and its graph
-pub mod Along
-pub mod Answering
-pub mod Beside
-pub mod Complete
+pub mod GraphPaths
+pub mod EqualSteps
+pub mod UnreadRuns
+pub mod CompleteSearches
 pub mod ExampleRuns
 pub mod ExplainedWitnesses
-pub mod Least
+pub mod LeastWitnesses
 pub mod Lists
-pub mod LiveOnes
-pub mod Marked
-pub mod Marks
-pub mod New
-pub mod NotRead
+pub mod LiveProcesses
+pub mod GraphLines
+pub mod MarkedLists
+pub mod NewKeys
+pub mod UnreadSteps
 pub mod Observations
-pub mod Observing
-pub mod Reading
-pub mod Searching
-pub mod Sound
-pub mod Older
-pub mod Waiting
+pub mod CompleteObservations
+pub mod StateDecoding
+pub mod SearchInvariant
+pub mod SoundStates
+pub mod ParentNumbers
+pub mod WaitingProcesses
 pub mod Witnesses
+pub mod WitnessOrders
+pub use Rattle.pv_laws_access.proofs as OfLawsAccess
+pub use Rattle.pv_laws_states.proofs as OfLawsStates

@@ -30,14 +30,6 @@ module _ {X : Type 0} where
     each-append [] ys a b = b
     each-append (x ∷ xs) ys a b = (a.0, each-append xs ys a.1 b)
 
-    pub each-left : (xs ys : List X) → AllByRecursion P (xs ++ ys) → AllByRecursion P xs
-    each-left [] ys a = tt
-    each-left (x ∷ xs) ys a = (a.0, each-left xs ys a.1)
-
-    pub each-right : (xs ys : List X) → AllByRecursion P (xs ++ ys) → AllByRecursion P ys
-    each-right [] ys a = a
-    each-right (x ∷ xs) ys a = each-right xs ys a.1
-
   pub each-weaker : (P Q : X → Type 0) → ((x : X) → P x → Q x) → (xs : List X) → AllByRecursion P xs → AllByRecursion Q xs
   each-weaker P Q f [] a = tt
   each-weaker P Q f (x ∷ xs) a = (f x a.0, each-weaker P Q f xs a.1)

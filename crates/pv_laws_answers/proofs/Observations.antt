@@ -2,12 +2,9 @@
 use Rattle.std.proofs.Common.{◌≡◌, ◌∙◌, sym, ap, ℕ, Bool, true, false, ◌||◌, if◌then◌else◌, bytes_eq, List, [], ◌∷◌, ◌++◌, map, flat_map, length, refl}
 use Rattle.std.specs.List.{list_any}
 use Rattle.std.proofs.lemmas.Grind.{flat_map-append}
-use Rattle.pv_model.specs.Answers.Explore.{Move, moves_of, states_found, moves, new_ones, move_text, move_lines, done_line, endings, endings_line, explore_lines}
-use Rattle.pv_model.specs.Answers.Lines.{AnswerLine, of_trace}
-use Rattle.pv_model.specs.Answers.Numbers.{Numbers}
-use Rattle.pv_model.specs.Answers.Observed.{Observation, observed, observation_lines}
-use Rattle.pv_model.specs.Bytes.{is_empty}
-use Rattle.pv_model.specs.Trace.{Line, trace_bytes}
+use Rattle.pv_model.specs.Machine.{Move, moves_of, states_found, new_ones, move_text, endings, endings_line, AnswerLine, of_trace, Numbers, Observation, observed, is_empty, Line, trace_bytes}
+use Rattle.pv_model.specs.Answers.Explore.{moves, move_lines, done_line, explore_lines}
+use Rattle.pv_model.specs.Answers.Observed.{observation_lines}
 use Rattle.pv_laws_answers.specs.Observed.{ExploreReportsObservations}
 
 flat-flat : {X Y Z : Type 0} (g : Y → List Z) (h : X → List Y) (xs : List X) → flat_map (λ x. flat_map g (h x)) xs ≡ flat_map g (flat_map h xs)

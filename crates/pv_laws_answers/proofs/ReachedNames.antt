@@ -7,18 +7,15 @@ use Rattle.std.proofs.lemmas.List.{append-nil}
 use Rattle.pv_model.specs.declared.place.Place.{Place}
 use Rattle.pv_model.specs.declared.place.Place.TheVariants.{At, Node as Unnamed}
 use Rattle.pv_model.specs.Answers.Lines.{counted}
-use Rattle.pv_model.specs.Answers.Nodes.{with_name}
+use Rattle.pv_model.specs.Machine.{with_name, ListedName, Bytes, entries_of_table, Process, State, Entries, Tree, root, entries_at, find_entry, IsWellFormed}
 use Rattle.pv_model.specs.Answers.ProcessRecord.{open_descriptors}
-use Rattle.pv_model.specs.Answers.Reach.{ListedName, descriptor_texts, directory_texts, entry_texts, listed_names, names_within, name_text, reach_texts}
-use Rattle.pv_model.specs.Bytes.{Bytes}
-use Rattle.pv_model.specs.Calls.Restraints.{entries_of_table}
-use Rattle.pv_model.specs.State.{Process, State}
-use Rattle.pv_model.specs.Tree.{Entries, Tree, root, entries_at, find_entry, IsWellFormed}
+use Rattle.pv_model.specs.Answers.Reach.{descriptor_texts, directory_texts, entry_texts, listed_names, names_within, name_text, reach_texts}
+use Rattle.pv_model.specs.Grammar.Entries.{path_of_names}
 use Rattle.pv_laws_trees.proofs.Changes.{entries-good}
 use Rattle.pv_laws_trees.proofs.Entries.{by_name, find_after, tied_itself}
-use Rattle.pv_laws_access.specs.Order.{IsListedBy, Places, led_to, path_of}
-use Rattle.pv_laws_access.proofs.Listed.{listed-by, places_within}
-use Rattle.pv_laws_answers.specs.ReachNames.{AreNamesOf, IsPlaceOf}
+use Rattle.pv_laws_access.specs.Order.{IsListedBy, Places, led_to}
+use Rattle.pv_laws_access.proofs.ListingOrder.{listed-by, places_within}
+use Rattle.pv_laws_answers.specs.ReachNames.{AreNamesOf, IsPlaceOfNames}
 
 -- names in front of those of places
 abbrev after : List Bytes → Places → Places
@@ -38,9 +35,9 @@ after-none : (ps : Places) → after [] ps ≡ ps
 after-none [] = refl
 after-none (p ∷ ps) = ap (λ (rest : Places). p ∷ rest) (after-none ps)
 
-path-more : (front : List Bytes) (name : Bytes) → with_name name (path_of front) ≡ path_of (front ++ name ∷ [])
+path-more : (front : List Bytes) (name : Bytes) → with_name name (path_of_names front) ≡ path_of_names (front ++ name ∷ [])
 path-more front name =
-    append_assoc (path_of front) (codes "/") name ∙ ap (λ (bs : Bytes). path_of front ++ bs) (sym (append-nil (codes "/" ++ name)))
+    append_assoc (path_of_names front) (codes "/") name ∙ ap (λ (bs : Bytes). path_of_names front ++ bs) (sym (append-nil (codes "/" ++ name)))
     ∙ sym (flat_map-append (λ (x : Bytes). codes "/" ++ x) front (name ∷ []))
 
 module _ (t : Tree) where
@@ -63,13 +60,13 @@ module _ (t : Tree) where
 
   abbrev AllNames : ℕ → Type 0
   AllNames depth =
-      (front : List Bytes) (n : ℕ) (place : Place) → led_to t root front ≡ Some n → IsPlaceOf t front n place
-      → AreNamesOf t (after front (places_within t depth n)) (names_within t depth (path_of front) place n)
+      (front : List Bytes) (n : ℕ) (place : Place) → led_to t root front ≡ Some n → IsPlaceOfNames t front n place
+      → AreNamesOf t (after front (places_within t depth n)) (names_within t depth (path_of_names front) place n)
 
   module _ (sorted : (n : ℕ) → is_sorted by_name (entries_at t n) ≡ true) where
     names-below : (depth : ℕ) → AllNames depth → (front : List Bytes) (n : ℕ) → led_to t root front ≡ Some n → (es : Entries) → is_sorted by_name es ≡ true
         → ((q : Bytes) (m : ℕ) → find by_name q es ≡ Some m → find_entry t n q ≡ Some m)
-        → AreNamesOf t (after front (flat_map (λ e. map (λ p. (e.0 ∷ p.0, p.1)) (places_within t depth e.1)) es)) (flat_map (λ e. names_within t depth (with_name e.0 (path_of front)) (At n e.0 (Some e.1)) e.1) es)
+        → AreNamesOf t (after front (flat_map (λ e. map (λ p. (e.0 ∷ p.0, p.1)) (places_within t depth e.1)) es)) (flat_map (λ e. names_within t depth (with_name e.0 (path_of_names front)) (At n e.0 (Some e.1)) e.1) es)
     names-below depth each front n led [] order inside = tt
     names-below depth each front n led (e ∷ es) order inside =
         let found : find_entry t n e.0 ≡ Some e.1 = inside e.0 e.1 (ap (λ b. cond b (Some e.1) (find by_name e.0 es)) (tied_itself e.0)) in
@@ -77,22 +74,22 @@ module _ (t : Tree) where
         let here = each (front ++ e.0 ∷ []) e.1 (At n e.0 (Some e.1)) (led-more front root n e.1 e.0 led found) (inr (front, e.0, n, refl, led, refl)) in
         let under = map (λ p. (e.0 ∷ p.0, p.1)) (places_within t depth e.1) in
         let others = flat_map (λ e. map (λ p. (e.0 ∷ p.0, p.1)) (places_within t depth e.1)) es in
-        let named = names_within t depth (with_name e.0 (path_of front)) (At n e.0 (Some e.1)) e.1 in
+        let named = names_within t depth (with_name e.0 (path_of_names front)) (At n e.0 (Some e.1)) e.1 in
         let first : AreNamesOf t (after front under) named =
         subst (λ (bs : Bytes). AreNamesOf t (after front under) (names_within t depth bs (At n e.0 (Some e.1)) e.1)) (sym (path-more front e.0))
-        (subst (λ (ps : Places). AreNamesOf t ps (names_within t depth (path_of (front ++ e.0 ∷ [])) (At n e.0 (Some e.1)) e.1)) (sym (after-under front e.0 (places_within t depth e.1))) here) in
-        subst (λ (ps : Places). AreNamesOf t ps (named ++ flat_map (λ e. names_within t depth (with_name e.0 (path_of front)) (At n e.0 (Some e.1)) e.1) es))
+        (subst (λ (ps : Places). AreNamesOf t ps (names_within t depth (path_of_names (front ++ e.0 ∷ [])) (At n e.0 (Some e.1)) e.1)) (sym (after-under front e.0 (places_within t depth e.1))) here) in
+        subst (λ (ps : Places). AreNamesOf t ps (named ++ flat_map (λ e. names_within t depth (with_name e.0 (path_of_names front)) (At n e.0 (Some e.1)) e.1) es))
         (sym (after-append front under others))
-        (names-append (after front under) (after front others) named (flat_map (λ e. names_within t depth (with_name e.0 (path_of front)) (At n e.0 (Some e.1)) e.1) es) first rest)
+        (names-append (after front under) (after front others) named (flat_map (λ e. names_within t depth (with_name e.0 (path_of_names front)) (At n e.0 (Some e.1)) e.1) es) first rest)
 
     names-all : (depth : ℕ) → AllNames depth
     unfolding places_within
     names-all zero front n place led is = tt
     names-all (suc depth) front n place led is = (
       record {
-        path = ap path_of (sym (append-nil front));
+        path = ap path_of_names (sym (append-nil front));
         node = refl;
-        place = subst (λ (names : List Bytes). IsPlaceOf t names n place) (sym (append-nil front)) is;
+        place = subst (λ (names : List Bytes). IsPlaceOfNames t names n place) (sym (append-nil front)) is;
       },
       names-below depth (names-all depth) front n led (entries_at t n) (sorted n) (λ q m found. found),
     )

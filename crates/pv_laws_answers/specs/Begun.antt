@@ -5,12 +5,8 @@ use Rattle.pv_model.specs.declared.call.Call.{Call}
 use Rattle.pv_model.specs.declared.call.Call.TheVariants.{Pledge, Execve}
 use Rattle.pv_model.specs.declared.promise.Promise.{Promise}
 use Rattle.pv_model.specs.declared.promise.Promise.TheVariants.{Rpath, Wpath}
-use Rattle.pv_model.specs.Answers.Needs.{Asked, asked_in, same_promise}
-use Rattle.pv_model.specs.Bytes.{Bytes}
-use Rattle.pv_model.specs.Program.{calls_for, next}
-use Rattle.pv_model.specs.Promises.{Promises, contains}
-use Rattle.pv_model.specs.State.{Program, Process, ProcessRecord, live, ended_record, State, process_at}
-use Rattle.pv_model.specs.Step.{step, run}
+use Rattle.pv_model.specs.Machine.{Asked, same_promise, Bytes, calls_for, next, Promises, contains, Program, Process, ProcessRecord, live, ended_record, State, process_at, step, run}
+use Rattle.pv_model.specs.Answers.Needs.{asked_in}
 
 abbrev pub record_begun : Option Promises → ProcessRecord → ProcessRecord
 record_begun held (live p) = live (record p { promises = held })

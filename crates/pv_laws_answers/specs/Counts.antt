@@ -4,13 +4,8 @@ use Rattle.std.specs.Fmt.{decimal}
 use Rattle.std.specs.List.{AllByRecursion, list_any, range_with_len}
 use Rattle.pv_model.specs.declared.call.Call.{Call}
 use Rattle.pv_model.specs.declared.promise.Promise.{Promise}
-use Rattle.pv_model.specs.Answers.Lines.{AnswerLine, answer_line, counted_from, permissions_in_places}
-use Rattle.pv_model.specs.Answers.Needs.{Judged, needing, needs_lines, promise_texts_of, promises_needed, same_judged, same_promise, target_text, walks_judged, walks_to}
-use Rattle.pv_model.specs.Bytes.{Bytes}
-use Rattle.pv_model.specs.Program.{calls_for, next}
-use Rattle.pv_model.specs.Promise.{all_promises, promise_name}
-use Rattle.pv_model.specs.State.{Process, Program, State, process_at}
-use Rattle.pv_model.specs.Step.{run}
+use Rattle.pv_model.specs.Machine.{AnswerLine, answer_line, counted_from, permissions_in_places, Judged, promises_needed, same_judged, same_promise, walks_judged, walks_to, Bytes, calls_for, next, all_promises, promise_name, Process, Program, State, process_at, run}
+use Rattle.pv_model.specs.Answers.Needs.{needing, needs_lines, promise_texts_of, target_text}
 use Rattle.pv_laws_answers.specs.ProcessImages.{IsCallOf, Moment, letters_listed, moments, process_images_of, targets_listed, what_is_asked}
 
 -- the number of elements that pass a test
@@ -31,8 +26,8 @@ pub record IsLastWhere {X : Type 0} (test : X → Bool) (xs : List X) (x : X) : 
   pub last : NoneWhere test after
 
 -- a number of times, and the line of the last
-abbrev pub times : Bytes → ℕ → ℕ → Bytes
-times what count line = what ++ decimal count ++ codes ", last line " ++ decimal line
+abbrev pub counted_line : Bytes → ℕ → ℕ → Bytes
+counted_line what count line = what ++ decimal count ++ codes ", last line " ++ decimal line
 
 -- ---- calls
 
@@ -61,7 +56,7 @@ abbrev pub IsPromiseCounted : Promise → List Moment → List Bytes → Type 0
 IsPromiseCounted a process_image texts =
     (NoneWhere (needed_promise a) process_image × (texts ≡ []))
     ⊎ ((m : Moment) × IsLastWhere (needed_promise a) process_image m
-    × (texts ≡ (promise_name a ++ times (codes ", calls ") (number_where (needed_promise a) process_image) m.asked.line) ∷ []))
+    × (texts ≡ (promise_name a ++ counted_line (codes ", calls ") (number_where (needed_promise a) process_image) m.asked.line) ∷ []))
 
 abbrev pub promise_texts_in : List Moment → Promise → List Bytes
 promise_texts_in process_image a = promise_texts_of a (needing a (what_is_asked process_image))
@@ -84,7 +79,7 @@ pub record IsTargetCounted (target : Judged) (process_image : List Moment) (text
   pub last : IsLastWhere (goes_to target) (walks_of_calls process_image) walk
   pub is :
       text ≡ permissions_in_places (letters_listed process_image target) ++ codes ", " ++ target.words
-      ++ times (codes ", walks ") (number_where (goes_to target) (walks_of_calls process_image)) walk.0.asked.line
+      ++ counted_line (codes ", walks ") (number_where (goes_to target) (walks_of_calls process_image)) walk.0.asked.line
 
 abbrev pub target_text_in : List Moment → Judged → Bytes
 target_text_in process_image target = target_text target (walks_to target (walks_judged (what_is_asked process_image)))

@@ -2,10 +2,8 @@
 use Rattle.std.specs.Prelude.{◌≡◌, ℕ, Bool, not, List, [], ◌∷◌, map, filter, codes, bytes_eq, Option}
 use Rattle.std.specs.List.{list_any}
 use Rattle.pv_model.specs.Answers.Explain.{explain_lines}
-use Rattle.pv_model.specs.Answers.Lines.{AnswerLine, of_trace, answer_bytes}
-use Rattle.pv_model.specs.Bytes.{Bytes}
-use Rattle.pv_model.specs.State.{Program, State}
-use Rattle.pv_model.specs.Step.{run, run_text}
+use Rattle.pv_model.specs.Machine.{AnswerLine, of_trace, answer_bytes, Bytes, Program, State, run}
+use Rattle.pv_model.specs.Step.{run_text}
 
 -- the words of lines that only explain
 abbrev pub explaining_words : List Bytes

@@ -2,16 +2,11 @@
 use Rattle.std.specs.Prelude.{◌≡◌, ℕ, ◌<◌, ◌^◌, Bool, not, ◌||◌, IsTrue, IsFalse, List, [], ◌∷◌, ◌++◌, filter, codes, bytes_eq, Option}
 use Rattle.std.specs.Fmt.{decimal}
 use Rattle.std.specs.List.{list_any}
-use Rattle.pv_model.specs.Answers.Explain.{setting_text, explained_step, explain_lines}
-use Rattle.pv_model.specs.Answers.Explore.{Found, is_found, states_found, is_complete}
-use Rattle.pv_model.specs.Answers.Graph.{unreported, graph_lines}
-use Rattle.pv_model.specs.Answers.Lines.{AnswerLine, answer_line}
-use Rattle.pv_model.specs.Answers.ProcessRecord.{state_lines}
-use Rattle.pv_model.specs.Answers.Settings.{Setting}
-use Rattle.pv_model.specs.Bytes.{Bytes}
-use Rattle.pv_model.specs.State.{Program, State}
-use Rattle.pv_model.specs.Step.{step, run}
-use Rattle.pv_laws_answers.specs.Search.{IsSearched}
+use Rattle.pv_model.specs.Machine.{explained_step, Found, states_found, is_complete, graph_lines, AnswerLine, answer_line, state_lines, Setting, Bytes, Program, State, step, run}
+use Rattle.pv_model.specs.Answers.Explain.{setting_text, explain_lines}
+use Rattle.pv_model.specs.Answers.Explore.{is_found}
+use Rattle.pv_model.specs.Answers.Graph.{unreported}
+use Rattle.pv_laws_answers.specs.Search.{IsSearchable}
 use Rattle.pv_laws_answers.specs.Witnesses.{AreSteps}
 
 -- ---- parsing the lines of a graph
@@ -38,7 +33,7 @@ abbrev pub ends_step : AnswerLine → Bool
 ends_step l = begins_step l || ends_state l
 
 -- the state with a number has a line STEP of a process with a text, followed by exactly these lines
-pub record HasStep (ls : List AnswerLine) (number : Bytes) (pid : ℕ) (leads : Bytes) (reported : List AnswerLine) : Type 0 where
+pub record HasStepLines (ls : List AnswerLine) (number : Bytes) (pid : ℕ) (leads : Bytes) (reported : List AnswerLine) : Type 0 where
   pub before : List AnswerLine
   pub inside : List AnswerLine
   pub end_line : AnswerLine
@@ -49,7 +44,7 @@ pub record HasStep (ls : List AnswerLine) (number : Bytes) (pid : ℕ) (leads : 
   pub ends : IsTrue (ends_step end_line)
 
 -- the state with a number has the lines of `state`
-pub record HasState (ls : List AnswerLine) (number : Bytes) (s : State) : Type 0 where
+pub record HasStateLines (ls : List AnswerLine) (number : Bytes) (s : State) : Type 0 where
   pub before : List AnswerLine
   pub rest : List AnswerLine
   pub parts : ls ≡ before ++ (answer_line 0 (codes "AT") number ∷ state_lines s ++ rest)
@@ -59,7 +54,7 @@ pub record HasState (ls : List AnswerLine) (number : Bytes) (s : State) : Type 0
 abbrev pub IsAlong : List AnswerLine → Bytes → List ℕ → Bytes → List AnswerLine → Type 0
 IsAlong ls number [] last reported = (last ≡ number) × (reported ≡ [])
 IsAlong ls number (pid ∷ pids) last reported =
-    (next_number : Bytes) × (now : List AnswerLine) × (later : List AnswerLine) × HasStep ls number pid (codes "to " ++ next_number) now
+    (next_number : Bytes) × (now : List AnswerLine) × (later : List AnswerLine) × HasStepLines ls number pid (codes "to " ++ next_number) now
     × IsAlong ls next_number pids last later × (reported ≡ now ++ later)
 
 -- ---- paths are runs
@@ -73,12 +68,12 @@ explained_run program_of (pid ∷ pids) s = explained_step program_of unreported
 pub record IsRunAlong (program_of : Bytes → Option Program) (ls : List AnswerLine) (s : State) (pids : List ℕ) (last : Bytes) (reported : List AnswerLine) : Type 0 where
   pub steps : AreSteps program_of pids s
   pub lines : reported ≡ explained_run program_of pids s
-  pub state : HasState ls last (run program_of pids s).final
+  pub state : HasStateLines ls last (run program_of pids s).final
 
 -- each path along a graph's lines from its first state is a run
 abbrev pub WitnessesAreRuns : Type 0
 WitnessesAreRuns =
-    (program_of : Bytes → Option Program) (limit : ℕ) (trees : Bool) (s : State) (pids : List ℕ) (last : Bytes) (reported : List AnswerLine) → IsSearched program_of limit s → limit < 2 ^ 64
+    (program_of : Bytes → Option Program) (limit : ℕ) (trees : Bool) (s : State) (pids : List ℕ) (last : Bytes) (reported : List AnswerLine) → IsSearchable program_of limit s → limit < 2 ^ 64
     → IsAlong (graph_lines program_of limit trees s) (decimal 0) pids last reported → IsRunAlong program_of (graph_lines program_of limit trees s) s pids last reported
 
 -- all states of a run are in the graph
@@ -94,13 +89,13 @@ pub record IsWitnessAlong (program_of : Bytes → Option Program) (ls : List Ans
 -- each run of live processes whose states are all in the graph is such a path
 abbrev pub RunsAreWitnesses : Type 0
 RunsAreWitnesses =
-    (program_of : Bytes → Option Program) (limit : ℕ) (trees : Bool) (s : State) (pids : List ℕ) → IsSearched program_of limit s → AreSteps program_of pids s
+    (program_of : Bytes → Option Program) (limit : ℕ) (trees : Bool) (s : State) (pids : List ℕ) → IsSearchable program_of limit s → AreSteps program_of pids s
     → StaysFound program_of (states_found program_of limit s) pids s → IsWitnessAlong program_of (graph_lines program_of limit trees s) s pids
 
 -- if the search is complete, each run of live processes is such a path
 abbrev pub AllRunsAreWitnesses : Type 0
 AllRunsAreWitnesses =
-    (program_of : Bytes → Option Program) (limit : ℕ) (trees : Bool) (s : State) (pids : List ℕ) → IsSearched program_of limit s → IsTrue (is_complete program_of limit s)
+    (program_of : Bytes → Option Program) (limit : ℕ) (trees : Bool) (s : State) (pids : List ℕ) → IsSearchable program_of limit s → IsTrue (is_complete program_of limit s)
     → AreSteps program_of pids s → IsWitnessAlong program_of (graph_lines program_of limit trees s) s pids
 
 -- ---- with the lines of `explain`

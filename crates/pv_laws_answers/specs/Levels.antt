@@ -4,17 +4,15 @@ use Rattle.pv_model.specs.declared.place.Place.{Place}
 use Rattle.pv_model.specs.declared.target.Target.{Target}
 use Rattle.pv_model.specs.declared.target.Target.TheVariants.{Directory, Name}
 use Rattle.pv_model.specs.Answers.Levels.{Level, level, levels}
-use Rattle.pv_model.specs.Bytes.{Bytes}
-use Rattle.pv_model.specs.Closed.{GovernsName, by_name, by_directory}
-use Rattle.pv_model.specs.Tree.{Tree, root, parent, IsWellFormed}
-use Rattle.pv_model.specs.Unveil.{Table, entry_for, target_of, Governs, own, from_above, governing_entry}
+use Rattle.pv_model.specs.Machine.{Bytes, GovernsName, Tree, root, parent, IsWellFormed, Table, entry_for, target_of, Governs, own, from_above, governing_entry}
+use Rattle.pv_model.specs.Closed.{by_name, by_directory}
 use Rattle.pv_laws_access.specs.Tables.{GovernsPlace, unnamed, absent, directory, named}
 
 -- the last level has this entry, or none, and no level before it has one
-abbrev pub LeadTo : Option ℕ → List Level → Type 0
-LeadTo found [] = ⊥
-LeadTo found (l ∷ []) = l.entry ≡ found
-LeadTo found (l ∷ next ∷ ls) = (l.entry ≡ None) × LeadTo found (next ∷ ls)
+abbrev pub LevelsLeadTo : Option ℕ → List Level → Type 0
+LevelsLeadTo found [] = ⊥
+LevelsLeadTo found (l ∷ []) = l.entry ≡ found
+LevelsLeadTo found (l ∷ next ∷ ls) = (l.entry ≡ None) × LevelsLeadTo found (next ∷ ls)
 
 module _ (t : Tree) (table : Table) where
   -- the levels of a derivation that an entry governs a directory
@@ -52,7 +50,7 @@ LevelsAreTheDerivation = (t : Tree) (table : Table) (place : Place) (k : ℕ) (g
 
 -- the levels end at the entry that governs the place; if there is none, no level has an entry
 abbrev pub LevelsLeadToTheGovernor : Type 0
-LevelsLeadToTheGovernor = (t : Tree) (table : Table) (place : Place) → LeadTo (governing_entry t table place) (levels t table place)
+LevelsLeadToTheGovernor = (t : Tree) (table : Table) (place : Place) → LevelsLeadTo (governing_entry t table place) (levels t table place)
 
 -- in every well-formed tree, the levels go up from the place
 abbrev pub LevelsGoUp : Type 0

@@ -17,3 +17,5 @@ pub mod Waits
 pub mod Unread
 pub mod Graphs
 pub mod SearchExamples
+pub use Rattle.pv_laws_access.specs as OfLawsAccess
+pub use Rattle.pv_laws_states.specs as OfLawsStates

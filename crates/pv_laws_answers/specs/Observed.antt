@@ -1,11 +1,8 @@
 -- Laws of observations: the texts that `explore` reports are one.
 use Rattle.std.specs.Prelude.{◌≡◌, ℕ, [], ◌∷◌, ◌++◌, length, map, flat_map, Option}
-use Rattle.pv_model.specs.Answers.Explore.{states_found, endings, done_line, endings_line, explore_lines}
-use Rattle.pv_model.specs.Answers.Lines.{of_trace}
-use Rattle.pv_model.specs.Answers.Observed.{lines_observed, observations, first_observations, observation_lines}
-use Rattle.pv_model.specs.Bytes.{Bytes}
-use Rattle.pv_model.specs.State.{Program, State}
-use Rattle.pv_model.specs.Trace.{trace_bytes}
+use Rattle.pv_model.specs.Machine.{states_found, endings, endings_line, of_trace, observations, first_observations, Bytes, Program, State, trace_bytes}
+use Rattle.pv_model.specs.Answers.Explore.{done_line, explore_lines}
+use Rattle.pv_model.specs.Answers.Observed.{lines_observed, observation_lines}
 
 -- `explore` reports the observations of the lines of steps, and then the numbers of states and endings
 abbrev pub ExploreReportsObservations : Type 0

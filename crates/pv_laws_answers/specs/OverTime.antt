@@ -6,15 +6,9 @@ use Rattle.pv_model.specs.declared.place.Place.TheVariants.{At}
 use Rattle.pv_model.specs.declared.promise.Promise.TheVariants.{Cpath}
 use Rattle.pv_model.specs.declared.target.Target.{Target}
 use Rattle.pv_model.specs.Answers.Reach.{reached_permissions}
-use Rattle.pv_model.specs.Bytes.{Bytes}
-use Rattle.pv_model.specs.Perms.{covers}
-use Rattle.pv_model.specs.Program.{next}
+use Rattle.pv_model.specs.Machine.{Bytes, covers, next, Program, Process, State, process_at, step, Touches, Tree, is_directory_at, find_entry, IsAtOrAbove, Table}
 use Rattle.pv_model.specs.Promises.{holds}
-use Rattle.pv_model.specs.State.{Program, Process, State, process_at}
-use Rattle.pv_model.specs.Step.{step}
-use Rattle.pv_model.specs.Touch.{change_entry, Touches}
-use Rattle.pv_model.specs.Tree.{Tree, is_directory_at, find_entry, IsAtOrAbove}
-use Rattle.pv_model.specs.Unveil.{Table}
+use Rattle.pv_model.specs.Touch.{change_entry}
 use Rattle.pv_laws_states.specs.States.{EncodesPrograms, IsValid}
 use Rattle.pv_laws_access.specs.Growth.{begins_image}
 
@@ -27,9 +21,6 @@ abbrev pub letters_at : State → Process → ℕ → Bytes → Perms
 letters_at s p d name = reached_permissions s p (place_in s.tree d name)
 
 module _ (program_of : Bytes → Option Program) (s : State) (pid : ℕ) where
-  abbrev pub after : State
-  after = (step program_of s pid).after
-
   -- the step is the process's own; the process stays live in one program image, and its table is locked
   pub record IsOwnStep (p q : Process) (table : Table) : Type 0 where
     pub at : process_at s pid ≡ Some p

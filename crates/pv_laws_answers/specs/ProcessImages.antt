@@ -10,18 +10,8 @@ use Rattle.pv_model.specs.declared.perms.Perms.{Perms}
 use Rattle.pv_model.specs.declared.promise.Promise.{Promise}
 use Rattle.pv_model.specs.declared.target.Target.{Target}
 use Rattle.pv_model.specs.declared.target.Target.TheVariants.{Directory, Name}
-use Rattle.pv_model.specs.Answer.{answer, update}
-use Rattle.pv_model.specs.Answers.Needs.{Judged, Asked, asked, asked_in, asked_by_one, process_images, same_promise, needing, walks_judged, targets_in, walks_to, permissions_asked}
-use Rattle.pv_model.specs.Bytes.{Bytes}
-use Rattle.pv_model.specs.Needs.{needs}
-use Rattle.pv_model.specs.Perms.{covers}
-use Rattle.pv_model.specs.Program.{calls_for, next}
-use Rattle.pv_model.specs.Promises.{Promises, contains, Need, is_met}
-use Rattle.pv_model.specs.State.{Program, Process, State, process_at}
-use Rattle.pv_model.specs.Step.{step, run}
-use Rattle.pv_model.specs.Tree.{Tree}
-use Rattle.pv_model.specs.Unveil.{Table, same_target, entry_for, permissions_at, directory_rights}
-use Rattle.pv_laws_states.specs.Courses.{is_unveil}
+use Rattle.pv_model.specs.Machine.{answer, update, Judged, Asked, asked, same_promise, walks_judged, walks_to, Bytes, needs, covers, calls_for, next, Promises, contains, Need, is_met, Program, Process, State, process_at, step, run, Tree, Table, same_target, entry_for, permissions_at, directory_rights, is_unveil}
+use Rattle.pv_model.specs.Answers.Needs.{asked_in, asked_by_one, process_images, needing, targets_in, permissions_asked}
 use Rattle.pv_laws_answers.specs.Wanted.{reports_need, reports_of_table}
 
 -- ---- the calls of a program image
@@ -83,14 +73,14 @@ abbrev pub with_promises : State → ℕ → Promises → State
 with_promises s pid set = update s pid (λ p. record p { promises = Some set })
 
 -- a promise is listed for a program image, that is, one of its calls needed it
-abbrev pub IsListed : Promise → List Moment → Type 0
-IsListed a process_image = needing a (what_is_asked process_image) ≢ []
+abbrev pub IsPromiseListed : Promise → List Moment → Type 0
+IsPromiseListed a process_image = needing a (what_is_asked process_image) ≢ []
 
 -- if the process has all listed promises throughout, no promise kills it or refuses a call of the program image
 abbrev pub ListedPromisesAreEnough : Type 0
 ListedPromisesAreEnough =
     (program_of : Bytes → Option Program) (pids : List ℕ) (s : State) (pid : ℕ) (process_image : List Moment) (m : Moment) (set : Promises) → IsCallOf program_of pids s pid process_image m
-    → ((a : Promise) → IsListed a process_image → IsTrue (contains set a)) → IsFalse (reports_need (step program_of (with_promises m.state pid set) pid).lines)
+    → ((a : Promise) → IsPromiseListed a process_image → IsTrue (contains set a)) → IsFalse (reports_need (step program_of (with_promises m.state pid set) pid).lines)
 
 -- a need is counted for its first promise
 abbrev pub is_counted_for : Promise → Need → Bool
@@ -131,21 +121,21 @@ abbrev pub letters_listed : List Moment → Judged → Perms
 letters_listed process_image target = permissions_asked (walks_to target (walks_judged (what_is_asked process_image)))
 
 -- a table grants all listed permissions at each listed target
-abbrev pub GivesListed : List Moment → Table → State → Type 0
-GivesListed process_image table s = (target : Judged) → Contains (targets_listed process_image) target → GivesAt s.tree table target.target (letters_listed process_image target)
+abbrev pub GrantsListed : List Moment → Table → State → Type 0
+GrantsListed process_image table s = (target : Judged) → Contains (targets_listed process_image) target → GivesAt s.tree table target.target (letters_listed process_image target)
 
 -- with such a table in place of the process's own, no call has an UNVL line, except for a second walk whose call was
 -- refused at the first walk in the run
 abbrev pub ListedLettersAreEnough : Type 0
 ListedLettersAreEnough =
     (program_of : Bytes → Option Program) (pids : List ℕ) (s : State) (pid : ℕ) (process_image : List Moment) (m : Moment) (table : Table) (p : Process) (call : Call)
-    → IsCallOf program_of pids s pid process_image m → process_at m.state pid ≡ Some p → next p ≡ calls_for call → IsFalse (is_unveil call) → GivesListed process_image table m.state
+    → IsCallOf program_of pids s pid process_image m → process_at m.state pid ≡ Some p → next p ≡ calls_for call → IsFalse (is_unveil call) → GrantsListed process_image table m.state
     → IsTrue (reports_of_table (step program_of (with_own_table m.state pid table) pid).lines)
     → ((answer program_of (with_own_table m.state pid table) pid call).walks ≡ 2) × ((answer program_of m.state pid call).walks ≡ 1)
     × IsTrue (reports_of_table (step program_of m.state pid).lines)
 
 -- a table grants all of them, except at one target, where the entry that governs it lacks a permission
-pub record GivesListedBut (process_image : List Moment) (table : Table) (s : State) (target : Target) (letter : Perms) (k : ℕ) : Type 0 where
+pub record GrantsListedExcept (process_image : List Moment) (table : Table) (s : State) (target : Target) (letter : Perms) (k : ℕ) : Type 0 where
   pub governs : governing_target s.tree table target ≡ Some k
   pub lacks : IsFalse (covers (permissions_at table k) letter)
   pub others : (other : Judged) → Contains (targets_listed process_image) other → IsFalse (same_target other.target target) → GivesAt s.tree table other.target (letters_listed process_image other)
@@ -154,6 +144,6 @@ pub record GivesListedBut (process_image : List Moment) (table : Table) (s : Sta
 abbrev pub ListedLettersAreNeeded : Type 0
 ListedLettersAreNeeded =
     (program_of : Bytes → Option Program) (pids : List ℕ) (s : State) (pid : ℕ) (process_image : List Moment) (m : Moment) (table : Table) (p : Process) (call : Call) (judged : Judged) (letter : Perms) (k : ℕ)
-    → IsCallOf program_of pids s pid process_image m → process_at m.state pid ≡ Some p → next p ≡ calls_for call → GivesListedBut process_image table m.state judged.target letter k
+    → IsCallOf program_of pids s pid process_image m → process_at m.state pid ≡ Some p → next p ≡ calls_for call → GrantsListedExcept process_image table m.state judged.target letter k
     → Contains m.asked.walks judged → IsTrue (covers judged.permissions letter)
     → (answer program_of (with_own_table m.state pid table) pid call).outcome ≡ Failed EACCES (ByUnveil (Some k))

@@ -14,20 +14,8 @@ use Rattle.pv_model.specs.declared.perms.Perms.{Perms}
 use Rattle.pv_model.specs.declared.place.Place.{Place}
 use Rattle.pv_model.specs.declared.promise.Promise.{Promise}
 use Rattle.pv_model.specs.declared.promise.Promise.TheVariants.{Rpath, Wpath, Cpath, Exec}
-use Rattle.pv_model.specs.Answer.{answer}
+use Rattle.pv_model.specs.Machine.{answer, Bytes, is_link, ends_in_dot, node_of, end_of, needs, least_free, covers, Need, missing_promise, Program, Process, State, process_at, node_at, resolve, Walk, rename_walk, walks_of}
 use Rattle.pv_model.specs.Answers.Reach.{reached_permissions}
-use Rattle.pv_model.specs.Bytes.{Bytes}
-use Rattle.pv_model.specs.Calls.Descriptors.{is_link}
-use Rattle.pv_model.specs.Calls.Paths.{ends_in_dot}
-use Rattle.pv_model.specs.Effect.{node_of, end_of}
-use Rattle.pv_model.specs.Needs.{needs}
-use Rattle.pv_model.specs.Numbered.{least_free}
-use Rattle.pv_model.specs.Perms.{covers}
-use Rattle.pv_model.specs.Promises.{Need, missing_promise}
-use Rattle.pv_model.specs.State.{Program, Process, State, process_at}
-use Rattle.pv_model.specs.Tree.{node_at}
-use Rattle.pv_model.specs.Walk.{resolve}
-use Rattle.pv_model.specs.Walks.{Walk, rename_walk, walks_of}
 
 -- whether a promise killed or refused the call, or a table refused it
 abbrev pub is_by_sandbox : Outcome → Bool
@@ -41,8 +29,8 @@ need_if true a = (a ∷ []) ∷ []
 need_if false a = []
 
 -- the promises that correspond to permissions
-abbrev pub needs_with : Perms → List Need
-needs_with asked = need_if asked.r Rpath ++ need_if asked.w Wpath ++ need_if asked.x Exec ++ need_if asked.c Cpath
+abbrev pub needs_for : Perms → List Need
+needs_for asked = need_if asked.r Rpath ++ need_if asked.w Wpath ++ need_if asked.x Exec ++ need_if asked.c Cpath
 
 abbrev pub is_some_letter : Perms → Bool
 is_some_letter asked = asked.r || asked.w || asked.x || asked.c
@@ -55,7 +43,7 @@ module _ (program_of : Bytes → Option Program) (s : State) (pid : ℕ) (p : Pr
     pub only : walks_of call ≡ walk ∷ []
     pub end : end_of s p walk ≡ Ok place
     pub asks : walk.needed ≡ asked
-    pub goes_with : needs call ≡ needs_with asked
+    pub goes_with : needs call ≡ needs_for asked
     pub made : missing_promise p.promises (needs call) ≡ None → (answer program_of s pid call).walks ≡ 1
 
 -- neither a promise nor the table refuses such a call if and only if the process has all these permissions at the place
@@ -82,20 +70,20 @@ abbrev pub LeadsThere : State → Process → Bytes → Place → Type 0
 LeadsThere s p path place = resolve s.tree Keep p.directory path ≡ Ok place
 
 -- an open that creates nothing and does not follow a final link
-abbrev pub opening : Mode → OpenFlags
-opening mode = record { mode = mode; append = false; create = false; truncate = false; exclusive = false; no_follow = true; directory = false; close_on_exec = false }
+abbrev pub opening_for : Mode → OpenFlags
+opening_for mode = record { mode = mode; append = false; create = false; truncate = false; exclusive = false; no_follow = true; directory = false; close_on_exec = false }
 
 -- an open for reading shows r
 abbrev pub OpenShowsR : Type 0
 OpenShowsR =
     (program_of : Bytes → Option Program) (s : State) (pid : ℕ) (p : Process) (path : Bytes) (place : Place) → process_at s pid ≡ Some p → HasRoomToOpen s p → LeadsThere s p path place
-    → IsFalse (is_by_sandbox (answer program_of s pid (Open path (opening Read))).outcome) ↔ IsTrue (reached_permissions s p place).r
+    → IsFalse (is_by_sandbox (answer program_of s pid (Open path (opening_for Read))).outcome) ↔ IsTrue (reached_permissions s p place).r
 
 -- an open for writing shows w
 abbrev pub OpenShowsW : Type 0
 OpenShowsW =
     (program_of : Bytes → Option Program) (s : State) (pid : ℕ) (p : Process) (path : Bytes) (place : Place) → process_at s pid ≡ Some p → HasRoomToOpen s p → LeadsThere s p path place
-    → IsFalse (is_by_sandbox (answer program_of s pid (Open path (opening Write))).outcome) ↔ IsTrue (reached_permissions s p place).w
+    → IsFalse (is_by_sandbox (answer program_of s pid (Open path (opening_for Write))).outcome) ↔ IsTrue (reached_permissions s p place).w
 
 -- an execve of a node that is not a link shows x
 abbrev pub ExecveShowsX : Type 0

@@ -2,23 +2,22 @@
 use Rattle.std.specs.Prelude.{◌≡◌, ◌⊎◌, ℕ, List, [], ◌∷◌, ◌++◌, map, Some}
 use Rattle.pv_model.specs.declared.place.Place.{Place}
 use Rattle.pv_model.specs.declared.place.Place.TheVariants.{At, Node as Unnamed}
-use Rattle.pv_model.specs.Answers.Reach.{ListedName, listed_names, name_text, reach_texts}
-use Rattle.pv_model.specs.Bytes.{Bytes}
-use Rattle.pv_model.specs.State.{Process, State}
-use Rattle.pv_model.specs.Tree.{Tree, root, IsWellFormed}
-use Rattle.pv_laws_access.specs.Order.{IsListedBy, Places, led_to, path_of}
+use Rattle.pv_model.specs.Machine.{ListedName, Bytes, Process, State, Tree, root, IsWellFormed}
+use Rattle.pv_model.specs.Answers.Reach.{listed_names, name_text, reach_texts}
+use Rattle.pv_model.specs.Grammar.Entries.{path_of_names}
+use Rattle.pv_laws_access.specs.Order.{IsListedBy, Places, led_to}
 
 -- names lead to a place at a node: the root, or the last name, in the directory to which the names before it lead
-abbrev pub IsPlaceOf : Tree → List Bytes → ℕ → Place → Type 0
-IsPlaceOf t names n place =
+abbrev pub IsPlaceOfNames : Tree → List Bytes → ℕ → Place → Type 0
+IsPlaceOfNames t names n place =
     ((names ≡ []) × (place ≡ Unnamed root))
     ⊎ ((front : List Bytes) × (last : Bytes) × (d : ℕ) × (names ≡ front ++ last ∷ []) × (led_to t root front ≡ Some d) × (place ≡ At d last (Some n)))
 
 -- a listed name is that of a place of the tree: its path, its node, and the place about which a table decides
 pub record IsNameOf (t : Tree) (p : List Bytes × ℕ) (l : ListedName) : Type 0 where
-  pub path : l.path ≡ path_of p.0
+  pub path : l.path ≡ path_of_names p.0
   pub node : l.node ≡ p.1
-  pub place : IsPlaceOf t p.0 p.1 l.place
+  pub place : IsPlaceOfNames t p.0 p.1 l.place
 
 -- listed names are those of places, in order, one for each
 abbrev pub AreNamesOf : Tree → Places → List ListedName → Type 0

@@ -5,17 +5,7 @@ use Rattle.pv_model.specs.declared.outcome.Outcome.TheVariants.{Value}
 use Rattle.pv_model.specs.declared.perms.Perms.{Perms}
 use Rattle.pv_model.specs.declared.place.Place.{Place}
 use Rattle.pv_model.specs.declared.target.Target.{Target}
-use Rattle.pv_model.specs.Answers.Explain.{settings_next}
-use Rattle.pv_model.specs.Answers.Settings.{Setting, Settings, settings_of}
-use Rattle.pv_model.specs.Bytes.{Bytes}
-use Rattle.pv_model.specs.Calls.Restraints.{entries_of_table}
-use Rattle.pv_model.specs.Effect.{end_of}
-use Rattle.pv_model.specs.Perms.{no_permissions, read_permissions}
-use Rattle.pv_model.specs.Program.{calls_for, next}
-use Rattle.pv_model.specs.State.{Program, Process, State, process_at}
-use Rattle.pv_model.specs.Step.{step, run}
-use Rattle.pv_model.specs.Unveil.{entry_for, target_of}
-use Rattle.pv_model.specs.Walks.{unveil_walk}
+use Rattle.pv_model.specs.Machine.{settings_next, Setting, Settings, settings_of, Bytes, entries_of_table, end_of, no_permissions, read_permissions, calls_for, next, Program, Process, State, process_at, step, run, entry_for, target_of, unveil_walk}
 use Rattle.pv_laws_states.specs.States.{EncodesPrograms, IsValid}
 use Rattle.pv_laws_access.specs.Growth.{begins_image}
 use Rattle.pv_laws_access.specs.Origins.{origin}

@@ -2,12 +2,8 @@
 use Rattle.std.specs.Prelude.{◌≡◌, ◌≢◌, ℕ, ◌<◌, IsTrue, List, Option, Some}
 use Rattle.std.specs.List.{AllByRecursion}
 use Rattle.pv_model.specs.declared.outcome.Outcome.TheVariants.{Blocked}
-use Rattle.pv_model.specs.Bytes.{Bytes}
-use Rattle.pv_model.specs.Calls.Processes.{parent_of}
-use Rattle.pv_model.specs.State.{Program, Process, State, first_state, process_at}
-use Rattle.pv_model.specs.Step.{step, run}
-use Rattle.pv_model.specs.Tree.{Tree}
-use Rattle.pv_laws_states.specs.States.{EncodesPrograms, IsFirstTree, IsValid, is_program}
+use Rattle.pv_model.specs.Machine.{Bytes, parent_of, Program, Process, State, first_state, process_at, step, run, Tree}
+use Rattle.pv_laws_states.specs.States.{EncodesPrograms, IsFirstTree, IsValid, is_program_in_bounds}
 
 -- the number of each process is greater than its parent's, even if process 1 has adopted it
 abbrev pub ParentsAreOlder : State → Type 0
@@ -36,5 +32,5 @@ SomeProcessGoesOn =
 abbrev pub NoRunDeadlocks : Type 0
 NoRunDeadlocks =
     (program_of : Bytes → Option Program) (t : Tree) (program : Program) (pids : List ℕ) (pid : ℕ) (p : Process)
-    → EncodesPrograms program_of → IsFirstTree t → IsTrue (is_program program)
+    → EncodesPrograms program_of → IsFirstTree t → IsTrue (is_program_in_bounds program)
     → process_at (run program_of pids (first_state t program)).final pid ≡ Some p → GoesOn program_of (run program_of pids (first_state t program)).final

@@ -4,20 +4,8 @@ use Rattle.std.specs.List.{list_any, list_all}
 use Rattle.pv_model.specs.declared.perms.Perms.{Perms}
 use Rattle.pv_model.specs.declared.call.Call.{Call}
 use Rattle.pv_model.specs.declared.place.Place.{Place}
-use Rattle.pv_model.specs.Answer.{answer}
-use Rattle.pv_model.specs.Bytes.{Bytes}
-use Rattle.pv_model.specs.Effect.{end_of}
-use Rattle.pv_model.specs.Needs.{needs}
-use Rattle.pv_model.specs.Perms.{covers}
-use Rattle.pv_model.specs.Program.{calls_for, next}
-use Rattle.pv_model.specs.Promises.{Promises, is_met}
-use Rattle.pv_model.specs.State.{Program, Process, State, process_at}
-use Rattle.pv_model.specs.Step.{step}
-use Rattle.pv_model.specs.Trace.{Word, pldg_word, unvl_word, for_kill, for_refusal, Line}
-use Rattle.pv_model.specs.Tree.{Tree}
-use Rattle.pv_model.specs.Unveil.{Table, permissions_at, governing_entry}
-use Rattle.pv_model.specs.Walks.{Walk, walks_of, walk_number}
-use Rattle.pv_laws_states.specs.Courses.{is_unveil}
+use Rattle.pv_model.specs.Machine.{answer, Bytes, end_of, needs, covers, calls_for, next, Promises, is_met, Program, Process, State, process_at, step, Word, pldg_word, unvl_word, Line, Tree, Table, permissions_at, governing_entry, Walk, walks_of, walk_number, is_unveil}
+use Rattle.pv_model.specs.Trace.{for_kill, for_refusal}
 
 -- whether a line reports that a missing promise killed or refused the call
 abbrev pub is_want : Word → Bool

@@ -1,9 +1,7 @@
 -- Witnesses: the process numbers of consecutive steps, and their order.
 use Rattle.std.specs.Prelude.{◌≡◌, ◌⊎◌, ℕ, ◌<◌, IsTrue, List, [], ◌∷◌, length, Option, is_some}
 use Rattle.std.specs.List.{AllByRecursion}
-use Rattle.pv_model.specs.Bytes.{Bytes}
-use Rattle.pv_model.specs.State.{Program, State, process_at}
-use Rattle.pv_model.specs.Step.{step, run}
+use Rattle.pv_model.specs.Machine.{Bytes, Program, State, process_at, step, run}
 
 -- all steps are of live processes
 abbrev pub AreSteps : (Bytes → Option Program) → List ℕ → State → Type 0
@@ -16,17 +14,17 @@ pub record IsWitness (program_of : Bytes → Option Program) (s : State) (witnes
   pub leads : (run program_of witness s).final ≡ t
 
 -- at the first difference, the first list has the lesser process number
-abbrev pub IsLess : List ℕ → List ℕ → Type 0
-IsLess [] ys = ⊥
-IsLess (x ∷ xs) [] = ⊥
-IsLess (x ∷ xs) (y ∷ ys) = (x < y) ⊎ ((x ≡ y) × IsLess xs ys)
+abbrev pub IsSmallerWitness : List ℕ → List ℕ → Type 0
+IsSmallerWitness [] ys = ⊥
+IsSmallerWitness (x ∷ xs) [] = ⊥
+IsSmallerWitness (x ∷ xs) (y ∷ ys) = (x < y) ⊎ ((x ≡ y) × IsSmallerWitness xs ys)
 
 -- a witness is shorter than another, or of equal length and less
-abbrev pub IsBefore : List ℕ → List ℕ → Type 0
-IsBefore witness other = (length witness < length other) ⊎ ((length witness ≡ length other) × IsLess witness other)
+abbrev pub IsEarlierWitness : List ℕ → List ℕ → Type 0
+IsEarlierWitness witness other = (length witness < length other) ⊎ ((length witness ≡ length other) × IsSmallerWitness witness other)
 
-abbrev pub IsNoLater : List ℕ → List ℕ → Type 0
-IsNoLater witness other = (witness ≡ other) ⊎ IsBefore witness other
+abbrev pub IsNoLaterWitness : List ℕ → List ℕ → Type 0
+IsNoLaterWitness witness other = (witness ≡ other) ⊎ IsEarlierWitness witness other
 
 -- a relation holds between each element of a list and each later one
 abbrev pub EachToLater : {X : Type 0} → (X → X → Type 0) → List X → Type 0

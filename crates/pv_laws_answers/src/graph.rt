@@ -8,12 +8,12 @@ pub fn witnesses_are_runs()
     ensures { WitnessesAreRuns }
 {}
 
-/// Each run of live processes whose states are all in the graph is such a path.
+/// Each run of live processes whose states are all in the graph is a path along its lines STEP.
 pub fn runs_are_witnesses()
     ensures { RunsAreWitnesses }
 {}
 
-/// If the search is complete, each run of live processes is such a path.
+/// If the search is complete, each run of live processes is a path along the lines STEP of the graph.
 pub fn all_runs_are_witnesses()
     ensures { AllRunsAreWitnesses }
 {}

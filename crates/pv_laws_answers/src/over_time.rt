@@ -14,8 +14,8 @@ pub fn without_c_letters_go()
     ensures { WithoutCLettersGo }
 {}
 
-/// If such a step gives the process a permission at a place, it changed the entry there or an entry for a directory at
-/// or above the place's directory.
+/// If a step of a process with a locked table starts no new program image and gives the process a permission at a
+/// place, it changed the entry there or an entry for a directory at or above the place's directory.
 pub fn letters_come_by_changes()
     ensures { LettersComeByChanges }
 {}

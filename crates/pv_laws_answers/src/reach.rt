@@ -20,7 +20,8 @@ pub fn open_shows_r()
     ensures { OpenShowsR }
 {}
 
-/// The same holds for an open for writing and w.
+/// If a path leads to a place, and a descriptor and an open file are free, then an open for writing that does not
+/// follow a final link is refused by neither a promise nor the table if and only if `reach` shows w there.
 pub fn open_shows_w()
     ensures { OpenShowsW }
 {}

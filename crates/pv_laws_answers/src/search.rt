@@ -2,7 +2,7 @@
 
 ghost use Rattle.pv_laws_answers.specs.Search.{StatesAreDistinguished, StatesAreReached, CompleteHasAll, EachTextIsReported, WitnessesAreLeast, EndingsHappen, EndingsAreAll};
 
-/// A search identifies two states if and only if they are equal.
+/// The encoding of states is injective: a search identifies two states if and only if they are equal.
 pub fn states_are_distinguished()
     ensures { StatesAreDistinguished }
 {}

@@ -8,8 +8,8 @@ pub fn unread_is_not_reported()
     ensures { UnreadIsNotReported }
 {}
 
-/// Each image that differs only in the bytes of such a file, with equal length, boots and has the same texts and
-/// witnesses, unless the file is the one that `init` names.
+/// If a search is complete and no step from a visited state reads a file, each image that differs only in its bytes,
+/// with equal length, boots and has the same texts and witnesses, unless `init` names the file.
 pub fn unread_files_are_not_reported()
     ensures { UnreadFilesAreNotReported }
 {}

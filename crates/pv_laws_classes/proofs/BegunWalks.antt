@@ -7,11 +7,7 @@ use Rattle.pv_model.specs.declared.errno.Errno.TheVariants.{ENOSYS}
 use Rattle.pv_model.specs.declared.outcome.Cause.TheVariants.{Promise as ByPromise, Unveil as ByUnveil, Locked}
 use Rattle.pv_model.specs.declared.outcome.Outcome.{Outcome}
 use Rattle.pv_model.specs.declared.outcome.Outcome.TheVariants.{Value, Text, Failed, Killed, Exited, Blocked, Gone}
-use Rattle.pv_model.specs.Answer.{Answered}
-use Rattle.pv_model.specs.Bytes.{Bytes}
-use Rattle.pv_model.specs.State.{Process, State}
-use Rattle.pv_model.specs.Trace.{Word, nami_word, Line, line, walked_paths, promise_words, unveil_words, moved_words, end_words, call_lines}
-use Rattle.pv_model.specs.Walks.{walks_of}
+use Rattle.pv_model.specs.Machine.{Answered, Bytes, Process, State, Word, nami_word, Line, line, walked_paths, promise_words, unveil_words, moved_words, end_words, call_lines, walks_of}
 
 -- the number of lines that report a path
 abbrev paths_of : Word → ℕ

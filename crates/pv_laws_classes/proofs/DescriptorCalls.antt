@@ -6,21 +6,15 @@ use Rattle.pv_model.specs.declared.call.Call.{Call}
 use Rattle.pv_model.specs.declared.call.Call.TheVariants as TheCall
 use Rattle.pv_model.specs.declared.errno.Errno.TheVariants.{EAGAIN, EBADF, ECHILD, EMFILE}
 use Rattle.pv_model.specs.declared.outcome.Cause.TheVariants.{Plain}
-use Rattle.pv_model.specs.Answer.{effect}
-use Rattle.pv_model.specs.Attempt.{Attempt, ◌>>=◌, ◌>>◌, refuse_if, demand}
-use Rattle.pv_model.specs.Bytes.{Bytes, is_empty}
-use Rattle.pv_model.specs.Calls.Descriptors.{without_descriptor, with_duplicate, is_number, within, close, dup, dup2, fstat, fchdir, directory_of}
-use Rattle.pv_model.specs.Calls.Processes.{child, fork, children, statuses, reap, wait, with_program, execve}
-use Rattle.pv_model.specs.Effect.{Effect, descriptor_at, returns, answers, answers_bytes, status}
-use Rattle.pv_model.specs.Numbered.{Numbered, with_number, least_free}
-use Rattle.pv_model.specs.State.{OpenFile, Descriptor, Program, Process, live, State, with_process}
-use Rattle.pv_laws_states.proofs.Rests
+use Rattle.pv_model.specs.Machine.{effect, Attempt, ◌>>=◌, ◌>>◌, refuse_if, demand, Bytes, is_empty, without_descriptor, is_number, within, close, dup, dup2, fstat, fchdir, directory_of, child, fork, children, statuses, reap, wait, with_program, execve, Effect, descriptor_at, returns, answers, answers_bytes, status, Numbered, with_number, least_free, OpenFile, Descriptor, Program, Process, live, State, with_process}
+use Rattle.pv_model.specs.Calls.Descriptors.{with_duplicate}
+use Rattle.pv_laws_states.proofs.CallRests
 use Rattle.pv_laws_classes.specs.Renumbering.{renumbered_descriptor, renumbered_descriptors, renumbered_process, renumbered_processes}
-use Rattle.pv_laws_classes.proofs.Both.{AreBoth, both-after, both-bind, both-then, both-done, both-refused}
-use Rattle.pv_laws_classes.proofs.Lists.{length-renumbered, put-renumbered, where-renumbered, children-renumbered, descriptor-put, descriptor-gone, descriptor-free, descriptor-exec, Uses, uses-with, uses-without, uses-exec, uses-put, uses-where}
-use Rattle.pv_laws_classes.proofs.Opened.{descriptor-same, by-descriptor, by-any, directory-same}
+use Rattle.pv_laws_classes.proofs.RelatedAttempts.{AreBoth, both-after, both-bind, both-then, both-done, both-refused}
+use Rattle.pv_laws_classes.proofs.RenumberedLists.{length-renumbered, put-renumbered, where-renumbered, children-renumbered, descriptor-put, descriptor-gone, descriptor-free, descriptor-exec, Uses, uses-with, uses-without, uses-exec, uses-put, uses-where}
+use Rattle.pv_laws_classes.proofs.RenumberedDescriptors.{descriptor-same, by-descriptor, by-any, directory-same}
 use Rattle.pv_laws_classes.proofs.PlainCalls.{own-both}
-use Rattle.pv_laws_classes.proofs.States.{IsPresent, renumbered, Fits, AreRelated, related}
+use Rattle.pv_laws_classes.proofs.RenumberedStates.{IsPresent, renumbered, Fits, AreRelated, related}
 
 abbrev pub is_on_descriptors : Call → Bool
 is_on_descriptors TheCall.Fork = true
@@ -128,15 +122,15 @@ module _ (f : ℕ → ℕ) (gs : Numbered OpenFile) (s : State) (pid : ℕ) (me 
       → AreRelated (with_process s pid (record me { descriptors = with_number me.descriptors n v })) (with_process u pid (record you { descriptors = with_number you.descriptors n (renumbered_descriptor f v) }))
   put-both n v there = holding _ _ (uses-with (IsPresent s.files) me.descriptors n v mine there) (descriptor-put f me.descriptors n v)
 
-  dup-rest : (v : Descriptor) → IsPresent s.files v.file → B (Rests.dup_1 s pid me v) (Rests.dup_1 u pid you (renumbered_descriptor f v))
+  dup-rest : (v : Descriptor) → IsPresent s.files v.file → B (CallRests.dup_1 s pid me v) (CallRests.dup_1 u pid you (renumbered_descriptor f v))
   dup-rest v there =
       let made : ℕ → Attempt Effect = λ n. refuse_if EMFILE (nat_le 16 n) >> answers (with_process u pid (record you { descriptors = with_number you.descriptors n (record { file = f v.file; close_on_exec = false }) })) n in
-      subst (λ n. B (Rests.dup_1 s pid me v) (made n)) (sym (descriptor-free f me.descriptors))
+      subst (λ n. B (CallRests.dup_1 s pid me v) (made n)) (sym (descriptor-free f me.descriptors))
       (both-then AreRelated (refuse_if EMFILE (nat_le 16 (least_free me.descriptors))) _ _
       (both-done AreRelated 0 _ _ _ (put-both (least_free me.descriptors) (record { file = v.file; close_on_exec = false }) there)))
 
   dup-both : (d : ℤ) → B (dup s pid me d) (dup u pid you d)
-  dup-both d = by-descriptor f gs s pid me fits mine d (Rests.dup_1 s pid me) (Rests.dup_1 u pid you) dup-rest
+  dup-both d = by-descriptor f gs s pid me fits mine d (CallRests.dup_1 s pid me) (CallRests.dup_1 u pid you) dup-rest
 
   duplicated : (d : ℤ) (n : ℕ) (v : Descriptor) → IsPresent s.files v.file → AreRelated (with_duplicate s pid me d n v) (with_duplicate u pid you d n (renumbered_descriptor f v))
   duplicated d n v there = by (is_number d n)
@@ -149,7 +143,7 @@ module _ (f : ℕ → ℕ) (gs : Numbered OpenFile) (s : State) (pid : ℕ) (me 
 
   dup2-both : (d e : ℤ) → B (dup2 s pid me d e) (dup2 u pid you d e)
   dup2-both d e =
-      by-descriptor f gs s pid me fits mine d (Rests.dup2_1 s pid me d e) (Rests.dup2_1 u pid you d e)
+      by-descriptor f gs s pid me fits mine d (CallRests.dup2_1 s pid me d e) (CallRests.dup2_1 u pid you d e)
       (λ v there. both-bind AreRelated (demand EBADF (within 15 e)) _ _ (λ n. both-done AreRelated 0 _ _ _ (duplicated d n v there)))
 
   -- ---- the node of a descriptor

@@ -1,11 +1,9 @@
 -- The steps of worked runs, by computation.
 use Rattle.std.proofs.Common.{◌≡◌, ◌≢◌, ℕ, zero, suc, true, false, replicate, pos, List, [], ◌∷◌, Option, None, Some, is_some, refl, ap, sym, ◌∙◌}
 use Rattle.pv_model.specs.declared.open_flags.Mode.TheVariants.{ReadWrite}
-use Rattle.pv_model.specs.Numbered.{at_number}
-use Rattle.pv_model.specs.OnLiterals.{machine_on_literals}
-use Rattle.pv_model.specs.State.{OpenFile, Process, ProcessRecord, live, State, first_process}
+use Rattle.pv_model.specs.Machine.{at_number, machine_on_literals, OpenFile, Process, ProcessRecord, live, State, first_process}
 use Rattle.pv_laws_classes.specs.Renumbering.{renumbered_processes, IsInUse, Renumbered}
-use Rattle.pv_laws_classes.specs.Examples.{opening, parent_first, child_first, swap, SwapExamples, two_files, to_first, one_file, MergeExamples}
+use Rattle.pv_laws_classes.specs.Examples.{opening_apart, parent_first, child_first, swap, SwapExamples, two_open_files, to_first, one_open_file, MergeExamples}
 
 -- ---- a swap of two open files
 
@@ -36,7 +34,7 @@ swapped-files (suc (suc (suc n))) = refl
 
 -- the process and its child after both opens, each with the number of its own open file
 abbrev opened_by : ℕ → ℕ → ℕ → Process
-opened_by file number parent = record (first_process opening) {
+opened_by file number parent = record (first_process opening_apart) {
   descriptors = Some (record { file = 0; close_on_exec = false }) ∷ Some (record { file = file; close_on_exec = false }) ∷ replicate 14 None;
   line = number;
   registers = pos 1 ∷ replicate 7 (pos 0);
@@ -95,32 +93,32 @@ nothing (suc k) (suc n) = nothing k n
 opened_twice : OpenFile
 opened_twice = record { node = 2; mode = ReadWrite; append = false; offset = 0; listed = None }
 
-merged-first : at_number one_file.files 0 ≡ Some opened_twice
+merged-first : at_number one_open_file.files 0 ≡ Some opened_twice
 unfolding machine_on_literals opened_twice
 merged-first = refl
 
-two-first : at_number two_files.files 0 ≡ Some opened_twice
+two-first : at_number two_open_files.files 0 ≡ Some opened_twice
 unfolding machine_on_literals opened_twice
 two-first = refl
 
-two-second : at_number two_files.files 1 ≡ Some opened_twice
+two-second : at_number two_open_files.files 1 ≡ Some opened_twice
 unfolding machine_on_literals opened_twice
 two-second = refl
 
-two-others : (n : ℕ) → is_some (at_number two_files.files (suc (suc n))) ≡ false
+two-others : (n : ℕ) → is_some (at_number two_open_files.files (suc (suc n))) ≡ false
 unfolding machine_on_literals
 two-others n = nothing 126 n
 
-one-others : (n : ℕ) → is_some (at_number one_file.files (suc n)) ≡ false
+one-others : (n : ℕ) → is_some (at_number one_open_file.files (suc n)) ≡ false
 unfolding machine_on_literals
 one-others n = nothing 127 n
 
-merged-files : (n : ℕ) → IsInUse two_files n → at_number one_file.files 0 ≡ at_number two_files.files n
+merged-files : (n : ℕ) → IsInUse two_open_files n → at_number one_open_file.files 0 ≡ at_number two_open_files.files n
 merged-files zero there = merged-first ∙ sym two-first
 merged-files (suc zero) there = merged-first ∙ sym two-second
 merged-files (suc (suc n)) there = let none : true ≡ false = sym there ∙ two-others n in cc none
 
-merged-others : (m : ℕ) → IsInUse one_file m → (n : ℕ) × IsInUse two_files n × (to_first n ≡ m)
+merged-others : (m : ℕ) → IsInUse one_open_file m → (n : ℕ) × IsInUse two_open_files n × (to_first n ≡ m)
 merged-others zero there = (0, ap is_some two-first, refl)
 merged-others (suc m) there = let none : true ≡ false = sym there ∙ one-others m in cc none
 

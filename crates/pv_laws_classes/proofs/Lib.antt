@@ -1,22 +1,21 @@
 -- Lemmas on states that are equal up to a renumbering of open files.
--- - Lists (lists of processes whose descriptors are renumbered), Files (open files under two numberings, and the
---   pigeonhole principle for them), States (operations on related states), Both (attempts in two states under any
---   relation), Attempts (attempts and answers), Opened (the open file of a descriptor).
+-- - RenumberedLists (lists of processes whose descriptors are renumbered), RenumberedFiles (open files under two
+--   numberings, and the pigeonhole principle for them), RenumberedStates (operations on related states),
+--   RelatedAttempts (attempts in two states under any relation), RenumberedAttempts (attempts and answers),
+--   RenumberedDescriptors (the open file of a descriptor).
 -- - The effects of calls: PlainCalls (no open file), DescriptorCalls (processes and descriptors), FileCalls (contents
 --   and offsets), OpenCalls (a new open file).
--- - Steps: steps and runs. Forms: the equivalence and the canonical form.
--- - Searches, for any steps and any classes: Searching (step by step), Orders (lists in an order, and witnesses), Visited
---   (the visited states and reported steps), SearchObservations (what is observed of the steps).
--- - Searches that make each step, for any function that gives the class of a state: Classes (such functions: the identity
---   and the canonical form), StateSearches (they are searches), BothSearches (two complete searches), Fewer (the number of
---   visited states).
--- - ClassLaws: laws of the search by canonical forms. AlikeAccesses, FirstObserved: accesses, and observations of steps.
--- - ExampleRuns, ClassExampleRuns: examples by computation.
+-- - RenumberedSteps: steps and runs. CanonicalForms: the equivalence and the canonical form.
+-- - Searches, for any steps and any classes: VisitedStates (the visited states and reported steps), over
+--   `SearchInvariant` and `WitnessOrders` of `pv_laws_answers`; SearchObservations (what is observed of the steps).
+-- - Searches that make each step, for any function that gives the class of a state: ClassFunctions (such functions: the
+--   identity and the canonical form), StateSearches (they are searches).
+-- - RenumberedAccesses: accesses, and observations of steps. ExampleRuns, ClassExampleRuns: examples by computation.
 --
 -- Lemmas on combined steps.
--- - Registers (steps on registers, and steps of another process that they pass), Turns (the normal form of a schedule),
---   Combined (schedules of combined steps), Lengths (the least length of a schedule). TogetherExampleRuns: examples by
---   computation.
+-- - RegisterSteps (steps on registers, and steps of another process that they pass), CombinedTurns (the normal form of
+--   a schedule), CombinedSteps (schedules of combined steps), LeastLengths (the least length of a schedule).
+--   TogetherExampleRuns: examples by computation.
 --
 -- Lemmas on states that are equal but for dead variables.
 -- - LiveLists (lists of processes that are the same but for registers and buffers), LiveStates (operations on such
@@ -33,39 +32,33 @@
 --   ReducedExampleRuns: examples by computation.
 --
 -- Lemmas on what `access`, `policy` and `exposure` show of a process.
--- - It depends neither on numbers of open files (RenumberedShown), nor on dead variables, nor on steps of other processes
---   on registers (Sights; BegunWalks: the walks that a call began, from its lines; LooksAlike: a process that looks alike in
---   two states).
--- - So the reduced search sees it: SeenSchedules (a reduced schedule after which it is the same as after a schedule), Seen
---   (both searches see the same), SeenAccesses (the listed accesses). ShownLaws: the laws.
-pub mod Lists
-pub mod Files
-pub mod States
-pub mod Both
-pub mod Attempts
-pub mod Opened
+-- - It depends neither on numbers of open files (RenumberedShown), nor on dead variables, nor on steps of other
+--   processes on registers (LiveShown; BegunWalks: the walks that a call began, from its lines; SimilarProcesses: a
+--   process that looks alike in two states).
+-- - So the reduced search sees it: SeenSchedules (a reduced schedule after which it is the same as after a schedule),
+--   SeenProcesses (both searches see the same), SeenAccesses (the listed accesses). ShownLaws: the laws.
+pub mod RenumberedLists
+pub mod RenumberedFiles
+pub mod RenumberedStates
+pub mod RelatedAttempts
+pub mod RenumberedAttempts
+pub mod RenumberedDescriptors
 pub mod PlainCalls
 pub mod DescriptorCalls
 pub mod FileCalls
 pub mod OpenCalls
-pub mod Steps
-pub mod Forms
-pub mod Classes
-pub mod Searching
-pub mod Orders
-pub mod Visited
+pub mod RenumberedSteps
+pub mod CanonicalForms
+pub mod ClassFunctions
+pub mod VisitedStates
 pub mod StateSearches
-pub mod BothSearches
-pub mod Fewer
-pub mod ClassLaws
-pub mod AlikeAccesses
-pub mod FirstObserved
+pub mod RenumberedAccesses
 pub mod ExampleRuns
 pub mod ClassExampleRuns
-pub mod Registers
-pub mod Turns
-pub mod Combined
-pub mod Lengths
+pub mod RegisterSteps
+pub mod CombinedTurns
+pub mod CombinedSteps
+pub mod LeastLengths
 pub mod TogetherExampleRuns
 pub mod ReducedSchedules
 pub mod ReducedClasses
@@ -74,7 +67,7 @@ pub mod ReducedReports
 pub mod RenumberedShown
 pub mod SearchObservations
 pub mod SeenSchedules
-pub mod Seen
+pub mod SeenProcesses
 pub mod SeenAccesses
 pub mod ReducedExampleRuns
 pub mod LiveLists
@@ -92,6 +85,8 @@ pub mod LiveExampleRuns
 pub mod LiveClasses
 pub mod LiveCleared
 pub mod BegunWalks
-pub mod LooksAlike
-pub mod Sights
+pub mod SimilarProcesses
+pub mod LiveShown
 pub mod ShownLaws
+pub use Rattle.pv_laws_answers.proofs as OfLawsAnswers
+pub use Rattle.pv_laws_steps.proofs as OfLawsSteps

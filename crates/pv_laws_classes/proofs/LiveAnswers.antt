@@ -3,18 +3,11 @@ use Rattle.std.proofs.Common.{◌≡◌, ◌≢◌, ℕ, ℤ, pos, negsuc, if◌
 use Rattle.std.proofs.lemmas.List.{take_at}
 use Rattle.pv_model.specs.declared.outcome.Outcome.{Outcome}
 use Rattle.pv_model.specs.declared.outcome.Outcome.TheVariants.{Text}
-use Rattle.pv_model.specs.Answer.{Answered, answer_by_reply, answer_by_attempt, with_front, update_live, update}
-use Rattle.pv_model.specs.Attempt.{Attempt, done, refused}
-use Rattle.pv_model.specs.Bytes.{Bytes}
-use Rattle.pv_model.specs.Calls.Processes.{with_result}
-use Rattle.pv_model.specs.Effect.{Effect, Reply, returns, returns_bytes, ends, waits}
-use Rattle.pv_model.specs.Errno.{errno_number}
-use Rattle.pv_model.specs.Held.{collect}
-use Rattle.pv_model.specs.State.{Process, State, process_at}
-use Rattle.pv_model.specs.Trace.{buffer_of}
+use Rattle.pv_model.specs.Machine.{Answered, answer_by_attempt, with_front, update_live, update, Attempt, done, refused, Bytes, with_result, Effect, Reply, returns, returns_bytes, ends, waits, errno_number, collect, Process, State, process_at, buffer_of}
+use Rattle.pv_model.specs.Answer.{answer_by_reply}
 use Rattle.pv_laws_states.proofs.Processes.{process_at-same}
 use Rattle.pv_laws_classes.specs.Liveness.{Live, with_values, AgreeOnLive}
-use Rattle.pv_laws_classes.proofs.Both.{AreBoth}
+use Rattle.pv_laws_classes.proofs.RelatedAttempts.{AreBoth}
 use Rattle.pv_laws_classes.proofs.LiveCalls.{Awaits}
 use Rattle.pv_laws_classes.proofs.LiveLists.{AreLive}
 use Rattle.pv_laws_classes.proofs.LiveStates.{Related, collect-related, process-related, update-related, end-related}

@@ -1,11 +1,7 @@
 -- Attempts in two states that are the same but for registers and buffers.
 use Rattle.std.proofs.Common.{ℕ, ℤ, Bool, true, false, cond, List}
-use Rattle.pv_model.specs.Attempt.{◌>>=◌}
-use Rattle.pv_model.specs.Bytes.{Bytes}
-use Rattle.pv_model.specs.Effect.{answers, with_room}
-use Rattle.pv_model.specs.Held.{collect}
-use Rattle.pv_model.specs.State.{Process, State}
-use Rattle.pv_laws_classes.proofs.Both as Both
+use Rattle.pv_model.specs.Machine.{◌>>=◌, Bytes, answers, with_room, collect, Process, State}
+use Rattle.pv_laws_classes.proofs.RelatedAttempts as Both
 use Rattle.pv_laws_classes.proofs.LiveStates.{Related, collect-related, tree-related}
 
 module _ (R : ℕ → Process → List ℤ → Bytes → Type 0) where

@@ -9,21 +9,14 @@ use Rattle.pv_model.specs.declared.errno.Errno.TheVariants.{EAGAIN, ECHILD, EINV
 use Rattle.pv_model.specs.declared.limits.TheConstants.{BUFFER}
 use Rattle.pv_model.specs.declared.open_flags.OpenFlags.{OpenFlags}
 use Rattle.pv_model.specs.declared.outcome.Cause.TheVariants.{Plain}
-use Rattle.pv_model.specs.Answer.{effect}
-use Rattle.pv_model.specs.Attempt.{Attempt, ◌>>=◌, ◌>>◌, refuse_if, demand}
-use Rattle.pv_model.specs.Bytes.{Bytes, is_empty}
-use Rattle.pv_model.specs.Calls.Descriptors.{open_node, list_name, after_write, with_bytes_written, write_place, write_end, is_past_greatest, write}
-use Rattle.pv_model.specs.Calls.Processes.{child, fork, children, statuses, reap, wait, with_program, execve}
-use Rattle.pv_model.specs.Calls.Restraints.{unveil}
-use Rattle.pv_model.specs.Effect.{Effect, returns, answers, with_room}
-use Rattle.pv_model.specs.Numbered.{Numbered}
-use Rattle.pv_model.specs.State.{OpenFile, Program, Process, live, ProcessRecord, State, no_registers, no_bytes, with_process}
-use Rattle.pv_model.specs.Tree.{Tree}
-use Rattle.pv_laws_states.proofs.Ending.{sorted-filtered}
-use Rattle.pv_laws_states.proofs.Rests
-use Rattle.pv_laws_states.proofs.Whole.{sorted-put_number}
+use Rattle.pv_model.specs.Machine.{effect, Attempt, ◌>>=◌, ◌>>◌, refuse_if, demand, Bytes, is_empty, open_node, list_name, after_write, write_place, write_end, is_past_greatest, write, child, fork, children, statuses, reap, wait, with_program, execve, unveil, Effect, returns, answers, with_room, Numbered, OpenFile, Program, Process, live, ProcessRecord, State, with_process, Tree}
+use Rattle.pv_model.specs.Calls.Descriptors.{with_bytes_written}
+use Rattle.pv_model.specs.State.{no_registers, no_bytes}
+use Rattle.pv_laws_states.proofs.ValidEnds.{sorted-filtered}
+use Rattle.pv_laws_states.proofs.CallRests
+use Rattle.pv_laws_states.proofs.ValidStates.{sorted-put_number}
 use Rattle.pv_laws_classes.specs.Liveness.{Live, with_values, AgreeOnLive, SameButValues}
-use Rattle.pv_laws_classes.proofs.Both.{AreBoth, both-after, both-bind, both-then, both-cond, both-done, both-refused}
+use Rattle.pv_laws_classes.proofs.RelatedAttempts.{AreBoth, both-after, both-bind, both-then, both-cond, both-done, both-refused}
 use Rattle.pv_laws_classes.proofs.LiveAttempts.{state-cond, both-room}
 use Rattle.pv_laws_classes.proofs.LiveLists.{length-same, children-same, where-same, put-live}
 use Rattle.pv_laws_classes.proofs.LiveStates.{Related}
@@ -150,11 +143,11 @@ module _ (is_live : Live) (s : State) (pid : ℕ) (me : Process) (rs : List ℤ)
   write-both d n same = both-bind (Related R) _ _ _ (λ v. by n same v.0 v.1)
     where
       of : (m : ℕ) (b : Bool) → (b ≡ true → take m bs ≡ take m me.buffer) → (j : ℕ) (file : OpenFile)
-          → B (demand EINVAL (cond b (Some m) None) >>= Rests.write_2 s pid me j file) (demand EINVAL (cond b (Some m) None) >>= Rests.write_2 u pid you j file)
+          → B (demand EINVAL (cond b (Some m) None) >>= CallRests.write_2 s pid me j file) (demand EINVAL (cond b (Some m) None) >>= CallRests.write_2 u pid you j file)
       of m true taken j file = both-after (Related R) 0 _ _ (both-then (Related R) (refuse_if _ (is_past_greatest s.tree (write_end s pid me file m))) _ _ (both-room R _ _ m (written j file m (taken refl))))
       of m false taken j file = both-refused (Related R) 0 EINVAL Plain
 
-      by : (n : ℤ) → ((k : ℕ) → n ≡ pos k → k ≤ BUFFER → take k bs ≡ take k me.buffer) → (j : ℕ) (file : OpenFile) → B (Rests.write_1 s pid me n (j, file)) (Rests.write_1 u pid you n (j, file))
+      by : (n : ℤ) → ((k : ℕ) → n ≡ pos k → k ≤ BUFFER → take k bs ≡ take k me.buffer) → (j : ℕ) (file : OpenFile) → B (CallRests.write_1 s pid me n (j, file)) (CallRests.write_1 u pid you n (j, file))
       by (pos m) same j file = of m (nat_le m 4096) (λ within. same m refl (leb-true m 4096 within)) j file
       by (negsuc m) same j file = both-refused (Related R) 0 EINVAL Plain
 

@@ -1,6 +1,6 @@
 -- States that are equal but for dead variables form classes.
 use Rattle.std.proofs.Common.{ℕ, List, [], ◌∷◌, refl, sym, ◌∙◌}
-use Rattle.pv_model.specs.State.{ProcessRecord, live, ended_record}
+use Rattle.pv_model.specs.Machine.{ProcessRecord, live, ended_record}
 use Rattle.pv_laws_classes.specs.Liveness.{Live, IsRead, by_test, with_values, AgreeOnLive, SameButValues, none, both_live, both_ended, AlikeButDeadIsEquivalence, AlikeStatesFormClasses}
 
 module _ (is_live : Live) where

@@ -1,7 +1,6 @@
 -- States with zero in dead variables.
 use Rattle.std.proofs.Common.{◌≡◌, ℕ, zero, suc, ◌+◌, ℤ, pos, Bool, true, false, if◌then◌else◌, List, [], ◌∷◌, map, length, get_or, refl, ap, ap₂, sym, subst, ◌∙◌, arith}
-use Rattle.pv_model.specs.Bytes.{Bytes}
-use Rattle.pv_model.specs.State.{Program, Process, ProcessRecord, live, ended_record, State}
+use Rattle.pv_model.specs.Machine.{Bytes, Program, Process, ProcessRecord, live, ended_record, State}
 use Rattle.pv_laws_classes.specs.Liveness.{Variable, register_variable, byte_variable, value_in, by_test, with_values, AgreeOnLive, SameButValues, none, both_live, both_ended, AlikeButDead, cleared_from, cleared_registers, cleared_buffer, cleared_record, cleared, ClearedRepresents, ClearedStatesRepresent}
 use Rattle.pv_laws_classes.proofs.LiveClasses.{equivalence}
 

@@ -1,5 +1,5 @@
 -- The outcome of a write is the number of bytes that it was asked to write, and the lines of a call.
-use Rattle.std.proofs.Common.{◌≡◌, ℕ, ◌≤◌, ℤ, pos, negsuc, Bool, true, false, cond, if◌then◌else◌, nat_le, List, [], ◌∷◌, ◌++◌, map, take, Option, None, Some, refl, ap, ap₂, subst, ◌∙◌}
+use Rattle.std.proofs.Common.{◌≡◌, ℕ, ◌≤◌, ℤ, pos, negsuc, Bool, true, false, cond, if◌then◌else◌, nat_le, [], ◌∷◌, take, Option, None, Some, refl, ap, ap₂, subst, ◌∙◌}
 use Rattle.std.proofs.lemmas.Bool.{leb-true}
 use Rattle.pv_model.specs.declared.call.Call.{Call}
 use Rattle.pv_model.specs.declared.call.Call.TheVariants as TheCall
@@ -9,18 +9,10 @@ use Rattle.pv_model.specs.declared.outcome.Cause.TheVariants.{Promise as ByPromi
 use Rattle.pv_model.specs.declared.outcome.Outcome.{Outcome}
 use Rattle.pv_model.specs.declared.outcome.Outcome.TheVariants.{Value, Text, Killed}
 use Rattle.pv_model.specs.declared.promise.Promise.{Promise}
-use Rattle.pv_model.specs.Answer.{Answered, answer, answer_of, answer_where, answer_by_attempt, at_next_line, effect}
-use Rattle.pv_model.specs.Attempt.{Attempt, done, refused, after_walks, ◌>>=◌, ◌>>◌, refuse_if, demand}
-use Rattle.pv_model.specs.Bytes.{Bytes}
-use Rattle.pv_model.specs.Calls.Descriptors.{is_past_greatest, write_end, after_write, write}
-use Rattle.pv_model.specs.Calls.Processes.{end_process}
-use Rattle.pv_model.specs.Effect.{Effect, returns, returns_bytes, ends, waits, answers, with_room}
-use Rattle.pv_model.specs.Held.{collect}
-use Rattle.pv_model.specs.Needs.{needs}
-use Rattle.pv_model.specs.Promises.{missing_promise, is_lenient}
-use Rattle.pv_model.specs.State.{OpenFile, Program, Process, State, process_at, with_process}
-use Rattle.pv_model.specs.Trace.{Word, call_word, nami_word, gio_word, gave, took, Line, line, walked_paths, promise_words, unveil_words, moved_words, end_words, call_lines}
-use Rattle.pv_laws_states.proofs.Rests
+use Rattle.pv_model.specs.Machine.{Answered, answer, answer_of, answer_where, answer_by_attempt, at_next_line, effect, Attempt, done, refused, after_walks, ◌>>=◌, ◌>>◌, refuse_if, demand, Bytes, is_past_greatest, write_end, after_write, write, end_process, Effect, returns, returns_bytes, ends, waits, answers, with_room, collect, needs, missing_promise, is_lenient, OpenFile, Program, Process, State, process_at, with_process, gio_word, gave, moved_words, call_lines}
+use Rattle.pv_model.specs.Trace.{took}
+use Rattle.pv_laws_states.proofs.CallRests
+use Rattle.pv_laws_steps.proofs.ReportedParts.{lines_of}
 use Rattle.pv_laws_classes.proofs.LiveAnswers.{GivesAlike}
 use Rattle.pv_laws_classes.specs.Liveness.{Live}
 
@@ -64,13 +56,13 @@ module _ (program_of : Bytes → Option Program) (d n : ℤ) where
   write-returns : (s : State) (pid : ℕ) (me : Process) → Returns IsCount (write s pid me d n)
   write-returns s pid me = returns-bind IsCount _ _ (λ v. by n refl v.0 v.1)
     where
-      of : (m : ℕ) (b : Bool) → (b ≡ true → IsCount m) → (j : ℕ) (file : OpenFile) → Returns IsCount (demand EINVAL (cond b (Some m) None) >>= Rests.write_2 s pid me j file)
-      of m true is j file = returns-after IsCount 0 (Rests.write_2 s pid me j file m)
-          (returns-then IsCount (refuse_if EFBIG (is_past_greatest s.tree (write_end s pid me file m))) (Rests.write_3 s pid me j file m)
+      of : (m : ℕ) (b : Bool) → (b ≡ true → IsCount m) → (j : ℕ) (file : OpenFile) → Returns IsCount (demand EINVAL (cond b (Some m) None) >>= CallRests.write_2 s pid me j file)
+      of m true is j file = returns-after IsCount 0 (CallRests.write_2 s pid me j file m)
+          (returns-then IsCount (refuse_if EFBIG (is_past_greatest s.tree (write_end s pid me file m))) (CallRests.write_3 s pid me j file m)
           (returns-bind IsCount (with_room (after_write s pid me j file m)) (λ roomy. answers roomy m) (λ roomy. is refl)))
       of m false is j file = tt
 
-      by : (k : ℤ) → n ≡ k → (j : ℕ) (file : OpenFile) → Returns IsCount (Rests.write_1 s pid me k (j, file))
+      by : (k : ℤ) → n ≡ k → (j : ℕ) (file : OpenFile) → Returns IsCount (CallRests.write_1 s pid me k (j, file))
       by (pos m) same j file = of m (nat_le m 4096) (λ within. (same, leb-true m 4096 within)) j file
       by (negsuc m) same j file = tt
 
@@ -92,16 +84,6 @@ module _ (program_of : Bytes → Option Program) (d n : ℤ) where
       by (Some p) is = of (with_process s pid (at_next_line p)) (at_next_line p) (missing_promise p.promises (needs (TheCall.Write d n))) is
 
 -- ---- the lines of a call
-
--- the lines of a call, given those that report bytes
-abbrev lines_of : ℕ → Call → ℕ → Outcome → List Word → List Line
-lines_of pid call walks o moved =
-    line pid (call_word call)
-    ∷ map (λ path. line pid (nami_word path)) (take walks (walked_paths call))
-    ++ map (line pid) (promise_words call o)
-    ++ map (line pid) (unveil_words call walks o)
-    ++ map (line pid) moved
-    ++ map (line pid) (end_words call o)
 
 module _ (is_live : Live) (pid : ℕ) (p q : Process) where
   -- the bytes that a write reports are the same

@@ -1,8 +1,8 @@
 -- The examples of dead and live variables, by computation.
 use Rattle.std.proofs.Common.{◌≡◌, ℕ, zero, suc, ℤ, true, false, replicate, slice_set, pos, List, [], ◌∷◌, Option, None, Some, refl, ap, sym, ◌∙◌}
-use Rattle.pv_model.specs.OnLiterals.{machine_on_literals}
+use Rattle.pv_model.specs.Machine.{machine_on_literals, Process, first_process, process_at}
 use Rattle.pv_model.specs.Program.{register}
-use Rattle.pv_model.specs.State.{Process, first_process, no_registers, no_bytes, process_at}
+use Rattle.pv_model.specs.State.{no_registers, no_bytes}
 use Rattle.pv_laws_classes.specs.Liveness.{Variable, register_variable, byte_variable, value_in, by_test, is_live_at, AgreeOnLive, SameButValues, none, both_live}
 use Rattle.pv_laws_classes.specs.LivenessExamples.{setting, opened, opened_otherwise, DeadExamples, LiveExamples}
 

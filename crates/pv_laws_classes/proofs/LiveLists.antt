@@ -7,10 +7,7 @@ use Rattle.std.specs.declared.cmp.Ordering.{Ordering}
 use Rattle.std.specs.declared.cmp.Ordering.TheVariants.{Less, Equal, Greater}
 use Rattle.std.proofs.lemmas.Bool.{and_parts, eqb-true}
 use Rattle.std.proofs.lemmas.Cmp.{nat_cmp_total}
-use Rattle.pv_model.specs.Bytes.{Bytes, is_empty}
-use Rattle.pv_model.specs.Calls.Processes.{parent_of, adopt, is_unclaimed, statuses}
-use Rattle.pv_model.specs.Held.{used_files, held_by_process}
-use Rattle.pv_model.specs.State.{Process, ProcessRecord, live, ended_record, live_process}
+use Rattle.pv_model.specs.Machine.{Bytes, is_empty, parent_of, adopt, is_unclaimed, statuses, used_files, held_by_process, Process, ProcessRecord, live, ended_record, live_process}
 use Rattle.pv_laws_states.proofs.Members.{all_of}
 use Rattle.pv_laws_states.proofs.Processes.{number-itself}
 use Rattle.pv_laws_classes.specs.Liveness.{with_values, SameButValues, none, both_live, both_ended}

@@ -4,17 +4,12 @@ use Rattle.std.specs.Cmp.{unsigned_ties}
 use Rattle.std.specs.FinMap.Entries.{find, put, is_sorted, below_all}
 use Rattle.std.specs.Ordering.{nat_cmp, is_eq, eq_by_cmp}
 use Rattle.std.proofs.lemmas.Bool.{and_parts, eqb-true}
-use Rattle.pv_model.specs.Answer.{update_live, update}
-use Rattle.pv_model.specs.Bytes.{Bytes}
-use Rattle.pv_model.specs.Calls.Processes.{adopt, is_unclaimed, adopter, end_process}
-use Rattle.pv_model.specs.Held.{among, used_files, held_by_process, collect}
-use Rattle.pv_model.specs.Numbered.{present, keep}
-use Rattle.pv_model.specs.State.{OpenFile, Process, ProcessRecord, live, ended_record, State, live_process, process_at, with_process}
+use Rattle.pv_model.specs.Machine.{update_live, update, Bytes, adopt, is_unclaimed, adopter, end_process, among, used_files, held_by_process, collect, present, keep, OpenFile, Process, ProcessRecord, live, ended_record, State, live_process, process_at, with_process}
 use Rattle.pv_laws_trees.specs.Preserved.{preserved}
-use Rattle.pv_laws_states.proofs.Ending.{adopted, sorted-mapped, sorted-filtered, map-adopt}
+use Rattle.pv_laws_states.proofs.ValidEnds.{adopted, sorted-mapped, sorted-filtered, map-adopt}
 use Rattle.pv_laws_states.proofs.Members.{all_of}
 use Rattle.pv_laws_states.proofs.Processes.{number-itself}
-use Rattle.pv_laws_states.proofs.Whole.{sorted-put_number}
+use Rattle.pv_laws_states.proofs.ValidStates.{sorted-put_number}
 use Rattle.pv_laws_classes.specs.Liveness.{with_values, SameButValues, none, both_live, both_ended}
 use Rattle.pv_laws_classes.proofs.LiveLists.{AreLive, claimed, used-same, held-same, live-same, lives-same, adopted-same, turned, not-after, put-live, put-ended}
 

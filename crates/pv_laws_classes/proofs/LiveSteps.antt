@@ -7,21 +7,13 @@ use Rattle.pv_model.specs.declared.outcome.Cause.TheVariants.{Promise as ByPromi
 use Rattle.pv_model.specs.declared.outcome.Outcome.{Outcome}
 use Rattle.pv_model.specs.declared.outcome.Outcome.TheVariants.{Value, Killed}
 use Rattle.pv_model.specs.declared.promise.Promise.{Promise}
-use Rattle.pv_model.specs.Answer.{answer, answer_of, answer_where, answer_by_attempt, answer_without_promise, at_next_line, effect}
-use Rattle.pv_model.specs.Attempt.{refused}
-use Rattle.pv_model.specs.Bytes.{Bytes}
-use Rattle.pv_model.specs.Calls.Processes.{end_process, exit_status}
-use Rattle.pv_model.specs.Held.{collect}
-use Rattle.pv_model.specs.Needs.{needs}
-use Rattle.pv_model.specs.Program.{Next, inside, calls_for, next}
-use Rattle.pv_model.specs.Promises.{missing_promise, is_lenient}
-use Rattle.pv_model.specs.State.{Program, Process, State, process_at, with_process}
-use Rattle.pv_model.specs.Step.{Stepped, Run, step, step_of, step_by, run}
-use Rattle.pv_model.specs.Trace.{Line as TraceLine}
+use Rattle.pv_model.specs.Machine.{answer, answer_of, answer_where, answer_by_attempt, at_next_line, effect, refused, Bytes, end_process, collect, needs, Next, inside, calls_for, next, missing_promise, is_lenient, Program, Process, State, process_at, with_process, Stepped, Run, step, step_of, step_by, run, Line as TraceLine}
+use Rattle.pv_model.specs.Answer.{answer_without_promise}
+use Rattle.pv_model.specs.Calls.Processes.{exit_status}
 use Rattle.pv_laws_states.specs.States.{IsValid}
-use Rattle.pv_laws_classes.specs.Liveness.{Live, IsClosed, IsRead, here, later, by_test, with_values, AgreeOnLive, AlikeButDead, ReadIsClosed, ClosedTestsAcceptRead, StepsIgnoreDead, RunsIgnoreDead, UnreadVariablesAlterNothing, RejectedVariablesAlterNothing}
+use Rattle.pv_laws_classes.specs.Liveness.{Live, IsClosedTest, IsRead, here, later, by_test, with_values, AgreeOnLive, AlikeButDead, ReadIsClosed, ClosedTestsAcceptRead, StepsIgnoreDead, RunsIgnoreDead, UnreadVariablesAlterNothing, RejectedVariablesAlterNothing}
 use Rattle.pv_laws_classes.proofs.LiveAnswers.{Agree, agree-parent, AreAnswered, attempt-both}
-use Rattle.pv_laws_classes.proofs.Both.{AreBoth, both-refused}
+use Rattle.pv_laws_classes.proofs.RelatedAttempts.{AreBoth, both-refused}
 use Rattle.pv_laws_classes.proofs.LiveCalls.{Awaits, awaits-all, WritesAlike, calls-both}
 use Rattle.pv_laws_classes.proofs.LiveCounts.{write-count, TakesAlike, lines-alike}
 use Rattle.pv_laws_classes.proofs.LiveLists.{AreLive}
@@ -35,7 +27,7 @@ record AreStepped (is_live : Live) (a b : Stepped) : Type 0 where
   lines : b.lines ≡ a.lines
   after : Related (Agree is_live) a.after b.after
 
-module _ (program_of : Bytes → Option Program) (is_live : Live) (closed : IsClosed is_live) (s t : State) (pid : ℕ) (both : Related (Agree is_live) s t) where
+module _ (program_of : Bytes → Option Program) (is_live : Live) (closed : IsClosedTest is_live) (s t : State) (pid : ℕ) (both : Related (Agree is_live) s t) where
   module _ (p : Process) (at : process_at s pid ≡ Some p) (rs : List ℤ) (bs : Bytes) (there : process_at t pid ≡ Some (with_values rs bs p)) (agree : AgreeOnLive is_live p rs bs) where
     abbrev you : Process
     you = with_values rs bs p
@@ -156,7 +148,7 @@ record AreRuns (is_live : Live) (a b : Run) : Type 0 where
   lines : b.lines ≡ a.lines
   final : Related (Agree is_live) a.final b.final
 
-run-alike : (program_of : Bytes → Option Program) (is_live : Live) → IsClosed is_live → (pids : List ℕ) (s t : State) → Related (Agree is_live) s t → AreRuns is_live (run program_of pids s) (run program_of pids t)
+run-alike : (program_of : Bytes → Option Program) (is_live : Live) → IsClosedTest is_live → (pids : List ℕ) (s t : State) → Related (Agree is_live) s t → AreRuns is_live (run program_of pids s) (run program_of pids t)
 run-alike program_of is_live closed [] s t both = record { lines = refl; final = both }
 run-alike program_of is_live closed (pid ∷ pids) s t both =
     let now = step-alike program_of is_live closed s t pid both in
@@ -165,7 +157,7 @@ run-alike program_of is_live closed (pid ∷ pids) s t both =
 
 -- ---- the laws
 
-module _ (is_live : Live) (closed : IsClosed is_live) where
+module _ (is_live : Live) (closed : IsClosedTest is_live) where
   related-of : (s t : State) → IsValid s → AlikeButDead is_live s t → Related (Agree is_live) s t
   related-of s t whole is = record {
     processes = t.processes;

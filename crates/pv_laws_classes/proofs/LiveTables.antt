@@ -1,4 +1,4 @@
--- The table of live lines after as many rounds as lines is closed.
+-- The table of live lines is closed after n rounds, if the program has n lines.
 use Rattle.std.proofs.Common.{◌≡◌, ◌⊎◌, inl, inr, ℕ, zero, suc, ◌+◌, ◌-◌, ◌<◌, ◌≤◌, max, nat_lt, if◌then◌else◌, Bool, true, false, not, ◌&&◌, ◌||◌, ◌==◌, List, [], ◌∷◌, map, length, get_or, slice_get, Some, refl, ap, sym, subst, ◌∙◌, ⊎_elim, arith}
 use Rattle.std.specs.List.{list_any}
 use Rattle.std.proofs.lemmas.Bool.{eqb-true, eq-eqb, ltb-true, ltb-false, lt-ltb, le-ltb, cases_lt, and_parts, and_from, or_cases, or_left, or_right, not_from_false}
@@ -9,8 +9,8 @@ use Rattle.pv_model.specs.declared.instruction.Operand.{Operand}
 use Rattle.pv_model.specs.declared.instruction.Operand.TheVariants.{Number, Register}
 use Rattle.pv_model.specs.declared.instruction.Origin.{Origin}
 use Rattle.pv_model.specs.declared.instruction.Origin.TheVariants.{WorkingDirectory, Descriptor}
-use Rattle.pv_model.specs.State.{Program}
-use Rattle.pv_laws_classes.specs.Liveness.{Variable, register_variable, byte_variable, operand_reads, origin_reads, bytes_read, reads, sets, read_bound, bound_if, greatest_bound, live_bytes, is_live_below, targets, may_continue, IsClosed, by_test, has_line, is_needed, next_table, rounds, is_live_at, ComputedIsClosed}
+use Rattle.pv_model.specs.Machine.{Program}
+use Rattle.pv_laws_classes.specs.Liveness.{Variable, register_variable, byte_variable, operand_reads, origin_reads, bytes_taken, reads_variable, sets_variable, read_bound, bound_if, greatest_bound, live_bytes, is_live_below, targets, may_continue, IsClosedTest, by_test, has_line, is_needed, next_table, rounds, is_live_at, ComputedIsClosed}
 
 -- ---- tables
 
@@ -63,11 +63,11 @@ module _ (program : Program) (v : Variable) where
 
   needed-within : (xs ys : List Bool) → IsWithin xs ys → (line : ℕ) (i : Instruction) → is_needed program v xs line i ≡ true → is_needed program v ys line i ≡ true
   needed-within xs ys within line i is =
-      ⊎_elim (λ here. or_left (reads i v) _ here)
+      ⊎_elim (λ here. or_left (reads_variable i v) _ here)
       (λ there.
-      let parts = and_parts (not (sets i v)) (list_any (has_line xs) (targets program line i)) there in
-      or_right (reads i v) _ (and_from (not (sets i v)) (list_any (has_line ys) (targets program line i)) parts.0 (any-within (has_line xs) (has_line ys) (has-within xs ys within) (targets program line i) parts.1)))
-      (or_cases (reads i v) (not (sets i v) && list_any (has_line xs) (targets program line i)) is)
+      let parts = and_parts (not (sets_variable i v)) (list_any (has_line xs) (targets program line i)) there in
+      or_right (reads_variable i v) _ (and_from (not (sets_variable i v)) (list_any (has_line ys) (targets program line i)) parts.0 (any-within (has_line xs) (has_line ys) (has-within xs ys within) (targets program line i) parts.1)))
+      (or_cases (reads_variable i v) (not (sets_variable i v) && list_any (has_line xs) (targets program line i)) is)
 
   next-within : (xs ys : List Bool) → IsWithin xs ys → (line : ℕ) (is : List Instruction) → IsWithin (next_table program v xs line is) (next_table program v ys line is)
   next-within xs ys within line [] k here = here
@@ -127,12 +127,12 @@ target-live P next live (n ∷ ns) is =
     ⊎_elim (λ here. or_left (P n) (list_any P ns) (ap P (eqb-true n next here) ∙ live)) (λ there. or_right (P n) (list_any P ns) (target-live P next live ns there))
     (or_cases (n == next) (list_any (λ target. target == next) ns) is)
 
-table-is-closed : IsClosed (by_test is_live_at)
+table-is-closed : IsClosedTest (by_test is_live_at)
 table-is-closed = record {
-  of_line = λ program line i v at is. needs program v line i at (or_left (reads i v) _ is);
+  of_line = λ program line i v at is. needs program v line i at (or_left (reads_variable i v) _ is);
   of_next = λ program line next i v at may stays live.
       needs program v line i at
-      (or_right (reads i v) _ (and_from (not (sets i v)) (list_any (has_line (rounds program v (length program))) (targets program line i)) (not_from_false (sets i v) stays)
+      (or_right (reads_variable i v) _ (and_from (not (sets_variable i v)) (list_any (has_line (rounds program v (length program))) (targets program line i)) (not_from_false (sets_variable i v) stays)
       (target-live (has_line (rounds program v (length program))) next live (targets program line i) may)));
 }
 
@@ -151,22 +151,22 @@ no-origin (Descriptor d) k is = no-operand d k is
 
 -- an instruction that reads a byte also reads the last byte below its bound
 abbrev ReadsLast : Instruction → ℕ → Type 0
-ReadsLast i k = (m : ℕ) × (k ≤ m) × (read_bound i ≡ suc m) × (reads i (byte_variable m) ≡ true)
+ReadsLast i k = (m : ℕ) × (k ≤ m) × (read_bound i ≡ suc m) × (reads_variable i (byte_variable m) ≡ true)
 
 none-last : (i : Instruction) (k : ℕ) → false ≡ true → ReadsLast i k
 none-last i k absent = cc absent
 
-read-last : (i : Instruction) (k : ℕ) → reads i (byte_variable k) ≡ true → ReadsLast i k
+read-last : (i : Instruction) (k : ℕ) → reads_variable i (byte_variable k) ≡ true → ReadsLast i k
 read-last (Line.Peek r j) k is = let same : k ≡ j = eqb-true k j is in (j, omega arith, refl, eq-eqb j j refl)
 read-last (Line.Write d n) k is =
-    ⊎_elim (λ by_operand. none-last (Line.Write d n) k (no-operands d n k by_operand)) (λ below. by (bytes_read n) refl (ltb-true k (bytes_read n) below))
-    (or_cases (operand_reads d (byte_variable k) || operand_reads n (byte_variable k)) (nat_lt k (bytes_read n)) is)
+    ⊎_elim (λ by_operand. none-last (Line.Write d n) k (no-operands d n k by_operand)) (λ below. by (bytes_taken n) refl (ltb-true k (bytes_taken n) below))
+    (or_cases (operand_reads d (byte_variable k) || operand_reads n (byte_variable k)) (nat_lt k (bytes_taken n)) is)
   where
-    by : (b : ℕ) → bytes_read n ≡ b → k < b → ReadsLast (Line.Write d n) k
+    by : (b : ℕ) → bytes_taken n ≡ b → k < b → ReadsLast (Line.Write d n) k
     by zero count less = absurd (omega arith)
     by (suc m) count less =
-        let last : m < bytes_read n = omega arith in
-        (m, omega arith, count, or_right (operand_reads d (byte_variable m) || operand_reads n (byte_variable m)) _ (lt-ltb m (bytes_read n) last))
+        let last : m < bytes_taken n = omega arith in
+        (m, omega arith, count, or_right (operand_reads d (byte_variable m) || operand_reads n (byte_variable m)) _ (lt-ltb m (bytes_taken n) last))
 read-last (Line.Exit code) k is = none-last (Line.Exit code) k (no-operand code k is)
 read-last (Line.Close d) k is = none-last (Line.Close d) k (no-operand d k is)
 read-last (Line.Dup d) k is = none-last (Line.Dup d) k (no-operand d k is)
@@ -181,7 +181,7 @@ read-last (Line.OpenAt origin path flags) k is = none-last (Line.OpenAt origin p
 read-last i k is = none-last i k is
 
 -- an instruction that does not set a byte sets no later byte
-sets-more : (i : Instruction) (k m : ℕ) → k ≤ m → sets i (byte_variable k) ≡ false → sets i (byte_variable m) ≡ false
+sets-more : (i : Instruction) (k m : ℕ) → k ≤ m → sets_variable i (byte_variable k) ≡ false → sets_variable i (byte_variable m) ≡ false
 sets-more (Line.Put bytes) k m more stays = let least : length bytes ≤ k = ltb-false k (length bytes) stays in le-ltb m (length bytes) (omega arith)
 sets-more i k m more stays = refl
 
@@ -215,17 +215,17 @@ module _ (test : ℕ → Bool) where
           by true passes less = (m, omega arith, passes, 0, i, refl, last)
           by false fails less = absurd (omega arith)
 
-bound-is-closed : IsClosed (by_test is_live_below)
+bound-is-closed : IsClosedTest (by_test is_live_below)
 bound-is-closed = record { of_line = read; of_next = unset }
   where
-    read : (program : Program) (line : ℕ) (i : Instruction) (v : Variable) → slice_get program (line - 1) ≡ Some i → reads i v ≡ true → is_live_below program line v ≡ true
+    read : (program : Program) (line : ℕ) (i : Instruction) (v : Variable) → slice_get program (line - 1) ≡ Some i → reads_variable i v ≡ true → is_live_below program line v ≡ true
     read program line i (register_variable r) at is = table-is-closed.of_line program line i (register_variable r) at is
     read program line i (byte_variable k) at is =
         let last = read-last i k is in
         let above : last.0 < live_bytes program line = bound-above (λ m. is_live_at program line (byte_variable m)) program (line - 1) i last.0 at last.2 (table-is-closed.of_line program line i (byte_variable last.0) at last.3) in
         lt-ltb k (live_bytes program line) (omega (arith, above, last.1))
 
-    unset : (program : Program) (line next : ℕ) (i : Instruction) (v : Variable) → slice_get program (line - 1) ≡ Some i → may_continue program line i next ≡ true → sets i v ≡ false
+    unset : (program : Program) (line next : ℕ) (i : Instruction) (v : Variable) → slice_get program (line - 1) ≡ Some i → may_continue program line i next ≡ true → sets_variable i v ≡ false
         → is_live_below program next v ≡ true → is_live_below program line v ≡ true
     unset program line next i (register_variable r) at may stays live = table-is-closed.of_next program line next i (register_variable r) at may stays live
     unset program line next i (byte_variable k) at may stays live =

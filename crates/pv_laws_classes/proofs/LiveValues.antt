@@ -2,8 +2,7 @@
 use Rattle.std.proofs.Common.{◌≡◌, ◌≢◌, ℕ, zero, suc, ◌+◌, ◌-◌, ◌<◌, ◌≤◌, ℤ, pos, Bool, false, ◌||◌, nat_lt, List, [], ◌∷◌, ◌++◌, length, drop, take, get_or, set, refl, ap, ap₂, sym, subst, ◌∙◌, ⊎_elim, arith}
 use Rattle.std.proofs.lemmas.Bool.{ne_eqb, cases_eq, cases_Bool, ltb-true, ltb-false}
 use Rattle.std.proofs.lemmas.List.{length-set, length-drop, length-append, get_or_append_left, get_or-append_right, get_or-drop}
-use Rattle.pv_model.specs.Bytes.{Bytes}
-use Rattle.pv_model.specs.State.{Program, Process}
+use Rattle.pv_model.specs.Machine.{Bytes, Program, Process}
 use Rattle.pv_laws_classes.specs.Liveness.{Variable, register_variable, byte_variable, value_in, is_result, Live, AgreeOnLive}
 
 -- ---- registers and buffers

@@ -10,24 +10,16 @@ use Rattle.pv_model.specs.declared.errno.Errno.{Errno}
 use Rattle.pv_model.specs.declared.errno.Errno.TheVariants.{EINVAL, EMFILE, ENFILE}
 use Rattle.pv_model.specs.declared.open_flags.OpenFlags.{OpenFlags}
 use Rattle.pv_model.specs.declared.outcome.Cause.TheVariants.{Plain}
-use Rattle.pv_model.specs.Answer.{effect}
-use Rattle.pv_model.specs.Attempt.{Attempt, ◌>>=◌, ◌>>◌, give, refuse_if}
-use Rattle.pv_model.specs.Bytes.{Bytes}
-use Rattle.pv_model.specs.Calls.Descriptors.{contradicts, check_start, new_open_file, with_open_file, open_node, open_at}
-use Rattle.pv_model.specs.Effect.{Effect, answers, with_room, start_directory}
-use Rattle.pv_model.specs.Numbered.{Numbered, at_number, with_number, least_free}
-use Rattle.pv_model.specs.State.{OpenFile, Descriptor, Program, Process, ProcessRecord, live, State}
-use Rattle.pv_model.specs.Tree.{Tree}
-use Rattle.pv_model.specs.Walk.{is_absolute}
+use Rattle.pv_model.specs.Machine.{effect, Attempt, ◌>>=◌, ◌>>◌, give, refuse_if, Bytes, contradicts, check_start, new_open_file, with_open_file, open_node, open_at, Effect, answers, with_room, start_directory, Numbered, at_number, with_number, least_free, OpenFile, Descriptor, Program, Process, ProcessRecord, live, State, Tree, is_absolute}
 use Rattle.pv_laws_trees.proofs.Numbered.{with_number-same_within, with_number-other_within, least_free-within, least_free-free}
-use Rattle.pv_laws_states.proofs.Rests
+use Rattle.pv_laws_states.proofs.CallRests
 use Rattle.pv_laws_classes.specs.Renumbering.{renumbered_descriptors, renumbered_process, renumbered_processes}
-use Rattle.pv_laws_classes.proofs.Both.{AreBoth, both-after, both-bind, both-then, both-refused}
-use Rattle.pv_laws_classes.proofs.Attempts.{both-room}
-use Rattle.pv_laws_classes.proofs.Files.{full-matches, renumbering, renumbering-new, renumbering-old, new-matches}
-use Rattle.pv_laws_classes.proofs.Lists.{descriptor-put, descriptor-free, Uses, uses-with, uses-put, uses-weaker, each-weaker, agree-descriptors, agree-processes, put-renumbered}
-use Rattle.pv_laws_classes.proofs.Opened.{directory-same, directory-file}
-use Rattle.pv_laws_classes.proofs.States.{IsPresent, renumbered, Fits, AreRelated}
+use Rattle.pv_laws_classes.proofs.RelatedAttempts.{AreBoth, both-after, both-bind, both-then, both-refused}
+use Rattle.pv_laws_classes.proofs.RenumberedAttempts.{both-room}
+use Rattle.pv_laws_classes.proofs.RenumberedFiles.{full-matches, renumbering, renumbering-new, renumbering-old, new-matches}
+use Rattle.pv_laws_classes.proofs.RenumberedLists.{descriptor-put, descriptor-free, Uses, uses-with, uses-put, uses-weaker, each-weaker, agree-descriptors, agree-processes, put-renumbered}
+use Rattle.pv_laws_classes.proofs.RenumberedDescriptors.{directory-same, directory-file}
+use Rattle.pv_laws_classes.proofs.RenumberedStates.{IsPresent, renumbered, Fits, AreRelated}
 
 abbrev pub is_open : Call → Bool
 is_open (TheCall.Open path flags) = true
@@ -119,17 +111,17 @@ module _ (f : ℕ → ℕ) (gs : Numbered OpenFile) (s : State) (pid : ℕ) (me 
     -- ---- the checks
 
     -- the number of the new descriptor is the same
-    rest-both : (x y : State) → AreRelated x y → B (Rests.open_7 s pid me x) (Rests.open_7 u pid you y)
+    rest-both : (x y : State) → AreRelated x y → B (CallRests.open_7 s pid me x) (CallRests.open_7 u pid you y)
     rest-both x y is =
-        subst (λ m. B (Rests.open_7 s pid me x) (with_room y >>= (λ roomy. answers roomy m))) (sym (descriptor-free f me.descriptors)) (both-room x y (least_free me.descriptors) is)
+        subst (λ m. B (CallRests.open_7 s pid me x) (with_room y >>= (λ roomy. answers roomy m))) (sym (descriptor-free f me.descriptors)) (both-room x y (least_free me.descriptors) is)
 
     node-both : (flags : OpenFlags) (name : Option (ℕ × Bytes)) (node : Option ℕ)
-        → B (open_node s pid me flags name node >>= Rests.open_7 s pid me) (open_node u pid you flags name node >>= Rests.open_7 u pid you)
+        → B (open_node s pid me flags name node >>= CallRests.open_7 s pid me) (open_node u pid you flags name node >>= CallRests.open_7 u pid you)
     node-both flags name (Some n) = both-after AreRelated 0 _ _ (rest-both _ _ (opened-both flags n _))
     node-both flags (Some p) None = both-after AreRelated 0 _ _ (rest-both _ _ (opened-both flags _ _))
     node-both flags None None = both-refused AreRelated 0 _ _
 
-    walked-both : (path : Bytes) (flags : OpenFlags) (directory : ℕ) → B (Rests.open_c s pid me path flags directory) (Rests.open_c u pid you path flags directory)
+    walked-both : (path : Bytes) (flags : OpenFlags) (directory : ℕ) → B (CallRests.open_c s pid me path flags directory) (CallRests.open_c u pid you path flags directory)
     walked-both path flags directory = search (both-bind AreRelated, both-then AreRelated, node-both) depth 40
 
   -- a check that refuses if the table of open files is full
@@ -150,15 +142,15 @@ module _ (f : ℕ → ℕ) (gs : Numbered OpenFile) (s : State) (pid : ℕ) (me 
       let c : Attempt (Unit {0}) = check_start s pid me start path in
       let from : ℕ = start_directory s me start path in
       let l : ℕ = least_free me.descriptors in
-      let rest : ℕ → Bool → ℕ → Attempt Effect = λ m full directory. refuse_if EMFILE (nat_le 16 m) >> (refuse_if ENFILE full >> Rests.open_c u pid you path flags directory) in
-      let one : Attempt Effect = refuse_if EMFILE (nat_le 16 l) >> (refuse_if ENFILE (nat_le 128 a) >> Rests.open_c s pid me path flags from) in
+      let rest : ℕ → Bool → ℕ → Attempt Effect = λ m full directory. refuse_if EMFILE (nat_le 16 m) >> (refuse_if ENFILE full >> CallRests.open_c u pid you path flags directory) in
+      let one : Attempt Effect = refuse_if EMFILE (nat_le 16 l) >> (refuse_if ENFILE (nat_le 128 a) >> CallRests.open_c s pid me path flags from) in
       both-then AreRelated (refuse_if EINVAL (contradicts flags)) (c >> one) (check_start u pid you start path >> rest (least_free you.descriptors) (nat_le 128 b) (start_directory u you start path))
       (subst (λ x. B (c >> one) (x >> rest (least_free you.descriptors) (nat_le 128 b) (start_directory u you start path))) (sym (check-same start path))
       (subst (λ m. B (c >> one) (c >> rest m (nat_le 128 b) (start_directory u you start path))) (sym (descriptor-free f me.descriptors))
       (subst (λ full. B (c >> one) (c >> rest l full (start_directory u you start path))) (sym (full-matches f s.files gs fits.matches))
       (subst (λ directory. B (c >> one) (c >> rest l (nat_le 128 a) directory)) (sym (start-same start path))
       (both-then AreRelated c one (rest l (nat_le 128 a) from) (both-then AreRelated (refuse_if EMFILE (nat_le 16 l)) _ _
-      (room-checked (nat_le 128 a) ENFILE (Rests.open_c s pid me path flags from) (Rests.open_c u pid you path flags from) (λ room. walked-both room path flags from))))))))
+      (room-checked (nat_le 128 a) ENFILE (CallRests.open_c s pid me path flags from) (CallRests.open_c u pid you path flags from) (λ room. walked-both room path flags from))))))))
 
   pub open-calls : (program_of : Bytes → Option Program) (call : Call) → is_open call ≡ true → B (effect program_of s pid me call) (effect program_of u pid you call)
   unfolding effect

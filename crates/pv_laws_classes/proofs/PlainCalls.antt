@@ -4,17 +4,12 @@ use Rattle.std.specs.FinMap.Entries.{put}
 use Rattle.std.specs.Ordering.{nat_cmp}
 use Rattle.pv_model.specs.declared.call.Call.{Call}
 use Rattle.pv_model.specs.declared.call.Call.TheVariants as TheCall
-use Rattle.pv_model.specs.Answer.{effect}
-use Rattle.pv_model.specs.Bytes.{Bytes}
-use Rattle.pv_model.specs.Calls.Restraints.{unveil}
-use Rattle.pv_model.specs.Numbered.{Numbered}
-use Rattle.pv_model.specs.State.{OpenFile, Program, Process, live, State}
-use Rattle.pv_model.specs.Tree.{Tree}
+use Rattle.pv_model.specs.Machine.{effect, Bytes, unveil, Numbered, OpenFile, Program, Process, live, State, Tree}
 use Rattle.pv_laws_classes.specs.Renumbering.{renumbered_process, renumbered_processes}
-use Rattle.pv_laws_classes.proofs.Both.{AreBoth, both-bind, both-then, both-cond, both-done, both-refused}
-use Rattle.pv_laws_classes.proofs.Attempts.{both-room}
-use Rattle.pv_laws_classes.proofs.Lists.{Uses, put-renumbered, uses-put}
-use Rattle.pv_laws_classes.proofs.States.{IsPresent, renumbered, Fits, AreRelated, related}
+use Rattle.pv_laws_classes.proofs.RelatedAttempts.{AreBoth, both-bind, both-then, both-cond, both-done, both-refused}
+use Rattle.pv_laws_classes.proofs.RenumberedAttempts.{both-room}
+use Rattle.pv_laws_classes.proofs.RenumberedLists.{Uses, put-renumbered, uses-put}
+use Rattle.pv_laws_classes.proofs.RenumberedStates.{IsPresent, renumbered, Fits, AreRelated, related}
 
 abbrev pub is_plain : Call → Bool
 is_plain (TheCall.Exit code) = true

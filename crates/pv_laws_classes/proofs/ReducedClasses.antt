@@ -1,30 +1,27 @@
 -- Classes of states that are equal but for the numbers of open files and for dead variables.
-use Rattle.std.proofs.Common.{◌≡◌, ℕ, suc, ℤ, pos, Bool, true, false, if◌then◌else◌, ◌&&◌, List, [], ◌∷◌, map, Option, None, Some, is_some, refl, ap, sym, subst, ◌∙◌, arith}
+use Rattle.std.proofs.Common.{◌≡◌, ℕ, suc, ℤ, pos, Bool, true, false, if◌then◌else◌, ◌&&◌, List, [], ◌∷◌, map, Option, Some, is_some, refl, ap, sym, subst, ◌∙◌, arith}
 use Rattle.std.specs.List.{list_all}
 use Rattle.std.proofs.lemmas.Bool.{and_parts, and_from}
-use Rattle.pv_model.specs.Bytes.{Bytes, is_empty}
-use Rattle.pv_model.specs.Calls.Processes.{parent_of}
-use Rattle.pv_model.specs.Held.{live_processes}
-use Rattle.pv_model.specs.State.{Program, Process, ProcessRecord, live, ended_record, State, process_at}
-use Rattle.pv_model.specs.Step.{step}
-use Rattle.pv_laws_states.specs.States.{is_word, is_byte, EncodesPrograms, IsRunning, IsPlaced, is_number, AreProcesses, IsValid}
+use Rattle.pv_model.specs.Machine.{Bytes, is_empty, parent_of, live_processes, Program, Process, ProcessRecord, live, ended_record, State, process_at, step}
+use Rattle.pv_laws_states.specs.States.{is_word, is_byte, EncodesPrograms, IsRunning, IsPlaced, is_process_number, AreProcesses, IsValid}
+use Rattle.pv_laws_states.specs.ExampleStates.{no_programs}
 use Rattle.pv_laws_states.proofs.BySteps.{step-keeps_whole}
-use Rattle.pv_laws_states.proofs.Ending.{sorted-mapped, found-mapped}
+use Rattle.pv_laws_states.proofs.ValidEnds.{sorted-mapped, found-mapped}
 use Rattle.pv_laws_states.proofs.Members.{live-found, found-live}
 use Rattle.pv_laws_classes.specs.Canonical.{canonical}
 use Rattle.pv_laws_classes.specs.Liveness.{Variable, register_variable, byte_variable, is_live_below, by_test, with_values, AgreeOnLive, AlikeButDead, cleared_from, cleared_registers, cleared_buffer, cleared_record, cleared, StepsAreAlike}
 use Rattle.pv_laws_classes.specs.Reduced.{representative}
 use Rattle.pv_laws_classes.specs.Renumbering.{renumbered_process, renumbered_processes, Renumbered}
-use Rattle.pv_laws_classes.specs.Together.{on_registers}
-use Rattle.pv_laws_classes.proofs.Classes.{AreStepsAlike, AreClasses, canonical-states}
-use Rattle.pv_laws_classes.proofs.Forms.{unique}
+use Rattle.pv_laws_classes.specs.Together.{is_step_on_registers}
+use Rattle.pv_laws_classes.proofs.ClassFunctions.{AreStepsAlike, AreClasses, canonical-states}
+use Rattle.pv_laws_classes.proofs.CanonicalForms.{unique}
 use Rattle.pv_laws_classes.proofs.LiveCleared.{cleared-length, cleared-represent}
 use Rattle.pv_laws_classes.proofs.LiveLists.{length-same, used-same, held-same, lives-same}
 use Rattle.pv_laws_classes.proofs.LiveStates.{collect-with}
 use Rattle.pv_laws_classes.proofs.LiveSteps.{steps-ignore-dead}
 use Rattle.pv_laws_classes.proofs.LiveTables.{computed-is-closed}
-use Rattle.pv_laws_classes.proofs.Registers.{silent}
-use Rattle.pv_laws_classes.proofs.Steps.{renumbered-steps}
+use Rattle.pv_laws_classes.proofs.RegisterSteps.{silent}
+use Rattle.pv_laws_classes.proofs.RenumberedSteps.{renumbered-steps}
 
 -- ---- a state with zero in dead variables is valid
 
@@ -79,9 +76,9 @@ module _ (test : Program → ℕ → Variable → Bool) where
   parent-cleared (live p) = refl
   parent-cleared (ended_record parent status) = refl
 
-  numbers-cleared : (last : ℕ) (es : List (ℕ × ProcessRecord)) → list_all (λ r. is_number last r.0) (cleared_all es) ≡ list_all (λ r. is_number last r.0) es
+  numbers-cleared : (last : ℕ) (es : List (ℕ × ProcessRecord)) → list_all (λ r. is_process_number last r.0) (cleared_all es) ≡ list_all (λ r. is_process_number last r.0) es
   numbers-cleared last [] = refl
-  numbers-cleared last (e ∷ es) = ap (λ b. is_number last e.0 && b) (numbers-cleared last es)
+  numbers-cleared last (e ∷ es) = ap (λ b. is_process_number last e.0 && b) (numbers-cleared last es)
 
   process-was : (s : State) (k : ℕ) (q : Process) → process_at (cleared test s) k ≡ Some q → (p : Process) × (process_at s k ≡ Some p) × (cleared_process p ≡ q)
   process-was s k q found =
@@ -198,15 +195,11 @@ representative-states program_of encodes =
 
 -- ---- steps on registers
 
-no_programs : Bytes → Option Program
-no_programs bytes = None
-
 no-programs-encoded : EncodesPrograms no_programs
-unfolding no_programs
 no-programs-encoded = record { encodes = λ bytes program is. cc is }
 
 -- the next step of a process is on registers in both of two states of one class, or in neither
-pub representative-on_registers : (s t : State) (pid : ℕ) → IsValid s → IsValid t → representative s ≡ representative t → on_registers s pid ≡ on_registers t pid
+pub representative-on_registers : (s t : State) (pid : ℕ) → IsValid s → IsValid t → representative s ≡ representative t → is_step_on_registers s pid ≡ is_step_on_registers t pid
 representative-on_registers s t pid whole_s whole_t same =
     let both = (representative-states no_programs no-programs-encoded).steps s t pid whole_s whole_t same in
     silent no_programs s pid ∙ ap is_empty (sym both.lines) ∙ sym (silent no_programs t pid)

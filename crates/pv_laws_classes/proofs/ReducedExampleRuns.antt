@@ -1,17 +1,14 @@
 -- Full and reduced searches, by computation.
 use Rattle.std.proofs.Common.{◌≡◌, ap₂, Bool, true, false, ◌&&◌, bytes_eq, List, [], ◌∷◌, ◌++◌, length, map, refl}
 use Rattle.std.proofs.lemmas.Bool.{and_parts}
-use Rattle.pv_model.specs.Answers.Explore.{states_found, is_complete, move_text}
+use Rattle.pv_model.specs.Machine.{states_found, is_complete, move_text, Bytes}
 use Rattle.pv_model.specs.Answers.OnLiterals.{answers_on_literals}
-use Rattle.pv_model.specs.Bytes.{Bytes}
 use Rattle.pv_laws_trees.proofs.Entries.{bytes_eq-same}
+use Rattle.pv_laws_states.specs.ExampleStates.{no_programs}
 use Rattle.pv_laws_answers.specs.Search.{reported}
-use Rattle.pv_laws_steps.specs.CommuteExamples.{no_programs}
 use Rattle.pv_laws_classes.specs.Canonical.{canonical}
-use Rattle.pv_laws_classes.specs.ClassExamples.{both_open}
 use Rattle.pv_laws_classes.specs.Reduced.{representative, reduced_found, is_reduced_complete, reduced_reported}
-use Rattle.pv_laws_classes.specs.ReducedExamples.{VisitedStates, both_make, both_set, both_set_and_make, witnesses, common, WitnessExamples}
-use Rattle.pv_laws_classes.specs.Search.{classes_found}
+use Rattle.pv_laws_classes.specs.ReducedExamples.{VisitedStates, both_open, both_make, both_set, both_set_and_make, witnesses, common, WitnessExamples}
 
 -- a comparison of texts, which can be computed
 abbrev are_same : List Bytes → List Bytes → Bool
@@ -39,10 +36,6 @@ files-all : length (states_found no_programs 30 both_open) ≡ 13
 unfolding answers_on_literals
 files-all = refl
 
-files-classes : length (classes_found no_programs 30 both_open) ≡ 10
-unfolding answers_on_literals canonical classes_found
-files-classes = refl
-
 files-reduced : length (reduced_found no_programs both_open 30) ≡ 10
 unfolding answers_on_literals canonical representative reduced_found
 files-reduced = refl
@@ -51,12 +44,11 @@ files-compared : are_same (map move_text (reduced_reported no_programs both_open
 unfolding answers_on_literals canonical representative reduced_found
 files-compared = refl
 
-pub files-happen : VisitedStates both_open 13 10 10
+pub files-happen : VisitedStates both_open 13 10
 files-happen = record {
   complete = files-complete;
   reduced_complete = files-reduced_complete;
   all_states = files-all;
-  all_classes = files-classes;
   reduced_states = files-reduced;
   texts = same-texts (map move_text (reduced_reported no_programs both_open 30)) (map move_text (reported no_programs 30 both_open)) files-compared;
 }
@@ -73,10 +65,6 @@ dead-all : length (states_found no_programs 30 both_make) ≡ 13
 unfolding answers_on_literals
 dead-all = refl
 
-dead-classes : length (classes_found no_programs 30 both_make) ≡ 13
-unfolding answers_on_literals canonical classes_found
-dead-classes = refl
-
 dead-reduced : length (reduced_found no_programs both_make 30) ≡ 10
 unfolding answers_on_literals canonical representative reduced_found
 dead-reduced = refl
@@ -85,12 +73,11 @@ dead-compared : are_same (map move_text (reduced_reported no_programs both_make 
 unfolding answers_on_literals canonical representative reduced_found
 dead-compared = refl
 
-pub dead-happen : VisitedStates both_make 13 13 10
+pub dead-happen : VisitedStates both_make 13 10
 dead-happen = record {
   complete = dead-complete;
   reduced_complete = dead-reduced_complete;
   all_states = dead-all;
-  all_classes = dead-classes;
   reduced_states = dead-reduced;
   texts = same-texts (map move_text (reduced_reported no_programs both_make 30)) (map move_text (reported no_programs 30 both_make)) dead-compared;
 }
@@ -107,10 +94,6 @@ registers-all : length (states_found no_programs 30 both_set) ≡ 17
 unfolding answers_on_literals
 registers-all = refl
 
-registers-classes : length (classes_found no_programs 30 both_set) ≡ 17
-unfolding answers_on_literals canonical classes_found
-registers-classes = refl
-
 registers-reduced : length (reduced_found no_programs both_set 30) ≡ 13
 unfolding answers_on_literals canonical representative reduced_found
 registers-reduced = refl
@@ -119,12 +102,11 @@ registers-compared : are_same (map move_text (reduced_reported no_programs both_
 unfolding answers_on_literals canonical representative reduced_found
 registers-compared = refl
 
-pub registers-happen : VisitedStates both_set 17 17 13
+pub registers-happen : VisitedStates both_set 17 13
 registers-happen = record {
   complete = registers-complete;
   reduced_complete = registers-reduced_complete;
   all_states = registers-all;
-  all_classes = registers-classes;
   reduced_states = registers-reduced;
   texts = same-texts (map move_text (reduced_reported no_programs both_set 30)) (map move_text (reported no_programs 30 both_set)) registers-compared;
 }

@@ -1,22 +1,18 @@
 -- The reduced search and the full search, both complete: they report the same texts and count the same endings.
 use Rattle.std.proofs.Common.{◌≡◌, ◌≢◌, ◌∙◌, sym, ap, subst, ℕ, ◌≤◌, true, List, [], ◌∷◌, ◌++◌, length, Contains, Option, refl, arith}
-use Rattle.pv_model.specs.Answers.Explore.{Move, states_found, is_complete, move_text, has_ended, endings}
-use Rattle.pv_model.specs.Bytes.{Bytes}
-use Rattle.pv_model.specs.State.{Program, State}
-use Rattle.pv_model.specs.Step.{run, final_tree}
-use Rattle.pv_model.specs.Trace.{trace_bytes}
-use Rattle.pv_model.specs.Tree.{Tree}
-use Rattle.pv_laws_answers.specs.Search.{IsSearched, reported, CanHappen, EndsIn}
+use Rattle.pv_model.specs.Machine.{Move, states_found, is_complete, move_text, has_ended, endings, Bytes, Program, State, run, trace_bytes, Tree}
+use Rattle.pv_model.specs.Step.{final_tree}
+use Rattle.pv_laws_answers.specs.Search.{IsSearchable, reported, CanHappen, EndsIn}
 use Rattle.pv_laws_answers.specs.Witnesses.{AreSteps, EachToLater}
-use Rattle.pv_laws_answers.proofs.Complete.{among-contains}
+use Rattle.pv_laws_answers.proofs.CompleteSearches.{among-contains}
+use Rattle.pv_laws_answers.proofs.LeastWitnesses.{steps-split}
 use Rattle.pv_laws_answers.proofs.Lists.{Among, each-from_among}
+use Rattle.pv_laws_answers.proofs.SearchInvariant.{visited}
 use Rattle.pv_laws_classes.specs.Reduced.{reduced_found, is_reduced_complete, reduced_reported, HasShortestWitness, HasEqual, ReducedReportsAreSame, ReducedEndingsAreSame}
-use Rattle.pv_laws_classes.proofs.BothSearches.{is-report}
-use Rattle.pv_laws_classes.proofs.Orders.{to_later-weaker, no-longer, no_later-longer}
+use Rattle.pv_laws_answers.proofs.WitnessOrders.{to_later-weaker, no-longer, no_later-longer}
 use Rattle.pv_laws_classes.proofs.ReducedSearch.{reduced-search, reduced-step, reduced-shortest, reduced-ending_there}
-use Rattle.pv_laws_classes.proofs.Searching.{visited}
-use Rattle.pv_laws_classes.proofs.StateSearches.{full-search, ending-there}
-use Rattle.pv_laws_classes.proofs.Visited.{endings-differ, can-happen, reported-once, ends-in, text-reported}
+use Rattle.pv_laws_classes.proofs.StateSearches.{full-search, least-witness, text-there, ending-there}
+use Rattle.pv_laws_classes.proofs.VisitedStates.{endings-differ, can-happen, reported-once, ends-in, text-reported}
 
 -- lists of different elements that have images of each other's elements are equally long
 pub same-length : {X : Type 0} (Q : X → X → Type 0) (xs ys : List X) → ((x y z : X) → Q x y → Q z y → Q x z) → EachToLater (λ x y. Q x y → ⊥) xs → EachToLater (λ x y. Q x y → ⊥) ys
@@ -71,17 +67,20 @@ module _ (program_of : Bytes → Option Program) (s : State) where
 
 -- ---- the laws
 
-module _ (program_of : Bytes → Option Program) (limit : ℕ) (s : State) (it : IsSearched program_of limit s) where
+module _ (program_of : Bytes → Option Program) (limit : ℕ) (s : State) (it : IsSearchable program_of limit s) where
   full-shortest : is_complete program_of limit s ≡ true → IsShortest program_of s (reported program_of limit s)
   unfolding states_found visited
   full-shortest complete =
       let all = full-search program_of limit s it in
-      let report = is-report (λ t. t) all limit it.room complete in
       record {
-        happen = report.happen;
-        shortest = λ m h pids pid steps text. no_later-longer m.witness (pids ++ pid ∷ []) (report.least m h pids pid steps text);
+        happen = can-happen all limit it.room;
+        shortest = λ m h pids pid steps text. no_later-longer m.witness (pids ++ pid ∷ []) (least-witness (λ t. t) all limit it.room m h pids pid steps text);
         once = reported-once all limit it.room;
-        all = λ m is. let n = report.all m is in (n.0, n.1, sym n.2);
+        all = λ m is.
+            let parts = steps-split program_of is.before m.pid s (subst (λ (w : List ℕ). AreSteps program_of w s) is.witness is.steps) in
+            let text = ap (λ st. trace_bytes st.lines) is.last in
+            let n = text-there (λ t. t) all limit it.room complete is.before m.pid parts.1 (λ none. is.text (text ∙ none)) in
+            (n.0, n.1, text ∙ sym n.2);
       }
 
   reduced-is_shortest : is_reduced_complete program_of s limit ≡ true → IsShortest program_of s (reduced_reported program_of s limit)

@@ -1,17 +1,14 @@
 -- Schedules in which each process makes its steps on registers directly before its next step.
 use Rattle.std.proofs.Common.{◌≡◌, ◌≤◌, ℕ, zero, suc, true, false, if◌then◌else◌, ◌==◌, List, [], ◌∷◌, ◌++◌, length, replicate, Option, is_some, refl, ap, sym, subst, ◌∙◌, arith, append_assoc, length-append}
 use Rattle.std.proofs.lemmas.Bool.{eq-eqb, or_right}
-use Rattle.pv_model.specs.Answers.Explore.{has_ended}
-use Rattle.pv_model.specs.Bytes.{Bytes}
-use Rattle.pv_model.specs.State.{Program, State, process_at}
-use Rattle.pv_model.specs.Step.{Stepped, step, run}
+use Rattle.pv_model.specs.Machine.{has_ended, Bytes, Program, State, process_at, Stepped, step, run}
 use Rattle.pv_laws_states.specs.States.{EncodesPrograms, IsValid}
 use Rattle.pv_laws_answers.specs.Witnesses.{AreSteps}
 use Rattle.pv_laws_classes.specs.Reduced.{bound_by, may_step, bound_after, AreReducedFrom, AreReduced, EndsReduced, ReducedSchedulesReachEach, HasReducedForm, ReducedSchedulesReachEndings}
-use Rattle.pv_laws_classes.specs.Together.{on_registers, Reply, reply, Turn, steps_of_turns, replies, IsTurn, AreTurns}
-use Rattle.pv_laws_classes.proofs.Combined.{replicate-last}
-use Rattle.pv_laws_classes.proofs.Registers.{on-lives, final-append, none-left}
-use Rattle.pv_laws_classes.proofs.Turns.{replies-append, replies-off, replies-turn, normal-form}
+use Rattle.pv_laws_classes.specs.Together.{is_step_on_registers, StepResult, step_result, CombinedTurn, steps_of_turns, replies, IsTurn, AreTurns}
+use Rattle.pv_laws_classes.proofs.CombinedSteps.{replicate-last}
+use Rattle.pv_laws_classes.proofs.RegisterSteps.{on-lives, final-append, none-left}
+use Rattle.pv_laws_classes.proofs.CombinedTurns.{replies-append, replies-off, replies-turn, normal-form}
 
 -- ---- bounds
 
@@ -19,10 +16,10 @@ pub may-itself : (pid : ℕ) → may_step pid pid ≡ true
 may-itself pid = or_right (pid == 0) (pid == pid) (eq-eqb pid pid refl)
 
 -- after a step on registers, its process may make the next step
-pub may-again : (s : State) (pid : ℕ) → on_registers s pid ≡ true → may_step (bound_by s pid) pid ≡ true
+pub may-again : (s : State) (pid : ℕ) → is_step_on_registers s pid ≡ true → may_step (bound_by s pid) pid ≡ true
 may-again s pid on = ap (λ b. may_step (if b then pid else 0) pid) on ∙ may-itself pid
 
-pub bound-off : (s : State) (pid : ℕ) → on_registers s pid ≡ false → bound_by s pid ≡ 0
+pub bound-off : (s : State) (pid : ℕ) → is_step_on_registers s pid ≡ false → bound_by s pid ≡ 0
 bound-off s pid off = ap (λ b. if b then pid else 0) off
 
 module _ (program_of : Bytes → Option Program) where
@@ -48,10 +45,6 @@ module _ (program_of : Bytes → Option Program) where
   bound-last pids pid s = sym (bound-from (pids ++ pid ∷ []) s) ∙ bound-from-last 0 pid pids s
 
   -- ---- parts of reduced schedules
-
-  pub reduced-steps : (bound : ℕ) (pids : List ℕ) (s : State) → AreReducedFrom program_of bound pids s → AreSteps program_of pids s
-  reduced-steps bound [] s are = tt
-  reduced-steps bound (pid ∷ pids) s are = (are.1, reduced-steps (bound_by s pid) pids (step program_of s pid).after are.2)
 
   pub reduced-before : (bound : ℕ) (one two : List ℕ) (s : State) → AreReducedFrom program_of bound (one ++ two) s → AreReducedFrom program_of bound one s
   reduced-before bound [] two s are = tt
@@ -97,7 +90,7 @@ module _ (program_of : Bytes → Option Program) where
   turn-reduced bound pid (suc count) rest s may turn are =
       (may, on-lives s pid turn.0, turn-reduced (bound_by s pid) pid count rest (step program_of s pid).after (may-again s pid turn.0) turn.1 are)
 
-  pub turns-reduced : (turns : List Turn) (s : State) → AreTurns program_of turns s → AreReduced program_of (steps_of_turns turns) s
+  pub turns-reduced : (turns : List CombinedTurn) (s : State) → AreTurns program_of turns s → AreReduced program_of (steps_of_turns turns) s
   turns-reduced [] s are = tt
   turns-reduced ((k, n) ∷ turns) s are =
       turn-reduced 0 k n (steps_of_turns turns) s refl are.0 (turns-reduced turns (run program_of (replicate (suc n) k) s).final are.1)
@@ -120,16 +113,16 @@ module _ (program_of : Bytes → Option Program) where
 
   -- ---- a reduced schedule to each reply of turns
 
-  record Ends (s : State) (r : Reply) (turns : List Turn) : Type 0 where
+  record Ends (s : State) (r : StepResult) (turns : List CombinedTurn) : Type 0 where
     before : List ℕ
     reduced : AreReduced program_of (before ++ r.pid ∷ []) s
-    alike : reply r.pid (step program_of (run program_of before s).final r.pid) ≡ r
+    alike : step_result r.pid (step program_of (run program_of before s).final r.pid) ≡ r
     no_longer : length (before ++ r.pid ∷ []) ≤ length (steps_of_turns turns)
 
   abbrev last_step : ℕ → ℕ → State → Stepped
   last_step n k s = step program_of (run program_of (replicate n k) s).final k
 
-  ends-here : (k n : ℕ) (turns : List Turn) (s : State) → IsTurn program_of k n s → Ends s (reply k (last_step n k s)) ((k, n) ∷ turns)
+  ends-here : (k n : ℕ) (turns : List CombinedTurn) (s : State) → IsTurn program_of k n s → Ends s (step_result k (last_step n k s)) ((k, n) ∷ turns)
   ends-here k n turns s turn =
       let last = replicate-last n k [] in
       record {
@@ -139,13 +132,13 @@ module _ (program_of : Bytes → Option Program) where
         no_longer = omega (arith, ap length last, length-append (replicate (suc n) k) [], length-append (replicate (suc n) k) (steps_of_turns turns));
       }
 
-  ends-past : (k n : ℕ) (turns : List Turn) (s : State) (r : Reply) → IsTurn program_of k n s → Ends (run program_of (replicate (suc n) k) s).final r turns → Ends s r ((k, n) ∷ turns)
+  ends-past : (k n : ℕ) (turns : List CombinedTurn) (s : State) (r : StepResult) → IsTurn program_of k n s → Ends (run program_of (replicate (suc n) k) s).final r turns → Ends s r ((k, n) ∷ turns)
   ends-past k n turns s r turn rest =
       let joined = append_assoc (replicate (suc n) k) rest.before (r.pid ∷ []) in
       record {
         before = replicate (suc n) k ++ rest.before;
         reduced = subst (λ pids. AreReduced program_of pids s) (sym joined) (turn-reduced 0 k n (rest.before ++ r.pid ∷ []) s refl turn rest.reduced);
-        alike = ap (λ x. reply r.pid (step program_of x r.pid)) (final-append program_of (replicate (suc n) k) rest.before s) ∙ rest.alike;
+        alike = ap (λ x. step_result r.pid (step program_of x r.pid)) (final-append program_of (replicate (suc n) k) rest.before s) ∙ rest.alike;
         no_longer =
             omega (
               arith,
@@ -156,32 +149,32 @@ module _ (program_of : Bytes → Option Program) where
             );
       }
 
-  ends : (turns : List Turn) (s : State) → AreTurns program_of turns s → (rs : List Reply) (r : Reply) → replies program_of (steps_of_turns turns) s ≡ rs ++ r ∷ [] → Ends s r turns
+  ends : (turns : List CombinedTurn) (s : State) → AreTurns program_of turns s → (rs : List StepResult) (r : StepResult) → replies program_of (steps_of_turns turns) s ≡ rs ++ r ∷ [] → Ends s r turns
   ends [] s are [] r is = cc is
   ends [] s are (other ∷ rs) r is = cc is
   ends ((k, n) ∷ turns) s are [] r is =
-      let first : reply k (last_step n k s) ∷ replies program_of (steps_of_turns turns) (run program_of (replicate (suc n) k) s).final ≡ r ∷ [] = sym (replies-turn program_of k n (steps_of_turns turns) s are.0) ∙ is in
-      let same : reply k (last_step n k s) ≡ r = cc first in
-      subst (λ (x : Reply). Ends s x ((k, n) ∷ turns)) same (ends-here k n turns s are.0)
+      let first : step_result k (last_step n k s) ∷ replies program_of (steps_of_turns turns) (run program_of (replicate (suc n) k) s).final ≡ r ∷ [] = sym (replies-turn program_of k n (steps_of_turns turns) s are.0) ∙ is in
+      let same : step_result k (last_step n k s) ≡ r = cc first in
+      subst (λ (x : StepResult). Ends s x ((k, n) ∷ turns)) same (ends-here k n turns s are.0)
   ends ((k, n) ∷ turns) s are (other ∷ rs) r is =
-      let first : reply k (last_step n k s) ∷ replies program_of (steps_of_turns turns) (run program_of (replicate (suc n) k) s).final ≡ other ∷ (rs ++ r ∷ []) =
+      let first : step_result k (last_step n k s) ∷ replies program_of (steps_of_turns turns) (run program_of (replicate (suc n) k) s).final ≡ other ∷ (rs ++ r ∷ []) =
       sym (replies-turn program_of k n (steps_of_turns turns) s are.0) ∙ is
       in
       let later : replies program_of (steps_of_turns turns) (run program_of (replicate (suc n) k) s).final ≡ rs ++ r ∷ [] = cc first in
       ends-past k n turns s r are.0 (ends turns (run program_of (replicate (suc n) k) s).final are.1 rs r later)
 
-  ends-each : EncodesPrograms program_of → (s : State) (pids : List ℕ) (pid : ℕ) → IsValid s → AreSteps program_of (pids ++ pid ∷ []) s → on_registers (run program_of pids s).final pid ≡ false → EndsReduced program_of s pids pid
+  ends-each : EncodesPrograms program_of → (s : State) (pids : List ℕ) (pid : ℕ) → IsValid s → AreSteps program_of (pids ++ pid ∷ []) s → is_step_on_registers (run program_of pids s).final pid ≡ false → EndsReduced program_of s pids pid
   ends-each encodes s pids pid whole steps off =
       let form = normal-form program_of encodes s (pids ++ pid ∷ []) whole steps in
       let is =
-      ends form.turns s form.joined (replies program_of pids s) (reply pid (step program_of (run program_of pids s).final pid))
-      (form.replies ∙ replies-append program_of pids (pid ∷ []) s ∙ ap (λ (rs : List Reply). replies program_of pids s ++ rs) (replies-off program_of pid [] (run program_of pids s).final off))
+      ends form.turns s form.joined (replies program_of pids s) (step_result pid (step program_of (run program_of pids s).final pid))
+      (form.replies ∙ replies-append program_of pids (pid ∷ []) s ∙ ap (λ (rs : List StepResult). replies program_of pids s ++ rs) (replies-off program_of pid [] (run program_of pids s).final off))
       in
       record {
         before = is.before;
         reduced = is.reduced;
-        outcome = ap (λ (r : Reply). r.outcome) is.alike;
-        lines = ap (λ (r : Reply). r.lines) is.alike;
+        outcome = ap (λ (r : StepResult). r.outcome) is.alike;
+        lines = ap (λ (r : StepResult). r.lines) is.alike;
         no_longer = omega (arith, is.no_longer, form.count, length-append (steps_of_turns form.turns) form.left);
       }
 

@@ -1,31 +1,25 @@
 -- The reduced search is a search: the visited states and the reported steps.
 use Rattle.std.proofs.Common.{◌≡◌, ◌≢◌, ◌↔◌, ◌∙◌, sym, ap, ap₂, subst, ℕ, suc, ◌≤◌, Bool, true, false, if◌then◌else◌, ◌==◌, cond, List, [], ◌∷◌, ◌++◌, length, filter, Option, is_some, refl, arith}
 use Rattle.std.proofs.lemmas.Bool.{and_parts, and_from, eqb-true, eq-eqb}
-use Rattle.pv_model.specs.Answers.Explore.{Found, Move, found_by, move, moves_of, move_text, has_ended, endings}
-use Rattle.pv_model.specs.Answers.Numbers.{same_state}
-use Rattle.pv_model.specs.Bytes.{Bytes}
-use Rattle.pv_model.specs.Held.{named_tree}
-use Rattle.pv_model.specs.State.{Program, State, process_at}
-use Rattle.pv_model.specs.Step.{step, run, final_tree}
-use Rattle.pv_model.specs.Trace.{trace_bytes}
+use Rattle.pv_model.specs.Machine.{Found, Move, found_by, move, moves_of, move_text, has_ended, endings, same_state, Bytes, named_tree, Program, State, process_at, step, run, trace_bytes}
+use Rattle.pv_model.specs.Step.{final_tree}
 use Rattle.pv_laws_states.specs.States.{EncodesPrograms, IsValid}
-use Rattle.pv_laws_answers.specs.Search.{IsSearched, step_text, CanHappen, EndsIn}
+use Rattle.pv_laws_answers.specs.Search.{IsSearchable, text_of_step, CanHappen, EndsIn}
 use Rattle.pv_laws_answers.specs.Witnesses.{AreSteps, IsWitness}
-use Rattle.pv_laws_answers.proofs.Complete.{among-contains}
+use Rattle.pv_laws_answers.proofs.CompleteSearches.{among-contains}
 use Rattle.pv_laws_answers.proofs.Lists.{Among, each-from_among, among-filter, filter-among}
-use Rattle.pv_laws_answers.proofs.LiveOnes.{moves-ascending}
-use Rattle.pv_laws_answers.proofs.Reading.{reported-apart}
-use Rattle.pv_laws_answers.proofs.Searching.{Ascending}
-use Rattle.pv_laws_answers.proofs.Sound.{IsSound}
+use Rattle.pv_laws_answers.proofs.LiveProcesses.{moves-ascending}
+use Rattle.pv_laws_answers.proofs.StateDecoding.{reported-apart}
+use Rattle.pv_laws_answers.proofs.SearchInvariant.{Ascending, visited, Decides}
+use Rattle.pv_laws_answers.proofs.SoundStates.{IsSound}
 use Rattle.pv_laws_classes.specs.Reduced.{representative, bound_by, may_step, bound_after, AreReducedFrom, AreReduced, bound_at, reduced_moves_of, are_identified, reduced_found, reduced_reported, is_reduced_complete, AreNotIdentified, ReducedStatesAreReached, EachTextIsReportedReduced, HasShortestWitness, ReducedWitnessesAreShortest, ReducedEndingsHappen, ReducedEndingsAreAll}
-use Rattle.pv_laws_classes.specs.Together.{on_registers}
-use Rattle.pv_laws_classes.proofs.Orders.{to_later-weaker, no_later-longer}
+use Rattle.pv_laws_classes.specs.Together.{is_step_on_registers}
+use Rattle.pv_laws_answers.proofs.WitnessOrders.{to_later-weaker, no_later-longer}
 use Rattle.pv_laws_classes.proofs.ReducedClasses.{representative-states, representative-on_registers}
 use Rattle.pv_laws_classes.proofs.ReducedSchedules.{bound-last, reduced-parts, reduced-more, reaches-each, reaches-endings}
-use Rattle.pv_laws_classes.proofs.Registers.{no-lines}
-use Rattle.pv_laws_classes.proofs.Searching.{visited, Decides}
+use Rattle.pv_laws_classes.proofs.RegisterSteps.{no-lines}
 use Rattle.pv_laws_classes.proofs.StateSearches.{state-search, own-move, end}
-use Rattle.pv_laws_classes.proofs.Visited.{IsSearch, IsReached, begins, goes_on, AreMade, made-reached, made, sound-reached, endings-differ, found, finished, reached-at, sound-at, can-happen, least, reported-once, reported-order, text-found, ends-in, text-reported, ending-found}
+use Rattle.pv_laws_classes.proofs.VisitedStates.{IsSearch, IsReached, begins, goes_on, AreMade, made-reached, made, sound-reached, endings-differ, found, finished, reached-at, sound-at, can-happen, least, reported-once, reported-order, text-found, ends-in, text-reported, ending-found}
 
 -- ---- steps that pass a test are in the order of all steps
 
@@ -141,12 +135,12 @@ module _ (program_of : Bytes → Option Program) (s : State) where
       pub step : Move
       pub reached : IsReached program_of s (reduced_moves_of program_of s) from
       pub within : Among step (reduced_moves_of program_of s from)
-      pub text : move_text step ≡ step_text program_of (run program_of pids s).final pid
+      pub text : move_text step ≡ text_of_step program_of (run program_of pids s).final pid
       pub no_longer : length step.witness ≤ length (pids ++ pid ∷ [])
 
-    pub reduced-step : (pids : List ℕ) (pid : ℕ) → AreSteps program_of (pids ++ pid ∷ []) s → step_text program_of (run program_of pids s).final pid ≢ [] → HasReducedStep pids pid
+    pub reduced-step : (pids : List ℕ) (pid : ℕ) → AreSteps program_of (pids ++ pid ∷ []) s → text_of_step program_of (run program_of pids s).final pid ≢ [] → HasReducedStep pids pid
     reduced-step pids pid steps text =
-        let ends = reaches-each program_of s pids pid it.encodes it.whole steps (off (on_registers (run program_of pids s).final pid) refl) in
+        let ends = reaches-each program_of s pids pid it.encodes it.whole steps (off (is_step_on_registers (run program_of pids s).final pid) refl) in
         let parts = reduced-parts program_of ends.before pid s ends.reduced in
         let from = end program_of s ends.before in
         record {
@@ -158,13 +152,13 @@ module _ (program_of : Bytes → Option Program) (s : State) where
           no_longer = ends.no_longer;
         }
       where
-        off : (b : Bool) → on_registers (run program_of pids s).final pid ≡ b → b ≡ false
+        off : (b : Bool) → is_step_on_registers (run program_of pids s).final pid ≡ b → b ≡ false
         off true on = absurd (text (ap trace_bytes (no-lines program_of (run program_of pids s).final pid on)))
         off false on = refl
 
 -- ---- the laws of one search
 
-abbrev search_of : (program_of : Bytes → Option Program) (limit : ℕ) (s : State) → IsSearched program_of limit s → IsReducedSearch program_of s
+abbrev search_of : (program_of : Bytes → Option Program) (limit : ℕ) (s : State) → IsSearchable program_of limit s → IsReducedSearch program_of s
 search_of program_of limit s it = reduced-search program_of s it.encodes it.whole
 
 pub reduced-states : ReducedStatesAreReached
@@ -187,9 +181,9 @@ reduced-text program_of limit s pids pid it complete steps text =
     let search = search_of program_of limit s it in
     let own = reduced-step program_of s search pids pid steps text in
     let m = text-reported search limit it.room complete own.from own.step own.reached own.within (λ none. text (sym own.text ∙ none)) in
-    text-found search limit it.room (step_text program_of (run program_of pids s).final pid) m.0 m.1 (m.2 ∙ own.text)
+    text-found search limit it.room (text_of_step program_of (run program_of pids s).final pid) m.0 m.1 (m.2 ∙ own.text)
 
-pub reduced-shortest : (program_of : Bytes → Option Program) (limit : ℕ) (s : State) (it : IsSearched program_of limit s) (m : Move) → Among m (reduced_reported program_of s limit)
+pub reduced-shortest : (program_of : Bytes → Option Program) (limit : ℕ) (s : State) (it : IsSearchable program_of limit s) (m : Move) → Among m (reduced_reported program_of s limit)
     → HasShortestWitness program_of s m
 unfolding reduced_found visited
 reduced-shortest program_of limit s it m h pids pid steps text =
@@ -218,7 +212,7 @@ reduced-endings program_of limit s it =
       once = endings-differ (found search limit it.room);
     }
 
-pub reduced-ending_there : (program_of : Bytes → Option Program) (limit : ℕ) (s : State) (pids : List ℕ) → IsSearched program_of limit s → is_reduced_complete program_of s limit ≡ true
+pub reduced-ending_there : (program_of : Bytes → Option Program) (limit : ℕ) (s : State) (pids : List ℕ) → IsSearchable program_of limit s → is_reduced_complete program_of s limit ≡ true
     → AreSteps program_of pids s → has_ended (run program_of pids s).final ≡ true → Among (final_tree program_of pids s) (endings (reduced_found program_of s limit))
 unfolding reduced_found visited
 reduced-ending_there program_of limit s pids it complete steps ended =

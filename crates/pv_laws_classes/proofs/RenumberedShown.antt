@@ -5,37 +5,26 @@ use Rattle.pv_model.specs.declared.call.Call.TheVariants.{Unveil}
 use Rattle.pv_model.specs.declared.promise.Promise.TheVariants.{Rpath, Cpath, Exec}
 use Rattle.pv_model.specs.declared.verdict.Why.{Why}
 use Rattle.pv_model.specs.declared.verdict.Why.TheVariants.{Reads}
-use Rattle.pv_model.specs.Answer.{Answered, answer, answer_of}
-use Rattle.pv_model.specs.Answers.Access.{accesses, lines_of_accesses}
-use Rattle.pv_model.specs.Answers.Needs.{judged_at, judged_walks, promises_needed, begins_program, asked_by}
-use Rattle.pv_model.specs.Answers.Observed.{CallObserver, of_next, of_process, of_calls}
+use Rattle.pv_model.specs.Machine.{Answered, answer, answer_of, accesses, lines_of_accesses, judged_walks, promises_needed, asked_by, of_next, of_process, of_calls, Bytes, Numbered, at_number, numbered_from, Next, inside, calls_for, next, leaks, OpenFile, Descriptor, Program, Process, State, reads, process_at, Stepped, step, place_found, Table, resolve, Walk, walks_of}
+use Rattle.pv_model.specs.Answers.Needs.{judged_at, begins_program}
+use Rattle.pv_model.specs.Answers.Observed.{CallObserver}
 use Rattle.pv_model.specs.Answers.Policy.{request}
-use Rattle.pv_model.specs.Bytes.{Bytes}
-use Rattle.pv_model.specs.Numbered.{Numbered, at_number, numbered_from}
-use Rattle.pv_model.specs.Program.{Next, inside, calls_for, next}
 use Rattle.pv_model.specs.Sealed
-use Rattle.pv_model.specs.Sealed.{is_pledged_without, least_first, leaks}
-use Rattle.pv_model.specs.State.{OpenFile, Descriptor, Program, Process, State, reads, process_at}
-use Rattle.pv_model.specs.Step.{Stepped, step}
-use Rattle.pv_model.specs.Touch.{place_found}
-use Rattle.pv_model.specs.Unveil.{Table}
-use Rattle.pv_model.specs.Walk.{resolve}
-use Rattle.pv_model.specs.Walks.{Walk, walks_of}
+use Rattle.pv_model.specs.Sealed.{is_pledged_without, least_first}
 use Rattle.pv_laws_states.specs.States.{EncodesPrograms, IsValid}
 use Rattle.pv_laws_classes.specs.Canonical.{AreAlike}
 use Rattle.pv_laws_classes.specs.Liveness.{is_live_below, cleared}
 use Rattle.pv_laws_classes.specs.Reduced.{representative}
 use Rattle.pv_laws_classes.specs.Renumbering.{renumbered_descriptor, renumbered_descriptors, renumbered_process}
-use Rattle.pv_laws_classes.specs.Shown.{ShownCall, shown_call, shown_process, shown}
-use Rattle.pv_laws_classes.proofs.AlikeAccesses.{start-same, accesses-same, access-lines-same, IsSame}
-use Rattle.pv_laws_classes.proofs.Attempts.{AreAnswered}
-use Rattle.pv_laws_classes.proofs.Files.{some-value}
-use Rattle.pv_laws_classes.proofs.FirstObserved.{of-classes}
-use Rattle.pv_laws_classes.proofs.Forms.{unique}
-use Rattle.pv_laws_classes.proofs.Lists.{Uses}
+use Rattle.pv_laws_classes.specs.Shown.{ShownCall, shown_call, shown_process, shown_in}
+use Rattle.pv_laws_classes.proofs.RenumberedAccesses.{start-same, accesses-same, access-lines-same, IsSame, of-classes}
+use Rattle.pv_laws_classes.proofs.RenumberedAttempts.{AreAnswered}
+use Rattle.pv_laws_classes.proofs.RenumberedFiles.{some-value}
+use Rattle.pv_laws_classes.proofs.CanonicalForms.{unique}
+use Rattle.pv_laws_classes.proofs.RenumberedLists.{Uses}
 use Rattle.pv_laws_classes.proofs.ReducedClasses.{cleared-whole}
-use Rattle.pv_laws_classes.proofs.States.{IsPresent, renumbered, Fits, AreRelated, related, by-related, process-renumbered, process-uses}
-use Rattle.pv_laws_classes.proofs.Steps.{answer-both, related-of}
+use Rattle.pv_laws_classes.proofs.RenumberedStates.{IsPresent, renumbered, Fits, AreRelated, related, by-related, process-renumbered, process-uses}
+use Rattle.pv_laws_classes.proofs.RenumberedSteps.{answer-both, related-of, renumbered-steps}
 
 -- ---- calls
 
@@ -178,8 +167,9 @@ processes-shown s t pid is =
 
 -- in two states that are equal up to a renumbering, the same is shown
 pub renumbered-shown : (program_of : Bytes → Option Program) → EncodesPrograms program_of
-    → (s t : State) (pid : ℕ) → IsValid s → IsValid t → AreAlike s t → shown program_of t pid ≡ shown program_of s pid
+    → (s t : State) (pid : ℕ) → IsValid s → IsValid t → AreAlike s t → shown_in program_of t pid ≡ shown_in program_of s pid
 renumbered-shown program_of encodes s t pid whole_s whole_t alike = λ i. record {
+  outcome = (renumbered-steps program_of alike.0 s t pid whole_s whole_t alike.1).outcome i;
   accesses = of-classes accesses accesses-same program_of encodes s t pid whole_s whole_t alike i;
   access_lines = of-classes lines_of_accesses access-lines-same program_of encodes s t pid whole_s whole_t alike i;
   calls = calls-are i;
@@ -194,8 +184,8 @@ renumbered-shown program_of encodes s t pid whole_s whole_t alike = λ i. record
 
 -- and in two states of one class, if zero in dead variables does not change what is shown
 pub identified-shown : (program_of : Bytes → Option Program) → EncodesPrograms program_of
-    → ((s : State) (pid : ℕ) → IsValid s → shown program_of (cleared is_live_below s) pid ≡ shown program_of s pid)
-    → (s t : State) (pid : ℕ) → IsValid s → IsValid t → representative s ≡ representative t → shown program_of t pid ≡ shown program_of s pid
+    → ((s : State) (pid : ℕ) → IsValid s → shown_in program_of (cleared is_live_below s) pid ≡ shown_in program_of s pid)
+    → (s t : State) (pid : ℕ) → IsValid s → IsValid t → representative s ≡ representative t → shown_in program_of t pid ≡ shown_in program_of s pid
 unfolding representative
 identified-shown program_of encodes cleared-shown s t pid whole_s whole_t same =
     let zeroed_s = cleared-whole is_live_below s whole_s in

@@ -2,19 +2,14 @@
 -- schedule, with a shortest witness.
 use Rattle.std.proofs.Common.{◌≡◌, ◌∙◌, sym, ap, subst, ℕ, suc, ◌≤◌, Bool, true, List, [], ◌∷◌, ◌++◌, length, length-append, map, flat_map, Option, ◌⊎◌, inl, inr, refl, arith}
 use Rattle.std.specs.List.{list_all}
-use Rattle.pv_model.specs.Answers.Explore.{Found, Move, move}
-use Rattle.pv_model.specs.Answers.Numbers.{Numbers}
-use Rattle.pv_model.specs.Answers.Observed.{Observer, Observation, observed, first_observations}
-use Rattle.pv_model.specs.Bytes.{Bytes}
-use Rattle.pv_model.specs.State.{Program, State}
-use Rattle.pv_model.specs.Step.{Stepped, step, run}
-use Rattle.pv_laws_answers.specs.Witnesses.{AreSteps, IsBefore, IsNoLater, EachToLater}
+use Rattle.pv_model.specs.Machine.{Found, Move, move, Numbers, Observer, Observation, observed, first_observations, Bytes, Program, State, Stepped, step, run}
+use Rattle.pv_laws_answers.specs.Witnesses.{AreSteps, IsEarlierWitness, IsNoLaterWitness, EachToLater}
 use Rattle.pv_laws_answers.proofs.Lists.{Among, each-among, among-map, map-among, among-flat, flat-among}
-use Rattle.pv_laws_answers.proofs.New.{new-like, new-first}
-use Rattle.pv_laws_answers.proofs.Sound.{IsSound}
-use Rattle.pv_laws_classes.proofs.Orders.{to_later-flat, to_later-all, no_later-longer}
-use Rattle.pv_laws_classes.proofs.Searching.{is_known}
-use Rattle.pv_laws_classes.proofs.Visited.{IsSearch, IsReached, made, like-move, sound-reached, found, made_moves, finished, sound-at, HasNoLater, no_later-reached, found-no_later}
+use Rattle.pv_laws_answers.proofs.NewKeys.{new-like, new-first}
+use Rattle.pv_laws_answers.proofs.SearchInvariant.{is_known}
+use Rattle.pv_laws_answers.proofs.SoundStates.{IsSound}
+use Rattle.pv_laws_answers.proofs.WitnessOrders.{to_later-flat, to_later-all, no_later-longer}
+use Rattle.pv_laws_classes.proofs.VisitedStates.{IsSearch, IsReached, made, like-move, sound-reached, found, made_moves, finished, sound-at, HasNoLater, no_later-reached, found-no_later}
 
 module _
     {X : Type 0} (observe : Observer X) {program_of : Bytes → Option Program} {s : State} {C : Type 0} {class_of : Found → C} {same : Found → Found → Bool}
@@ -92,7 +87,7 @@ module _
 
     order : EachToLater NoLonger all_observations
     order =
-        to_later-flat NoLonger (λ (f g : Found). IsBefore f.witness g.witness) observations_from (found it limit room) (finished it limit room).rising
+        to_later-flat NoLonger (λ (f g : Found). IsEarlierWitness f.witness g.witness) observations_from (found it limit room) (finished it limit room).rising
         (λ f in_f.
         let sound = sound-at it limit room f in_f in
         to_later-all NoLonger (observations_from f) (λ o q h k. omega (arith, size-of f sound o h, size-of f sound q k)))
@@ -154,7 +149,7 @@ module _
               let le = first q (new-first (λ (q : Observation X). key q.item) NoLonger [] all_observations order o h q within keys) in
               omega (arith, size, le, length-append g.0.witness (pid ∷ []), no_later-longer g.0.witness own.from.witness g.3, own.no_longer)
           by (inr all) =
-              let no_later = each-among (λ (g : Found). IsNoLater g.witness own.from.witness) (found it limit room) all last.from last.visited in
+              let no_later = each-among (λ (g : Found). IsNoLaterWitness g.witness own.from.witness) (found it limit room) all last.from last.visited in
               omega (arith, no_later-longer last.from.witness own.from.witness no_later, own.no_longer)
 
       -- ---- if the search is complete

@@ -1,42 +1,34 @@
 -- The accesses that the reduced search lists: those of all schedules, with shortest witnesses, as the full search does.
-use Rattle.std.proofs.Common.{◌≡◌, ◌≢◌, ◌∙◌, sym, ap, subst, ℕ, ◌≤◌, Bool, true, not, ◌&&◌, bytes_eq, List, [], ◌∷◌, ◌++◌, length, length-append, filter, codes, Option, refl, arith}
-use Rattle.std.specs.List.{AllByRecursion, list_all}
-use Rattle.pv_model.specs.Answers.Access.{Access, accesses, lines_of_accesses, file_read, reported_accesses, files_read, unread_files}
-use Rattle.pv_model.specs.Answers.Explore.{Found, Move, states_found, is_complete}
-use Rattle.pv_model.specs.Answers.Files.{named_files}
-use Rattle.pv_model.specs.Answers.Lines.{AnswerLine, answer_line_bytes}
-use Rattle.pv_model.specs.Answers.Observed.{Observer, Observation, observations, first_observations, of_calls}
-use Rattle.pv_model.specs.Bytes.{Bytes}
-use Rattle.pv_model.specs.Calls.Paths.{same_node}
-use Rattle.pv_model.specs.State.{Program, State}
-use Rattle.pv_model.specs.Step.{step, run}
-use Rattle.pv_model.specs.Tree.{root, find_entry}
+use Rattle.std.proofs.Common.{◌≡◌, ◌≢◌, ◌∙◌, sym, ap, subst, ℕ, ◌≤◌, Bool, true, not, ◌&&◌, ◌==◌, bytes_eq, List, [], ◌∷◌, ◌++◌, length, length-append, filter, codes, Option, refl, arith}
+use Rattle.std.specs.List.{AllByRecursion, list_any, list_all}
+use Rattle.std.specs.Cmp.{both_ways}
+use Rattle.pv_model.specs.Machine.{Access, accesses, lines_of_accesses, Found, Move, states_found, is_complete, named_files, AnswerLine, answer_line_bytes, Observer, Observation, observations, first_observations, of_calls, Bytes, same_node, Program, State, step, run, root, find_entry}
+use Rattle.pv_model.specs.Answers.Access.{file_read, reported_accesses, files_read, unread_files}
 use Rattle.pv_laws_trees.proofs.Entries.{bytes_eq-itself}
-use Rattle.pv_laws_answers.specs.Accesses.{is_listed}
-use Rattle.pv_laws_answers.specs.Search.{IsSearched}
+use Rattle.pv_laws_answers.specs.Accesses.{is_access_listed}
+use Rattle.pv_laws_answers.specs.Search.{IsSearchable}
 use Rattle.pv_laws_answers.specs.Witnesses.{AreSteps, EachToLater}
-use Rattle.pv_laws_answers.proofs.Complete.{among-contains}
-use Rattle.pv_laws_answers.proofs.Least.{steps-split}
-use Rattle.pv_laws_answers.proofs.Lists.{Among, each-from_among, any-among, among-filter_map, filter_map-among}
-use Rattle.pv_laws_answers.proofs.New.{new-came, new-differ}
+use Rattle.pv_laws_answers.proofs.CompleteSearches.{among-contains}
+use Rattle.pv_laws_answers.proofs.LeastWitnesses.{steps-split}
+use Rattle.pv_laws_answers.proofs.Lists.{Among, each-from_among, among-any, any-among, among-filter_map, filter_map-among}
+use Rattle.pv_laws_answers.proofs.NewKeys.{new-came, new-differ}
+use Rattle.pv_laws_answers.proofs.SearchInvariant.{visited, is_known}
 use Rattle.pv_laws_classes.specs.Reduced.{reduced_found, is_reduced_complete}
 use Rattle.pv_laws_classes.specs.ReducedAnswers.{reduced_observations, reduced_accesses, reduced_files_read, reduced_unread_files}
-use Rattle.pv_laws_classes.specs.Shown.{Shown, shown, access_lines_of, IsShortestAccess, ListedAccessesReduced, HasEqualAccess, HaveSameAccesses}
-use Rattle.pv_laws_classes.proofs.FirstObserved.{same-among}
+use Rattle.pv_laws_classes.specs.Shown.{Shown, shown_in, access_lines_of, IsShortestAccess, ListedAccessesReduced, HasEqualAccess, HaveSameAccesses}
 use Rattle.pv_laws_classes.proofs.ReducedReports.{same-length}
 use Rattle.pv_laws_classes.proofs.ReducedSearch.{IsReducedSearch, reduced-search}
 use Rattle.pv_laws_classes.proofs.SearchObservations.{all_observations, of-last, IsOfClass, first-shortest, all-observed, first-observed}
-use Rattle.pv_laws_classes.proofs.Searching.{visited, is_known}
-use Rattle.pv_laws_classes.proofs.Seen.{themselves, reaches-shown, shown-alike}
+use Rattle.pv_laws_classes.proofs.SeenProcesses.{themselves, reaches-shown, shown-alike}
 use Rattle.pv_laws_classes.proofs.SeenSchedules.{IsInvariant}
 use Rattle.pv_laws_classes.proofs.StateSearches.{IsStateSearch, full-search, own-move, end, steps-reached}
-use Rattle.pv_laws_classes.proofs.Visited.{IsSearch, found, made_moves}
+use Rattle.pv_laws_classes.proofs.VisitedStates.{IsSearch, found, made_moves}
 
 -- ---- observers of what is shown
 
-module _ {X : Type 0} (observe : Observer X) (program_of : Bytes → Option Program) (limit : ℕ) (s : State) (it : IsSearched program_of limit s) where
+module _ {X : Type 0} (observe : Observer X) (program_of : Bytes → Option Program) (limit : ℕ) (s : State) (it : IsSearchable program_of limit s) where
   -- an observer of a part of what is shown depends only on the class
-  reduced-of_class : (part : Shown → List X) → ((t : State) (pid : ℕ) → part (shown program_of t pid) ≡ observe t pid (step program_of t pid))
+  reduced-of_class : (part : Shown → List X) → ((t : State) (pid : ℕ) → part (shown_in program_of t pid) ≡ observe t pid (step program_of t pid))
       → IsInvariant program_of
       → IsOfClass observe (reduced-search program_of s it.encodes it.whole) limit it.room
   reduced-of_class part is invariant =
@@ -156,7 +148,7 @@ module _ (program_of : Bytes → Option Program) (s : State) where
 
 -- ---- the accesses of the reduced search, and of the full search
 
-module _ (program_of : Bytes → Option Program) (limit : ℕ) (s : State) (it : IsSearched program_of limit s) where
+module _ (program_of : Bytes → Option Program) (limit : ℕ) (s : State) (it : IsSearchable program_of limit s) where
   module _ (invariant : IsInvariant program_of) where
     lines-of_class : IsOfClass lines_observer (reduced-search program_of s it.encodes it.whole) limit it.room
     lines-of_class = reduced-of_class lines_observer program_of limit s it (λ x. x.access_lines) (λ t pid. refl) invariant
@@ -179,9 +171,16 @@ module _ (program_of : Bytes → Option Program) (limit : ℕ) (s : State) (it :
 
 -- ---- unread files
 
+-- lists with the same elements
+same-among : (ms ns : List ℕ) → ((n : ℕ) → Among n ms → Among n ns) → ((n : ℕ) → Among n ns → Among n ms) → (n : ℕ) → list_any (λ m. m == n) ms ≡ list_any (λ m. m == n) ns
+same-among ms ns there back n = both_ways (list_any (λ m. m == n) ms) (list_any (λ m. m == n) ns) (λ is. to ms ns there is) (λ is. to ns ms back is)
+  where
+    to : (ms ns : List ℕ) → ((n : ℕ) → Among n ms → Among n ns) → list_any (λ m. m == n) ms ≡ true → list_any (λ m. m == n) ns ≡ true
+    to ms ns there is = let found = among-any (λ m. m == n) ms is in any-among (λ m. m == n) found.0 ns (there found.0 found.1) found.2
+
 module _
-    (program_of : Bytes → Option Program) (invariant : IsInvariant program_of) (limit other : ℕ) (s : State) (it : IsSearched program_of limit s)
-    (it' : IsSearched program_of other s) (complete : is_complete program_of limit s ≡ true) (complete' : is_reduced_complete program_of s other ≡ true) where
+    (program_of : Bytes → Option Program) (invariant : IsInvariant program_of) (limit other : ℕ) (s : State) (it : IsSearchable program_of limit s)
+    (it' : IsSearchable program_of other s) (complete : is_complete program_of limit s ≡ true) (complete' : is_reduced_complete program_of s other ≡ true) where
   abbrev access_observer : Observer Access
   access_observer = of_calls accesses
 
@@ -222,24 +221,24 @@ module _
 -- ---- the laws
 
 pub access-listed : (program_of : Bytes → Option Program) → IsInvariant program_of
-    → (limit : ℕ) (s : State) (pids : List ℕ) (pid : ℕ) → IsSearched program_of limit s → is_reduced_complete program_of s limit ≡ true
+    → (limit : ℕ) (s : State) (pids : List ℕ) (pid : ℕ) → IsSearchable program_of limit s → is_reduced_complete program_of s limit ≡ true
     → AreSteps program_of (pids ++ pid ∷ []) s
-    → AllByRecursion (λ access. is_listed access (reduced_accesses program_of limit s) ≡ true) (access_lines_of program_of (run program_of pids s).final pid)
+    → AllByRecursion (λ access. is_access_listed access (reduced_accesses program_of limit s) ≡ true) (access_lines_of program_of (run program_of pids s).final pid)
 access-listed program_of invariant limit s pids pid it complete steps =
-    each-from_among (λ access. is_listed access (reduced_accesses program_of limit s) ≡ true) (access_lines_of program_of (run program_of pids s).final pid)
+    each-from_among (λ access. is_access_listed access (reduced_accesses program_of limit s) ≡ true) (access_lines_of program_of (run program_of pids s).final pid)
     (λ l h.
     let o = reduced-all program_of limit s it invariant complete pids pid l steps h in
     any-among (λ (q : Observation AnswerLine). bytes_eq (answer_line_bytes q.item) (answer_line_bytes l)) o.0 (reduced_accesses program_of limit s) o.1
     (ap (λ k. bytes_eq k (answer_line_bytes l)) o.2 ∙ bytes_eq-itself (answer_line_bytes l)))
 
 pub accesses-reduced : (program_of : Bytes → Option Program) → IsInvariant program_of
-    → (limit : ℕ) (s : State) → IsSearched program_of limit s → ListedAccessesReduced program_of limit s
+    → (limit : ℕ) (s : State) → IsSearchable program_of limit s → ListedAccessesReduced program_of limit s
 accesses-reduced program_of invariant limit s it =
     let are = reduced-shortest program_of limit s it invariant in
     record { happen = each-from_among (IsShortestAccess program_of s) (reduced_accesses program_of limit s) are.happen; once = are.once }
 
 pub same-accesses_reduced : (program_of : Bytes → Option Program) → IsInvariant program_of
-    → (limit other : ℕ) (s : State) → IsSearched program_of limit s → IsSearched program_of other s
+    → (limit other : ℕ) (s : State) → IsSearchable program_of limit s → IsSearchable program_of other s
     → is_complete program_of limit s ≡ true → is_reduced_complete program_of s other ≡ true
     → HaveSameAccesses (reduced_accesses program_of other s) (reported_accesses program_of limit s)
     × (reduced_unread_files program_of other s ≡ unread_files program_of limit s)

@@ -3,29 +3,27 @@ use Rattle.std.proofs.Common.{◌≡◌, ◌≢◌, ⊎_elim, ◌∙◌, sym, ap
 use Rattle.std.specs.Prelude.{option_map}
 use Rattle.std.proofs.lemmas.Bool.{cases_eq}
 use Rattle.std.proofs.lemmas.List.{length-replicate}
-use Rattle.pv_model.specs.Bytes.{Bytes}
-use Rattle.pv_model.specs.State.{Program, Process, State, process_at}
-use Rattle.pv_model.specs.Step.{step, run}
+use Rattle.pv_model.specs.Machine.{Bytes, Program, Process, State, process_at, step, run}
 use Rattle.pv_laws_states.specs.States.{EncodesPrograms, IsValid}
 use Rattle.pv_laws_states.proofs.BySteps.{step-keeps_whole, run-keeps_whole}
 use Rattle.pv_laws_answers.specs.Witnesses.{AreSteps}
 use Rattle.pv_laws_classes.specs.Reduced.{representative, bound_by, may_step, AreReducedFrom, AreReduced}
-use Rattle.pv_laws_classes.specs.Shown.{Shown, shown_process, shown}
-use Rattle.pv_laws_classes.specs.Together.{on_registers, Turn, steps_of_turns, AreOnRegisters, AreTurns}
+use Rattle.pv_laws_classes.specs.Shown.{Shown, shown_process, shown_in}
+use Rattle.pv_laws_classes.specs.Together.{is_step_on_registers, CombinedTurn, steps_of_turns, AreOnRegisters, AreTurns}
 use Rattle.pv_laws_classes.proofs.ReducedSchedules.{may-again, turn-reduced}
-use Rattle.pv_laws_classes.proofs.Registers.{on-lives, final-append, passes}
-use Rattle.pv_laws_classes.proofs.Turns.{normal-form}
+use Rattle.pv_laws_classes.proofs.RegisterSteps.{on-lives, final-append, passes}
+use Rattle.pv_laws_classes.proofs.CombinedTurns.{normal-form}
 
--- what is shown of a process is the same in states with one representative, and after a step of another process on
--- registers
+-- the `Shown` record of a process is the same in states with one representative, and after a step of another process
+-- on registers
 pub record IsInvariant (program_of : Bytes → Option Program) : Type 0 where
-  pub identified : (s t : State) (pid : ℕ) → IsValid s → IsValid t → representative s ≡ representative t → shown program_of t pid ≡ shown program_of s pid
-  pub others : (s : State) (pid other : ℕ) → IsValid s → pid ≢ other → on_registers s other ≡ true
-      → shown program_of (step program_of s other).after pid ≡ shown program_of s pid
+  pub identified : (s t : State) (pid : ℕ) → IsValid s → IsValid t → representative s ≡ representative t → shown_in program_of t pid ≡ shown_in program_of s pid
+  pub others : (s : State) (pid other : ℕ) → IsValid s → pid ≢ other → is_step_on_registers s other ≡ true
+      → shown_in program_of (step program_of s other).after pid ≡ shown_in program_of s pid
 
 module _ (program_of : Bytes → Option Program) where
   -- a process is live in both of two states in which it shows the same, or in neither
-  pub lives-shown : (s t : State) (pid : ℕ) → shown program_of s pid ≡ shown program_of t pid → is_some (process_at s pid) ≡ is_some (process_at t pid)
+  pub lives-shown : (s t : State) (pid : ℕ) → shown_in program_of s pid ≡ shown_in program_of t pid → is_some (process_at s pid) ≡ is_some (process_at t pid)
   lives-shown s t pid same = sym (some s (process_at s pid)) ∙ ap (λ (x : Shown). is_some x.process) same ∙ some t (process_at t pid)
     where
       some : (u : State) (o : Option Process) → is_some (option_map (shown_process u) o) ≡ is_some o
@@ -35,7 +33,7 @@ module _ (program_of : Bytes → Option Program) where
   -- ---- reduced schedules
 
   -- steps after turns
-  turns-then : (turns : List Turn) (rest : List ℕ) (s : State) → AreTurns program_of turns s
+  turns-then : (turns : List CombinedTurn) (rest : List ℕ) (s : State) → AreTurns program_of turns s
       → AreReducedFrom program_of 0 rest (run program_of (steps_of_turns turns) s).final → AreReduced program_of (steps_of_turns turns ++ rest) s
   turns-then [] rest s are more = more
   turns-then ((k, n) ∷ turns) rest s are more =
@@ -56,10 +54,10 @@ module _ (program_of : Bytes → Option Program) where
 
     record PassesOwn (pid k count : ℕ) (s : State) : Type 0 where
       own : AreOnRegisters program_of (replicate count pid) s
-      on : on_registers (run program_of (replicate count pid) s).final k ≡ true
+      on : is_step_on_registers (run program_of (replicate count pid) s).final k ≡ true
       after : (step program_of (run program_of (replicate count pid) s).final k).after ≡ (run program_of (replicate count pid) (step program_of s k).after).final
 
-    passes-own : (pid k : ℕ) → pid ≢ k → (count : ℕ) (s : State) → IsValid s → on_registers s k ≡ true
+    passes-own : (pid k : ℕ) → pid ≢ k → (count : ℕ) (s : State) → IsValid s → is_step_on_registers s k ≡ true
         → AreOnRegisters program_of (replicate count pid) (step program_of s k).after → PassesOwn pid k count s
     passes-own pid k apart zero s whole on own = record { own = tt; on = on; after = refl }
     passes-own pid k apart (suc count) s whole on own =
@@ -75,7 +73,7 @@ module _ (program_of : Bytes → Option Program) where
       record OwnSteps (left : List ℕ) (s : State) : Type 0 where
         count : ℕ
         own : AreOnRegisters program_of (replicate count pid) s
-        same : shown program_of (run program_of (replicate count pid) s).final pid ≡ shown program_of (run program_of left s).final pid
+        same : shown_in program_of (run program_of (replicate count pid) s).final pid ≡ shown_in program_of (run program_of left s).final pid
         fewer : count ≤ length left
 
       own-steps : (left : List ℕ) (s : State) → IsValid s → AreOnRegisters program_of left s → OwnSteps left s
@@ -87,10 +85,10 @@ module _ (program_of : Bytes → Option Program) where
           here rest same = record {
             count = suc rest.count;
             own = (
-              subst (λ other. on_registers s other ≡ true) same on.0,
+              subst (λ other. is_step_on_registers s other ≡ true) same on.0,
               subst (λ other. AreOnRegisters program_of (replicate rest.count pid) (step program_of s other).after) same rest.own,
             );
-            same = ap (λ other. shown program_of (run program_of (replicate rest.count pid) (step program_of s other).after).final pid) (sym same) ∙ rest.same;
+            same = ap (λ other. shown_in program_of (run program_of (replicate rest.count pid) (step program_of s other).after).final pid) (sym same) ∙ rest.same;
             fewer = omega (arith, rest.fewer);
           }
 
@@ -104,7 +102,7 @@ module _ (program_of : Bytes → Option Program) where
                 own = own.own;
                 same =
                     sym (invariant.others before pid k (run-keeps_whole program_of encodes (replicate rest.count pid) s whole) apart own.on)
-                    ∙ ap (λ x. shown program_of x pid) own.after
+                    ∙ ap (λ x. shown_in program_of x pid) own.after
                     ∙ rest.same;
                 fewer = omega (arith, rest.fewer);
               }
@@ -113,7 +111,7 @@ module _ (program_of : Bytes → Option Program) where
     pub record IsShownAfter (s : State) (pids : List ℕ) (pid : ℕ) : Type 0 where
       pub before : List ℕ
       pub reduced : AreReduced program_of (before ++ pid ∷ []) s
-      pub same : shown program_of (run program_of before s).final pid ≡ shown program_of (run program_of pids s).final pid
+      pub same : shown_in program_of (run program_of before s).final pid ≡ shown_in program_of (run program_of pids s).final pid
       pub no_longer : length before ≤ length pids
 
     pub shown-after : IsInvariant program_of → (s : State) (pids : List ℕ) (pid : ℕ) → IsValid s → AreSteps program_of pids s
@@ -125,14 +123,14 @@ module _ (program_of : Bytes → Option Program) where
         let own = own-steps invariant pid form.left after (run-keeps_whole program_of encodes turns s whole) form.at_end in
         let final : (run program_of form.left after).final ≡ (run program_of pids s).final = sym (final-append program_of turns form.left s) ∙ form.final in
         let own_after = (run program_of (replicate own.count pid) after).final in
-        let same : shown program_of own_after pid ≡ shown program_of (run program_of pids s).final pid = own.same ∙ ap (λ x. shown program_of x pid) final in
+        let same : shown_in program_of own_after pid ≡ shown_in program_of (run program_of pids s).final pid = own.same ∙ ap (λ x. shown_in program_of x pid) final in
         let lives_after = lives-shown own_after (run program_of pids s).final pid same ∙ lives in
         record {
           before = turns ++ replicate own.count pid;
           reduced = subst (λ pids. AreReduced program_of pids s) (sym (append_assoc turns (replicate own.count pid) (pid ∷ [])))
               (turns-then form.turns (replicate own.count pid ++ pid ∷ []) s form.joined
               (own-reduced 0 pid own.count after refl own.own lives_after));
-          same = ap (λ x. shown program_of x pid) (final-append program_of turns (replicate own.count pid) s) ∙ same;
+          same = ap (λ x. shown_in program_of x pid) (final-append program_of turns (replicate own.count pid) s) ∙ same;
           no_longer =
               omega (
                 arith,

@@ -1,14 +1,13 @@
 -- What `access`, `policy` and `exposure` show of a process is found by the reduced search.
 use Rattle.std.proofs.Common.{Option}
-use Rattle.pv_model.specs.Bytes.{Bytes}
-use Rattle.pv_model.specs.State.{Program}
+use Rattle.pv_model.specs.Machine.{Bytes, Program}
 use Rattle.pv_laws_states.specs.States.{EncodesPrograms}
 use Rattle.pv_laws_classes.specs.Shown.{EachProcessIsSeen, BothSeeTheSame, EachAccessIsListedReduced, ListedAccessesHappenReduced, ReducedAccessesAreSame}
 use Rattle.pv_laws_classes.proofs.RenumberedShown.{identified-shown}
-use Rattle.pv_laws_classes.proofs.Seen.{each-seen, both-see}
+use Rattle.pv_laws_classes.proofs.SeenProcesses.{each-seen, both-see}
 use Rattle.pv_laws_classes.proofs.SeenAccesses.{access-listed, accesses-reduced, same-accesses_reduced}
 use Rattle.pv_laws_classes.proofs.SeenSchedules.{IsInvariant}
-use Rattle.pv_laws_classes.proofs.Sights.{dead-shown, others-shown}
+use Rattle.pv_laws_classes.proofs.LiveShown.{dead-shown, others-shown}
 
 invariant : (program_of : Bytes → Option Program) → EncodesPrograms program_of → IsInvariant program_of
 invariant program_of encodes = record {

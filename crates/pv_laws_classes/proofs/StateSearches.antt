@@ -1,24 +1,20 @@
 -- Searches that make each step of a live process, and identify the states of one class.
 use Rattle.std.proofs.Common.{◌≡◌, ◌≢◌, ◌∙◌, sym, ap, subst, ℕ, ◌≤◌, Bool, true, List, [], ◌∷◌, Option, None, Some, is_some, refl}
 use Rattle.std.specs.List.{list_all}
-use Rattle.pv_model.specs.Answers.Explore.{Found, Move, found_by, move, moves_of, move_text, has_ended, endings}
-use Rattle.pv_model.specs.Answers.Numbers.{same_state, tree_numbers}
-use Rattle.pv_model.specs.Bytes.{Bytes}
-use Rattle.pv_model.specs.Held.{live_processes, named_tree}
-use Rattle.pv_model.specs.State.{Program, Process, State, process_at}
-use Rattle.pv_model.specs.Step.{step, run, final_tree}
+use Rattle.pv_model.specs.Machine.{Found, Move, found_by, move, moves_of, move_text, has_ended, endings, same_state, tree_numbers, Bytes, live_processes, named_tree, Program, Process, State, process_at, step, run}
+use Rattle.pv_model.specs.Step.{final_tree}
 use Rattle.pv_laws_states.specs.States.{EncodesPrograms, IsValid}
-use Rattle.pv_laws_answers.specs.Search.{IsSearched, HasLeastWitness, step_text}
+use Rattle.pv_laws_answers.specs.Search.{IsSearchable, HasLeastWitness, text_of_step}
 use Rattle.pv_laws_answers.specs.Witnesses.{AreSteps}
-use Rattle.pv_laws_answers.proofs.Complete.{still}
-use Rattle.pv_laws_answers.proofs.Least.{steps-split}
+use Rattle.pv_laws_answers.proofs.CompleteSearches.{still}
+use Rattle.pv_laws_answers.proofs.LeastWitnesses.{steps-split}
 use Rattle.pv_laws_answers.proofs.Lists.{Among, among-map}
-use Rattle.pv_laws_answers.proofs.LiveOnes.{live-listed, moves-ascending}
-use Rattle.pv_laws_answers.proofs.Reading.{reported-apart}
-use Rattle.pv_laws_answers.proofs.Sound.{made-by}
-use Rattle.pv_laws_classes.proofs.Classes.{AreClasses, equal-states}
-use Rattle.pv_laws_classes.proofs.Searching.{is_known}
-use Rattle.pv_laws_classes.proofs.Visited.{IsSearch, IsReached, begins, AreMade, made-reached, reported, made_moves, found, least, all-found, text-reported, ending-found}
+use Rattle.pv_laws_answers.proofs.LiveProcesses.{live-listed, moves-ascending}
+use Rattle.pv_laws_answers.proofs.StateDecoding.{reported-apart}
+use Rattle.pv_laws_answers.proofs.SearchInvariant.{is_known}
+use Rattle.pv_laws_answers.proofs.SoundStates.{made-by}
+use Rattle.pv_laws_classes.proofs.ClassFunctions.{AreClasses, equal-states}
+use Rattle.pv_laws_classes.proofs.VisitedStates.{IsSearch, IsReached, begins, AreMade, made-reached, reported, made_moves, found, least, text-reported, ending-found}
 
 -- the class of a visited state, and the test whether two are of one class
 abbrev pub state_class : (State → State) → Found → State
@@ -62,7 +58,7 @@ module _ (program_of : Bytes → Option Program) where
   }
 
   -- the search of all states
-  pub full-search : (limit : ℕ) (s : State) → IsSearched program_of limit s → IsStateSearch (λ t. t) s
+  pub full-search : (limit : ℕ) (s : State) → IsSearchable program_of limit s → IsStateSearch (λ t. t) s
   full-search limit s it = state-search (λ t. t) it.encodes (equal-states program_of) s it.whole
 
   -- ---- schedules
@@ -99,21 +95,14 @@ module _ (class_of : State → State) {program_of : Bytes → Option Program} {s
       least it limit room m h (end program_of s pids) (move program_of (end program_of s pids) pid) (steps-reached program_of s pids parts.0) (own-move program_of (end program_of s pids) pid parts.1) text
 
   module _ (complete : list_all (λ m. is_known (same_class class_of) m (found it limit room)) (made_moves it limit room) ≡ true) where
-    -- every schedule ends in the class of a visited state
-    pub all-ends : (pids : List ℕ) → (g : Found) × Among g (found it limit room) × (class_of g.state ≡ class_of (run program_of pids s).final)
-    all-ends pids =
-        let live = only-live program_of pids s in
-        let there = all-found it limit room complete (end program_of s live.0) (steps-reached program_of s live.0 live.1) in
-        (there.0, there.1, there.2 ∙ ap class_of live.2)
-
     -- the text of each step is reported
-    pub text-there : (pids : List ℕ) (pid : ℕ) → is_some (process_at (run program_of pids s).final pid) ≡ true → step_text program_of (run program_of pids s).final pid ≢ []
-        → (m : Move) × Among m (reported it limit room) × (move_text m ≡ step_text program_of (run program_of pids s).final pid)
+    pub text-there : (pids : List ℕ) (pid : ℕ) → is_some (process_at (run program_of pids s).final pid) ≡ true → text_of_step program_of (run program_of pids s).final pid ≢ []
+        → (m : Move) × Among m (reported it limit room) × (move_text m ≡ text_of_step program_of (run program_of pids s).final pid)
     text-there pids pid lives text =
         let live = only-live program_of pids s in
-        subst (λ u. (m : Move) × Among m (reported it limit room) × (move_text m ≡ step_text program_of u pid)) live.2
+        subst (λ u. (m : Move) × Among m (reported it limit room) × (move_text m ≡ text_of_step program_of u pid)) live.2
         (text-reported it limit room complete (end program_of s live.0) (move program_of (end program_of s live.0) pid) (steps-reached program_of s live.0 live.1)
-        (own-move program_of (end program_of s live.0) pid (ap (λ u. is_some (process_at u pid)) live.2 ∙ lives)) (λ none. text (ap (λ u. step_text program_of u pid) (sym live.2) ∙ none)))
+        (own-move program_of (end program_of s live.0) pid (ap (λ u. is_some (process_at u pid)) live.2 ∙ lives)) (λ none. text (ap (λ u. text_of_step program_of u pid) (sym live.2) ∙ none)))
 
     -- the tree that is left by a schedule after which no process is live is counted
     pub ending-there : (pids : List ℕ) → has_ended (run program_of pids s).final ≡ true → Among (final_tree program_of pids s) (endings (found it limit room))

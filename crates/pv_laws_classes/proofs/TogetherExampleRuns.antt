@@ -2,30 +2,29 @@
 use Rattle.std.proofs.Common.{◌≡◌, ◌∙◌, sym, ap, refl, ℕ, ◌+◌, List, [], ◌∷◌, ◌++◌, replicate, arith}
 use Rattle.pv_model.specs.declared.outcome.Outcome.{Outcome}
 use Rattle.pv_model.specs.declared.outcome.Outcome.TheVariants.{Text}
-use Rattle.pv_model.specs.OnLiterals.{machine_on_literals}
-use Rattle.pv_model.specs.Step.{run}
+use Rattle.pv_model.specs.Machine.{machine_on_literals, run}
+use Rattle.pv_laws_states.specs.ExampleStates.{no_programs}
 use Rattle.pv_laws_steps.specs.Commuting.{Commute}
-use Rattle.pv_laws_steps.specs.CommuteExamples.{no_programs}
-use Rattle.pv_laws_classes.specs.Together.{NormalForm, count_of}
-use Rattle.pv_laws_classes.specs.TogetherExamples.{forked, by_turns, cut_short, LoopExamples, EndlessExamples, ready, bytes_read, ReadExamples}
-use Rattle.pv_laws_classes.proofs.Turns.{count-none, count-first}
+use Rattle.pv_laws_classes.specs.Together.{NormalForm, count_of_process}
+use Rattle.pv_laws_classes.specs.TogetherExamples.{counting_forked, by_turns, cut_short, LoopExamples, EndlessExamples, ready, ReturnsBytes, ReadExamples}
+use Rattle.pv_laws_classes.proofs.CombinedTurns.{count-none, count-first}
 
 -- ---- the number of steps of a process
 
 abbrev total : ℕ → List ℕ → ℕ
 total m [] = 0
-total m (pid ∷ pids) = count_of m (pid ∷ []) + total m pids
+total m (pid ∷ pids) = count_of_process m (pid ∷ []) + total m pids
 
-count-total : (m : ℕ) (pids : List ℕ) → count_of m pids ≡ total m pids
+count-total : (m : ℕ) (pids : List ℕ) → count_of_process m pids ≡ total m pids
 count-total m [] = count-none m
 count-total m (pid ∷ pids) = omega (arith, count-first m pid pids, count-total m pids)
 
-same-count : (m : ℕ) (one other : List ℕ) → total m one ≡ total m other → count_of m one ≡ count_of m other
+same-count : (m : ℕ) (one other : List ℕ) → total m one ≡ total m other → count_of_process m one ≡ count_of_process m other
 same-count m one other same = count-total m one ∙ same ∙ sym (count-total m other)
 
 -- ---- the runs
 
-by-turns : NormalForm no_programs forked by_turns
+by-turns : NormalForm no_programs counting_forked by_turns
 unfolding machine_on_literals
 by-turns = record {
   turns = (1, 5) ∷ (2, 5) ∷ [];
@@ -40,7 +39,7 @@ by-turns = record {
   final = refl;
 }
 
-cut-short : NormalForm no_programs forked cut_short
+cut-short : NormalForm no_programs counting_forked cut_short
 unfolding machine_on_literals
 cut-short = record {
   turns = (1, 5) ∷ [];
@@ -100,11 +99,11 @@ abbrev value_in : Outcome → ℕ
 value_in (Text t) = t.value
 value_in outcome = 0
 
-read-before : bytes_read 0 ready
+read-before : ReturnsBytes 0 ready
 unfolding machine_on_literals
 read-before = refl
 
-read-later : bytes_read 5 (run no_programs (2 ∷ []) ready).final
+read-later : ReturnsBytes 5 (run no_programs (2 ∷ []) ready).final
 unfolding machine_on_literals
 read-later = refl
 

@@ -1,10 +1,7 @@
 -- States that are equal up to some renumbering of open files, and the canonical form of a state.
 use Rattle.std.specs.Prelude.{◌≡◌, ◌↔◌, ℕ, suc, ◌-◌, ◌==◌, if◌then◌else◌, Bool, IsTrue, List, [], ◌∷◌, ◌++◌, map, length, replicate, Option, None}
 use Rattle.pv_model.specs.declared.limits.TheConstants.{OPEN_FILES}
-use Rattle.pv_model.specs.Answers.Numbers.{same_state}
-use Rattle.pv_model.specs.Held.{among}
-use Rattle.pv_model.specs.Numbered.{Numbered, at_number}
-use Rattle.pv_model.specs.State.{OpenFile, State}
+use Rattle.pv_model.specs.Machine.{same_state, among, Numbered, at_number, OpenFile, State}
 use Rattle.pv_laws_states.specs.Held.{used}
 use Rattle.pv_laws_states.specs.States.{IsValid}
 use Rattle.pv_laws_classes.specs.Renumbering.{renumbered_processes, Renumbered}

@@ -7,19 +7,17 @@ use Rattle.pv_model.specs.declared.instruction.Instruction.TheVariants.{Put, Jum
 use Rattle.pv_model.specs.declared.instruction.Operand.TheVariants.{Number}
 use Rattle.pv_model.specs.declared.open_flags.Mode.TheVariants.{Read as Reading, ReadWrite}
 use Rattle.pv_model.specs.declared.outcome.Outcome.TheVariants.{Text}
-use Rattle.pv_model.specs.Numbered.{at_number, without_number}
-use Rattle.pv_model.specs.State.{Program, State}
-use Rattle.pv_model.specs.Step.{step, run}
-use Rattle.pv_model.specs.Trace.{call_word, gio_word, ret_word, gave, value_of, Line, line}
-use Rattle.pv_laws_steps.specs.CommuteExamples.{no_programs, state_after, flags}
+use Rattle.pv_model.specs.Machine.{at_number, without_number, Program, State, step, run, call_word, gio_word, ret_word, gave, Line, line}
+use Rattle.pv_model.specs.Trace.{value_of}
+use Rattle.pv_laws_states.specs.ExampleStates.{no_programs, state_after, flags}
 use Rattle.pv_laws_classes.specs.Renumbering.{renumbered_processes, IsInUse, Renumbered}
 
 -- ---- a swap of two open files
 
 -- a process creates and opens a file and forks; then it opens the root and lists it, and the child opens the file and
 -- reads it
-abbrev pub opening : Program
-opening =
+abbrev pub opening_apart : Program
+opening_apart =
     Open (codes "/x") (flags ReadWrite true)
     ∷ Fork
     ∷ JumpIfZero 0 7
@@ -32,10 +30,10 @@ opening =
 
 -- the process opens before the child, and after it
 abbrev pub parent_first : State
-parent_first = state_after opening (1 ∷ 1 ∷ 1 ∷ 2 ∷ 1 ∷ 2 ∷ [])
+parent_first = state_after opening_apart (1 ∷ 1 ∷ 1 ∷ 2 ∷ 1 ∷ 2 ∷ [])
 
 abbrev pub child_first : State
-child_first = state_after opening (1 ∷ 1 ∷ 1 ∷ 2 ∷ 2 ∷ 1 ∷ [])
+child_first = state_after opening_apart (1 ∷ 1 ∷ 1 ∷ 2 ∷ 2 ∷ 1 ∷ [])
 
 -- the open files 1 and 2 are swapped
 abbrev pub swap : ℕ → ℕ
@@ -45,8 +43,8 @@ swap (suc (suc zero)) = 1
 swap (suc (suc (suc n))) = suc (suc (suc n))
 
 -- the listing and the read
-abbrev pub following : List ℕ
-following = 1 ∷ 2 ∷ []
+abbrev pub list_and_read : List ℕ
+list_and_read = 1 ∷ 2 ∷ []
 
 abbrev pub lines_of_following : List Line
 lines_of_following =
@@ -61,8 +59,8 @@ lines_of_following =
 pub record SwapExamples : Type 0 where
   pub different : at_number parent_first.files 1 ≢ at_number child_first.files 1
   pub renumbered : Renumbered swap parent_first child_first
-  pub lines_of_one : (run no_programs following parent_first).lines ≡ lines_of_following
-  pub lines_of_other : (run no_programs following child_first).lines ≡ lines_of_following
+  pub lines_of_one : (run no_programs list_and_read parent_first).lines ≡ lines_of_following
+  pub lines_of_other : (run no_programs list_and_read child_first).lines ≡ lines_of_following
 
 -- ---- two open files that become one
 
@@ -79,27 +77,27 @@ reading_twice =
     ∷ []
 
 -- before the reads: two open files at the start of the file
-abbrev pub two_files : State
-two_files = state_after reading_twice (1 ∷ 1 ∷ 1 ∷ 1 ∷ 1 ∷ [])
+abbrev pub two_open_files : State
+two_open_files = state_after reading_twice (1 ∷ 1 ∷ 1 ∷ 1 ∷ 1 ∷ [])
 
 abbrev pub to_first : ℕ → ℕ
 to_first n = 0
 
 -- the same state, but both descriptors share one open file
-abbrev pub one_file : State
-one_file = record two_files { files = without_number two_files.files 1; processes = renumbered_processes to_first two_files.processes }
+abbrev pub one_open_file : State
+one_open_file = record two_open_files { files = without_number two_open_files.files 1; processes = renumbered_processes to_first two_open_files.processes }
 
 pub record MergeExamples : Type 0 where
   -- the two states satisfy each clause of a renumbering other than injectivity
-  pub tree : one_file.tree ≡ two_files.tree
-  pub last_process : one_file.last_process ≡ two_files.last_process
-  pub processes : one_file.processes ≡ renumbered_processes to_first two_files.processes
-  pub files : (n : ℕ) → IsInUse two_files n → at_number one_file.files (to_first n) ≡ at_number two_files.files n
-  pub no_others : (m : ℕ) → IsInUse one_file m → (n : ℕ) × IsInUse two_files n × (to_first n ≡ m)
-  pub first : IsInUse two_files 0
-  pub second : IsInUse two_files 1
+  pub tree : one_open_file.tree ≡ two_open_files.tree
+  pub last_process : one_open_file.last_process ≡ two_open_files.last_process
+  pub processes : one_open_file.processes ≡ renumbered_processes to_first two_open_files.processes
+  pub files : (n : ℕ) → IsInUse two_open_files n → at_number one_open_file.files (to_first n) ≡ at_number two_open_files.files n
+  pub no_others : (m : ℕ) → IsInUse one_open_file m → (n : ℕ) × IsInUse two_open_files n × (to_first n ≡ m)
+  pub first : IsInUse two_open_files 0
+  pub second : IsInUse two_open_files 1
   -- the first read returns one byte in both; the second read is at the end of the file if the open file is shared
-  pub first_of_two : (step no_programs two_files 1).outcome ≡ Text (record { value = 1; len = 1 })
-  pub first_of_one : (step no_programs one_file 1).outcome ≡ Text (record { value = 1; len = 1 })
-  pub second_of_two : (step no_programs (step no_programs two_files 1).after 1).outcome ≡ Text (record { value = 1; len = 1 })
-  pub second_of_one : (step no_programs (step no_programs one_file 1).after 1).outcome ≡ Text (record { value = 0; len = 0 })
+  pub first_of_two : (step no_programs two_open_files 1).outcome ≡ Text (record { value = 1; len = 1 })
+  pub first_of_one : (step no_programs one_open_file 1).outcome ≡ Text (record { value = 1; len = 1 })
+  pub second_of_two : (step no_programs (step no_programs two_open_files 1).after 1).outcome ≡ Text (record { value = 1; len = 1 })
+  pub second_of_one : (step no_programs (step no_programs one_open_file 1).after 1).outcome ≡ Text (record { value = 0; len = 0 })

@@ -1,7 +1,6 @@
 pub mod Renumbering
 pub mod Examples
 pub mod Canonical
-pub mod Search
 pub mod ClassExamples
 pub mod Together
 pub mod TogetherExamples
@@ -11,3 +10,4 @@ pub mod Reduced
 pub mod ReducedAnswers
 pub mod Shown
 pub mod ReducedExamples
+pub use Rattle.pv_laws_steps.specs as OfLawsSteps

@@ -8,10 +8,8 @@ use Rattle.pv_model.specs.declared.instruction.Operand.TheVariants.{Number, Regi
 use Rattle.pv_model.specs.declared.instruction.Origin.{Origin}
 use Rattle.pv_model.specs.declared.instruction.Origin.TheVariants.{WorkingDirectory, Descriptor}
 use Rattle.pv_model.specs.declared.limits.TheConstants.{BUFFER}
-use Rattle.pv_model.specs.Bytes.{Bytes}
-use Rattle.pv_model.specs.State.{Program, Process, ProcessRecord, live, ended_record, State}
-use Rattle.pv_model.specs.Step.{Stepped, Run, step, run}
-use Rattle.pv_laws_states.specs.States.{is_program, IsValid}
+use Rattle.pv_model.specs.Machine.{Bytes, Program, Process, ProcessRecord, live, ended_record, State, Stepped, Run, step, run}
+use Rattle.pv_laws_states.specs.States.{is_program_in_bounds, IsValid}
 
 -- ---- variables
 
@@ -28,9 +26,9 @@ abbrev pub is_register : ℕ → Variable → Bool
 is_register r (register_variable q) = q == r
 is_register r (byte_variable k) = false
 
-abbrev pub is_byte : ℕ → Variable → Bool
-is_byte k (register_variable r) = false
-is_byte k (byte_variable j) = j == k
+abbrev pub is_byte_at : ℕ → Variable → Bool
+is_byte_at k (register_variable r) = false
+is_byte_at k (byte_variable j) = j == k
 
 abbrev pub is_byte_below : ℕ → Variable → Bool
 is_byte_below n (register_variable r) = false
@@ -51,56 +49,56 @@ origin_reads WorkingDirectory v = false
 origin_reads (Descriptor d) v = operand_reads d v
 
 -- the number of bytes that a write may read from the buffer: all if the count is in a register
-abbrev pub bytes_read : Operand → ℕ
-bytes_read (Number (pos n)) = n
-bytes_read (Number (negsuc n)) = 0
-bytes_read (Register r) = BUFFER
+abbrev pub bytes_taken : Operand → ℕ
+bytes_taken (Number (pos n)) = n
+bytes_taken (Number (negsuc n)) = 0
+bytes_taken (Register r) = BUFFER
 
 -- whether an instruction may read a variable
-abbrev pub reads : Instruction → Variable → Bool
-reads (Add r n) v = is_register r v
-reads (Peek r k) v = is_byte k v
-reads (JumpIfZero r line) v = is_register r v
-reads (JumpIfNotZero r line) v = is_register r v
-reads (JumpIfNegative r line) v = is_register r v
-reads (Exit code) v = operand_reads code v
-reads (Close d) v = operand_reads d v
-reads (Dup d) v = operand_reads d v
-reads (Fstat d) v = operand_reads d v
-reads (Getdents d) v = operand_reads d v
-reads (Fchdir d) v = operand_reads d v
-reads (Dup2 d e) v = operand_reads d v || operand_reads e v
-reads (Read d n) v = operand_reads d v || operand_reads n v
-reads (Write d n) v = operand_reads d v || operand_reads n v || is_byte_below (bytes_read n) v
-reads (Ftruncate d n) v = operand_reads d v || operand_reads n v
-reads (Lseek d by whence) v = operand_reads d v || operand_reads by v
-reads (OpenAt origin path flags) v = origin_reads origin v
-reads _ v = false
+abbrev pub reads_variable : Instruction → Variable → Bool
+reads_variable (Add r n) v = is_register r v
+reads_variable (Peek r k) v = is_byte_at k v
+reads_variable (JumpIfZero r line) v = is_register r v
+reads_variable (JumpIfNotZero r line) v = is_register r v
+reads_variable (JumpIfNegative r line) v = is_register r v
+reads_variable (Exit code) v = operand_reads code v
+reads_variable (Close d) v = operand_reads d v
+reads_variable (Dup d) v = operand_reads d v
+reads_variable (Fstat d) v = operand_reads d v
+reads_variable (Getdents d) v = operand_reads d v
+reads_variable (Fchdir d) v = operand_reads d v
+reads_variable (Dup2 d e) v = operand_reads d v || operand_reads e v
+reads_variable (Read d n) v = operand_reads d v || operand_reads n v
+reads_variable (Write d n) v = operand_reads d v || operand_reads n v || is_byte_below (bytes_taken n) v
+reads_variable (Ftruncate d n) v = operand_reads d v || operand_reads n v
+reads_variable (Lseek d by whence) v = operand_reads d v || operand_reads by v
+reads_variable (OpenAt origin path flags) v = origin_reads origin v
+reads_variable _ v = false
 
 -- whether an instruction sets a variable whenever the process continues after it; a call may return no bytes
-abbrev pub sets : Instruction → Variable → Bool
-sets (Set r n) v = is_register r v
-sets (Add r n) v = is_register r v
-sets (Put bytes) v = is_byte_below (length bytes) v
-sets (Peek r k) v = is_register r v
-sets (Jump line) v = false
-sets (JumpIfZero r line) v = false
-sets (JumpIfNotZero r line) v = false
-sets (JumpIfNegative r line) v = false
-sets _ v = is_result v
+abbrev pub sets_variable : Instruction → Variable → Bool
+sets_variable (Set r n) v = is_register r v
+sets_variable (Add r n) v = is_register r v
+sets_variable (Put bytes) v = is_byte_below (length bytes) v
+sets_variable (Peek r k) v = is_register r v
+sets_variable (Jump line) v = false
+sets_variable (JumpIfZero r line) v = false
+sets_variable (JumpIfNotZero r line) v = false
+sets_variable (JumpIfNegative r line) v = false
+sets_variable _ v = is_result v
 
-abbrev pub following : Program → ℕ → ℕ
-following program line = min (suc line) (suc (length program))
+abbrev pub line_after : Program → ℕ → ℕ
+line_after program line = min (suc line) (suc (length program))
 
 -- the lines where a program may continue after an instruction at a line. An execve continues at the first line of another
 -- program, with all variables set
 abbrev pub targets : Program → ℕ → Instruction → List ℕ
 targets program line (Jump target) = target ∷ []
-targets program line (JumpIfZero r target) = target ∷ following program line ∷ []
-targets program line (JumpIfNotZero r target) = target ∷ following program line ∷ []
-targets program line (JumpIfNegative r target) = target ∷ following program line ∷ []
+targets program line (JumpIfZero r target) = target ∷ line_after program line ∷ []
+targets program line (JumpIfNotZero r target) = target ∷ line_after program line ∷ []
+targets program line (JumpIfNegative r target) = target ∷ line_after program line ∷ []
 targets program line (Exit code) = []
-targets program line instruction = following program line ∷ []
+targets program line instruction = line_after program line ∷ []
 
 abbrev pub may_continue : Program → ℕ → Instruction → ℕ → Bool
 may_continue program line instruction next = list_any (λ target. target == next) (targets program line instruction)
@@ -113,15 +111,15 @@ Live = Program → ℕ → Variable → Type 0
 
 -- every variable that a line reads is live there, and every variable that is live at a next line is live unless it is
 -- set
-pub record IsClosed (is_live : Live) : Type 0 where
-  pub of_line : (program : Program) (line : ℕ) (i : Instruction) (v : Variable) → slice_get program (line - 1) ≡ Some i → IsTrue (reads i v) → is_live program line v
-  pub of_next : (program : Program) (line next : ℕ) (i : Instruction) (v : Variable) → slice_get program (line - 1) ≡ Some i → IsTrue (may_continue program line i next) → IsFalse (sets i v)
+pub record IsClosedTest (is_live : Live) : Type 0 where
+  pub of_line : (program : Program) (line : ℕ) (i : Instruction) (v : Variable) → slice_get program (line - 1) ≡ Some i → IsTrue (reads_variable i v) → is_live program line v
+  pub of_next : (program : Program) (line next : ℕ) (i : Instruction) (v : Variable) → slice_get program (line - 1) ≡ Some i → IsTrue (may_continue program line i next) → IsFalse (sets_variable i v)
       → is_live program next v → is_live program line v
 
 -- some path of the program from a line reads the variable before setting it
 pub data IsRead (program : Program) : ℕ → Variable → Type 0 where
-  here : (line : ℕ) (i : Instruction) (v : Variable) → slice_get program (line - 1) ≡ Some i → IsTrue (reads i v) → IsRead program line v
-  later : (line next : ℕ) (i : Instruction) (v : Variable) → slice_get program (line - 1) ≡ Some i → IsTrue (may_continue program line i next) → IsFalse (sets i v)
+  here : (line : ℕ) (i : Instruction) (v : Variable) → slice_get program (line - 1) ≡ Some i → IsTrue (reads_variable i v) → IsRead program line v
+  later : (line next : ℕ) (i : Instruction) (v : Variable) → slice_get program (line - 1) ≡ Some i → IsTrue (may_continue program line i next) → IsFalse (sets_variable i v)
       → IsRead program next v → IsRead program line v
 
 -- the variables that a test considers live
@@ -138,7 +136,7 @@ has_line table (suc k) = slice_index_or table k false
 module _ (program : Program) (v : Variable) where
   -- whether a line needs the variable, if a table has the lines that need it later
   abbrev pub is_needed : List Bool → ℕ → Instruction → Bool
-  is_needed table line i = reads i v || (not (sets i v) && list_any (has_line table) (targets program line i))
+  is_needed table line i = reads_variable i v || (not (sets_variable i v) && list_any (has_line table) (targets program line i))
 
   abbrev pub next_table : List Bool → ℕ → List Instruction → List Bool
   next_table table line [] = []
@@ -149,14 +147,14 @@ module _ (program : Program) (v : Variable) where
   rounds zero = map (λ i. false) program
   rounds (suc n) = next_table (rounds n) 1 program
 
--- whether a variable is live at a line: as many rounds as lines suffice
+-- whether a variable is live at a line: n rounds suffice for a program of n lines
 abbrev pub is_live_at : Program → ℕ → Variable → Bool
 is_live_at program line v = has_line (rounds program v (length program)) line
 
 -- the bytes that an instruction may read are below this number
 abbrev pub read_bound : Instruction → ℕ
 read_bound (Peek r k) = suc k
-read_bound (Write d n) = bytes_read n
+read_bound (Write d n) = bytes_taken n
 read_bound i = 0
 
 abbrev pub bound_if : (ℕ → Bool) → ℕ → ℕ
@@ -230,20 +228,20 @@ module _ (test : Program → ℕ → Variable → Bool) where
 
 -- the variables that some path reads before setting them are closed
 abbrev pub ReadIsClosed : Type 0
-ReadIsClosed = IsClosed IsRead
+ReadIsClosed = IsClosedTest IsRead
 
 -- a test that is closed accepts all of them
 abbrev pub ClosedTestsAcceptRead : Type 0
-ClosedTestsAcceptRead = (test : Program → ℕ → Variable → Bool) → IsClosed (by_test test) → (program : Program) (line : ℕ) (v : Variable) → IsRead program line v → IsTrue (test program line v)
+ClosedTestsAcceptRead = (test : Program → ℕ → Variable → Bool) → IsClosedTest (by_test test) → (program : Program) (line : ℕ) (v : Variable) → IsRead program line v → IsTrue (test program line v)
 
 -- both computed tests are closed
 abbrev pub ComputedIsClosed : Type 0
-ComputedIsClosed = IsClosed (by_test is_live_at) × IsClosed (by_test is_live_below)
+ComputedIsClosed = IsClosedTest (by_test is_live_at) × IsClosedTest (by_test is_live_below)
 
 -- the iteration is exact: in a valid program, its test accepts no other variables than those that some path reads before
 -- setting them
 abbrev pub ComputedIsRead : Type 0
-ComputedIsRead = (program : Program) → IsTrue (is_program program) → (line : ℕ) (v : Variable) → 1 ≤ line → IsTrue (is_live_at program line v) → IsRead program line v
+ComputedIsRead = (program : Program) → IsTrue (is_program_in_bounds program) → (line : ℕ) (v : Variable) → 1 ≤ line → IsTrue (is_live_at program line v) → IsRead program line v
 
 -- states that are equal but for dead variables form classes
 pub record AlikeButDeadIsEquivalence (is_live : Live) : Type 0 where
@@ -290,4 +288,4 @@ UnreadVariablesAlterNothing = StepsIgnoreDead IsRead × RunsIgnoreDead IsRead
 
 -- and if they are those that a closed test rejects
 abbrev pub RejectedVariablesAlterNothing : Type 0
-RejectedVariablesAlterNothing = (test : Program → ℕ → Variable → Bool) → IsClosed (by_test test) → StepsIgnoreDead (by_test test) × RunsIgnoreDead (by_test test)
+RejectedVariablesAlterNothing = (test : Program → ℕ → Variable → Bool) → IsClosedTest (by_test test) → StepsIgnoreDead (by_test test) × RunsIgnoreDead (by_test test)

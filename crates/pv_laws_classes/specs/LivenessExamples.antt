@@ -10,11 +10,10 @@ use Rattle.pv_model.specs.declared.limits.TheConstants.{BUFFER}
 use Rattle.pv_model.specs.declared.open_flags.Mode.TheVariants.{ReadWrite}
 use Rattle.pv_model.specs.declared.outcome.Cause.TheVariants.{Plain}
 use Rattle.pv_model.specs.declared.outcome.Outcome.TheVariants.{Value, Failed}
-use Rattle.pv_model.specs.Answer.{update}
-use Rattle.pv_model.specs.State.{Program, State, no_registers, no_bytes}
-use Rattle.pv_model.specs.Step.{step, run}
-use Rattle.pv_model.specs.Trace.{call_word, gio_word, ret_word, took, value_of, Line, line}
-use Rattle.pv_laws_steps.specs.CommuteExamples.{no_programs, state_after, flags}
+use Rattle.pv_model.specs.Machine.{update, Program, State, step, run, call_word, gio_word, ret_word, Line, line}
+use Rattle.pv_model.specs.State.{no_registers, no_bytes}
+use Rattle.pv_model.specs.Trace.{took, value_of}
+use Rattle.pv_laws_states.specs.ExampleStates.{no_programs, state_after, flags}
 use Rattle.pv_laws_classes.specs.Liveness.{register_variable, byte_variable, by_test, is_live_at, live_bytes, with_values, AlikeButDead}
 
 -- ---- a dead register and a dead byte
@@ -73,8 +72,8 @@ abbrev pub before_jump : State
 before_jump = state_after jumping (1 ∷ [])
 
 -- a write whose count is in a register
-abbrev pub counting : Program
-counting = Write (Number (pos 0)) (Register 2) ∷ []
+abbrev pub writing_by_register : Program
+writing_by_register = Write (Number (pos 0)) (Register 2) ∷ []
 
 pub record LiveExamples : Type 0 where
   -- the bytes that a write reads are live before it, and no others
@@ -88,6 +87,6 @@ pub record LiveExamples : Type 0 where
   pub first_closed : (step no_programs (step no_programs before_jump 1).after 1).outcome ≡ Value 0
   pub none_closed : (step no_programs (step no_programs (update before_jump 1 (with_values (slice_set no_registers 3 (pos 9)) no_bytes)) 1).after 1).outcome ≡ Failed EBADF Plain
   -- all bytes are live before a write whose count is in a register
-  pub last_byte_read : is_live_at counting 1 (byte_variable 4095) ≡ true
+  pub last_byte_read : is_live_at writing_by_register 1 (byte_variable 4095) ≡ true
   pub bound_of_three : live_bytes writing 2 ≡ 3
-  pub bound_of_all : live_bytes counting 1 ≡ BUFFER
+  pub bound_of_all : live_bytes writing_by_register 1 ≡ BUFFER

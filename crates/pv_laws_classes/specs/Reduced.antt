@@ -2,20 +2,17 @@
 -- after a step of a process on registers, the next step is of the same process. Its laws.
 use Rattle.std.specs.Prelude.{◌≡◌, ◌≢◌, ℕ, ◌≤◌, ◌==◌, Bool, ◌||◌, ◌&&◌, if◌then◌else◌, IsTrue, IsFalse, List, [], ◌∷◌, ◌++◌, length, flat_map, filter, bytes_eq, Contains, Option, is_some}
 use Rattle.std.specs.List.{AllByRecursion, list_any, list_all}
-use Rattle.pv_model.specs.Answers.Explore.{Found, Move, found_by, is_complete, move_text, reported_moves, states_found, has_ended, endings}
+use Rattle.pv_model.specs.Machine.{Found, Move, found_by, is_complete, move_text, states_found, has_ended, endings, same_state, Bytes, Program, State, process_at, step, run, Tree}
+use Rattle.pv_model.specs.Answers.Explore.{reported_moves}
 use Rattle.pv_model.specs.Answers.Explore
-use Rattle.pv_model.specs.Answers.Numbers.{same_state}
 use Rattle.pv_model.specs.Answers.Search
-use Rattle.pv_model.specs.Bytes.{Bytes}
-use Rattle.pv_model.specs.State.{Program, State, process_at}
-use Rattle.pv_model.specs.Step.{step, run, final_tree}
-use Rattle.pv_model.specs.Tree.{Tree}
+use Rattle.pv_model.specs.Step.{final_tree}
 use Rattle.pv_laws_states.specs.States.{EncodesPrograms, IsValid}
-use Rattle.pv_laws_answers.specs.Search.{IsSearched, step_text, reported, CanHappen, EndsIn}
-use Rattle.pv_laws_answers.specs.Witnesses.{AreSteps, IsWitness, IsBefore, EachToLater}
+use Rattle.pv_laws_answers.specs.Search.{IsSearchable, text_of_step, reported, CanHappen, EndsIn}
+use Rattle.pv_laws_answers.specs.Witnesses.{AreSteps, IsWitness, IsEarlierWitness, EachToLater}
 use Rattle.pv_laws_classes.specs.Canonical.{canonical}
 use Rattle.pv_laws_classes.specs.Liveness.{is_live_below, cleared}
-use Rattle.pv_laws_classes.specs.Together.{on_registers}
+use Rattle.pv_laws_classes.specs.Together.{is_step_on_registers}
 
 -- ---- classes of states
 
@@ -27,7 +24,7 @@ representative s = canonical (cleared is_live_below s)
 
 -- the process that must make the step after a step of a process, or 0 if each process may
 abbrev pub bound_by : State → ℕ → ℕ
-bound_by s pid = if on_registers s pid then pid else 0
+bound_by s pid = if is_step_on_registers s pid then pid else 0
 
 abbrev pub may_step : ℕ → ℕ → Bool
 may_step bound pid = bound == 0 || bound == pid
@@ -96,7 +93,7 @@ pub record EndsReduced (program_of : Bytes → Option Program) (s : State) (pids
 abbrev pub ReducedSchedulesReachEach : Type 0
 ReducedSchedulesReachEach =
     (program_of : Bytes → Option Program) (s : State) (pids : List ℕ) (pid : ℕ) → EncodesPrograms program_of → IsValid s → AreSteps program_of (pids ++ pid ∷ []) s
-    → IsFalse (on_registers (run program_of pids s).final pid) → EndsReduced program_of s pids pid
+    → IsFalse (is_step_on_registers (run program_of pids s).final pid) → EndsReduced program_of s pids pid
 
 -- a reduced schedule with the final state of a schedule
 pub record HasReducedForm (program_of : Bytes → Option Program) (s : State) (pids : List ℕ) : Type 0 where
@@ -122,25 +119,25 @@ pub record FoundReduced (program_of : Bytes → Option Program) (limit : ℕ) (s
   pub reached : AllByRecursion (λ f. IsWitness program_of s f.witness f.state) (reduced_found program_of s limit)
   pub are_reduced : AllByRecursion (λ f. AreReduced program_of f.witness s) (reduced_found program_of s limit)
   pub once : EachToLater (AreNotIdentified program_of s) (reduced_found program_of s limit)
-  pub in_order : EachToLater (λ f g. IsBefore f.witness g.witness) (reduced_found program_of s limit)
+  pub in_order : EachToLater (λ f g. IsEarlierWitness f.witness g.witness) (reduced_found program_of s limit)
   pub few : length (reduced_found program_of s limit) ≤ limit
 
 abbrev pub ReducedStatesAreReached : Type 0
-ReducedStatesAreReached = (program_of : Bytes → Option Program) (limit : ℕ) (s : State) → IsSearched program_of limit s → FoundReduced program_of limit s
+ReducedStatesAreReached = (program_of : Bytes → Option Program) (limit : ℕ) (s : State) → IsSearchable program_of limit s → FoundReduced program_of limit s
 
 -- ---- the reported steps
 
 -- if the search is complete, it reports the text of each step of a live process in each schedule
 abbrev pub EachTextIsReportedReduced : Type 0
 EachTextIsReportedReduced =
-    (program_of : Bytes → Option Program) (limit : ℕ) (s : State) (pids : List ℕ) (pid : ℕ) → IsSearched program_of limit s → IsTrue (is_reduced_complete program_of s limit)
-    → AreSteps program_of (pids ++ pid ∷ []) s → step_text program_of (run program_of pids s).final pid ≢ []
-    → IsTrue (list_any (λ m. bytes_eq (move_text m) (step_text program_of (run program_of pids s).final pid)) (reduced_reported program_of s limit))
+    (program_of : Bytes → Option Program) (limit : ℕ) (s : State) (pids : List ℕ) (pid : ℕ) → IsSearchable program_of limit s → IsTrue (is_reduced_complete program_of s limit)
+    → AreSteps program_of (pids ++ pid ∷ []) s → text_of_step program_of (run program_of pids s).final pid ≢ []
+    → IsTrue (list_any (λ m. bytes_eq (move_text m) (text_of_step program_of (run program_of pids s).final pid)) (reduced_reported program_of s limit))
 
 -- no schedule of live processes with the same text is shorter than the reported witness
 abbrev pub HasShortestWitness : (Bytes → Option Program) → State → Move → Type 0
 HasShortestWitness program_of s m =
-    (pids : List ℕ) (pid : ℕ) → AreSteps program_of (pids ++ pid ∷ []) s → step_text program_of (run program_of pids s).final pid ≡ move_text m
+    (pids : List ℕ) (pid : ℕ) → AreSteps program_of (pids ++ pid ∷ []) s → text_of_step program_of (run program_of pids s).final pid ≡ move_text m
     → length m.witness ≤ length (pids ++ pid ∷ [])
 
 -- the reported steps can happen, each text is reported once, the witnesses ascend, and each is a shortest one for its
@@ -148,11 +145,11 @@ HasShortestWitness program_of s m =
 pub record StepsReportedReduced (program_of : Bytes → Option Program) (limit : ℕ) (s : State) : Type 0 where
   pub happen : AllByRecursion (CanHappen program_of s) (reduced_reported program_of s limit)
   pub once : EachToLater (λ m n. move_text m ≢ move_text n) (reduced_reported program_of s limit)
-  pub in_order : EachToLater (λ m n. IsBefore m.witness n.witness) (reduced_reported program_of s limit)
+  pub in_order : EachToLater (λ m n. IsEarlierWitness m.witness n.witness) (reduced_reported program_of s limit)
   pub shortest : AllByRecursion (HasShortestWitness program_of s) (reduced_reported program_of s limit)
 
 abbrev pub ReducedWitnessesAreShortest : Type 0
-ReducedWitnessesAreShortest = (program_of : Bytes → Option Program) (limit : ℕ) (s : State) → IsSearched program_of limit s → StepsReportedReduced program_of limit s
+ReducedWitnessesAreShortest = (program_of : Bytes → Option Program) (limit : ℕ) (s : State) → IsSearchable program_of limit s → StepsReportedReduced program_of limit s
 
 -- ---- the endings
 
@@ -162,12 +159,12 @@ pub record EndingsReduced (program_of : Bytes → Option Program) (limit : ℕ) 
   pub once : EachToLater (λ t u. t ≢ u) (endings (reduced_found program_of s limit))
 
 abbrev pub ReducedEndingsHappen : Type 0
-ReducedEndingsHappen = (program_of : Bytes → Option Program) (limit : ℕ) (s : State) → IsSearched program_of limit s → EndingsReduced program_of limit s
+ReducedEndingsHappen = (program_of : Bytes → Option Program) (limit : ℕ) (s : State) → IsSearchable program_of limit s → EndingsReduced program_of limit s
 
 -- if the search is complete, each schedule that leaves no process live leaves one of them
 abbrev pub ReducedEndingsAreAll : Type 0
 ReducedEndingsAreAll =
-    (program_of : Bytes → Option Program) (limit : ℕ) (s : State) (pids : List ℕ) → IsSearched program_of limit s → IsTrue (is_reduced_complete program_of s limit)
+    (program_of : Bytes → Option Program) (limit : ℕ) (s : State) (pids : List ℕ) → IsSearchable program_of limit s → IsTrue (is_reduced_complete program_of s limit)
     → AreSteps program_of pids s → IsTrue (has_ended (run program_of pids s).final) → Contains (endings (reduced_found program_of s limit)) (final_tree program_of pids s)
 
 -- ---- both searches
@@ -188,7 +185,7 @@ pub record HaveSameTexts (ms ns : List Move) : Type 0 where
 -- if both searches are complete, whatever their limits, both report the same texts, with witnesses of the same lengths
 abbrev pub ReducedReportsAreSame : Type 0
 ReducedReportsAreSame =
-    (program_of : Bytes → Option Program) (limit other : ℕ) (s : State) → IsSearched program_of limit s → IsSearched program_of other s
+    (program_of : Bytes → Option Program) (limit other : ℕ) (s : State) → IsSearchable program_of limit s → IsSearchable program_of other s
     → IsTrue (is_complete program_of limit s) → IsTrue (is_reduced_complete program_of s other)
     → HaveSameTexts (reduced_reported program_of s other) (reported program_of limit s)
 
@@ -201,6 +198,6 @@ pub record HaveSameTrees (ts us : List Tree) : Type 0 where
 -- and both count the same endings
 abbrev pub ReducedEndingsAreSame : Type 0
 ReducedEndingsAreSame =
-    (program_of : Bytes → Option Program) (limit other : ℕ) (s : State) → IsSearched program_of limit s → IsSearched program_of other s
+    (program_of : Bytes → Option Program) (limit other : ℕ) (s : State) → IsSearchable program_of limit s → IsSearchable program_of other s
     → IsTrue (is_complete program_of limit s) → IsTrue (is_reduced_complete program_of s other)
     → HaveSameTrees (endings (reduced_found program_of s other)) (endings (states_found program_of limit s))

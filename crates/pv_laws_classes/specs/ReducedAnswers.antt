@@ -1,17 +1,14 @@
 -- The texts of `explore`, `access`, `exposure` and `policy` by the reduced search.
 use Rattle.std.specs.Prelude.{ℕ, Bool, if◌then◌else◌, List, [], ◌∷◌, ◌++◌, length, map, flat_map, filter, filter_map, codes, Option}
 use Rattle.std.specs.Fmt.{decimal}
-use Rattle.pv_model.specs.Answers.Access.{accesses, lines_of_accesses, file_read, is_unread, unread_line}
-use Rattle.pv_model.specs.Answers.Explore.{Found, completeness_text, endings, endings_line, move_lines}
+use Rattle.pv_model.specs.Machine.{accesses, lines_of_accesses, Found, endings, endings_line, node_brief, named_files, AnswerLine, answer_line, answer_line_bytes, counted_from, Observer, Observation, observed, first_observations, of_calls, groups, Request, Requests, Bytes, Program, State}
+use Rattle.pv_model.specs.Answers.Access.{file_read, is_unread, unread_line}
+use Rattle.pv_model.specs.Answers.Explore.{completeness_text, move_lines}
 use Rattle.pv_model.specs.Answers.Exposure
-use Rattle.pv_model.specs.Answers.Files.{node_brief, named_files}
-use Rattle.pv_model.specs.Answers.Lines.{AnswerLine, answer_line, answer_line_bytes, counted_from}
-use Rattle.pv_model.specs.Answers.Observed.{Observer, Observation, observed, observations_at, first_observations, observation_lines, of_calls, groups}
-use Rattle.pv_model.specs.Answers.Policy.{Request, Requests, request, promise_lines, target_lines, idle_promise_lines, idle_permission_lines, restricted}
+use Rattle.pv_model.specs.Answers.Observed.{observations_at, observation_lines}
+use Rattle.pv_model.specs.Answers.Policy.{granted_calls, request, promise_lines, target_lines, idle_promise_lines, idle_permission_lines, restricted}
 use Rattle.pv_model.specs.Answers.Policy
 use Rattle.pv_model.specs.Answers.ProgramNames.{program_line}
-use Rattle.pv_model.specs.Bytes.{Bytes}
-use Rattle.pv_model.specs.State.{Program, State}
 use Rattle.pv_laws_classes.specs.Reduced.{reduced_moves_of, reduced_found, reduced_reported, is_reduced_complete}
 
 -- ---- observations
@@ -78,10 +75,18 @@ module _ (program_of : Bytes → Option Program) (limit : ℕ) (s : State) where
       program_line program_of s.tree k first.item.process.program
       ∷ promise_lines rs ++ target_lines rs ++ if_no_other (idle_promise_lines rs ++ idle_permission_lines (restricted rs))
 
-  unfoldable pub reduced_policy_lines : List AnswerLine
-  reduced_policy_lines =
-      flat_map reduced_policy_of_program (counted_from 1 (groups Policy.program_key reduced_requests))
+  abbrev pub lines_of_reduced_requests : Requests → List AnswerLine
+  lines_of_reduced_requests rs =
+      flat_map reduced_policy_of_program (counted_from 1 (groups Policy.program_key rs))
       ++ classes_done_line ∷ []
+
+  -- the lines of all calls
+  unfoldable pub reduced_policy_lines : List AnswerLine
+  reduced_policy_lines = lines_of_reduced_requests reduced_requests
+
+  -- the lines of the granted calls alone
+  unfoldable pub reduced_granted_policy_lines : List AnswerLine
+  reduced_granted_policy_lines = lines_of_reduced_requests (granted_calls reduced_requests)
 
   -- ---- exposure
 

@@ -1,24 +1,25 @@
 -- Full and reduced searches of four states. The reduced search visits fewer states because of the numbers of open files, of
 -- dead registers, and of steps on registers; both report the same texts, but not always with the same witnesses.
-use Rattle.std.specs.Prelude.{◌≡◌, ℕ, IsTrue, List, [], ◌∷◌, ◌++◌, length, map, codes, pos}
-use Rattle.pv_model.specs.declared.instruction.Instruction.TheVariants.{Set, Fork, Mkdir}
-use Rattle.pv_model.specs.Answers.Explore.{Move, states_found, is_complete, move_text}
-use Rattle.pv_model.specs.State.{State}
+use Rattle.std.specs.Prelude.{◌≡◌, ℕ, false, IsTrue, List, [], ◌∷◌, ◌++◌, length, map, codes, pos}
+use Rattle.pv_model.specs.declared.instruction.Instruction.TheVariants.{Set, Fork, Open, Mkdir}
+use Rattle.pv_model.specs.declared.open_flags.Mode.TheVariants.{Read as Reading}
+use Rattle.pv_model.specs.Machine.{Move, states_found, is_complete, move_text, State}
+use Rattle.pv_laws_states.specs.ExampleStates.{no_programs, state_after, flags}
 use Rattle.pv_laws_answers.specs.Search.{reported}
-use Rattle.pv_laws_steps.specs.CommuteExamples.{no_programs, state_after}
 use Rattle.pv_laws_classes.specs.Reduced.{reduced_found, is_reduced_complete, reduced_reported}
-use Rattle.pv_laws_classes.specs.Search.{classes_found}
 
--- the full and the reduced search are complete, and report the same texts in the same order. The numbers of states that are
--- visited by the full search, by the search that only identifies states up to a renumbering of open files, and by the
--- reduced search
-pub record VisitedStates (s : State) (all classes reduced : ℕ) : Type 0 where
+-- the full and the reduced search are complete, and report the same texts in the same order. They visit these numbers of states
+pub record VisitedStates (s : State) (all reduced : ℕ) : Type 0 where
   pub complete : IsTrue (is_complete no_programs 30 s)
   pub reduced_complete : IsTrue (is_reduced_complete no_programs s 30)
   pub all_states : length (states_found no_programs 30 s) ≡ all
-  pub all_classes : length (classes_found no_programs 30 s) ≡ classes
   pub reduced_states : length (reduced_found no_programs s 30) ≡ reduced
   pub texts : map move_text (reduced_reported no_programs s 30) ≡ map move_text (reported no_programs 30 s)
+
+-- a process forks, and both processes open the root and exit. The states in which both processes have an open file, or one of
+-- them has exited after that, occur with two numberings of open files
+abbrev pub both_open : State
+both_open = state_after (Fork ∷ Open (codes "/") (flags Reading false) ∷ []) []
 
 -- a process forks, and both processes make the same directory. The result of the later one is an error, in a register that
 -- is dead; so the states after both orders differ in dead registers

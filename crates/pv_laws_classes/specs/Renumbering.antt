@@ -1,9 +1,6 @@
 -- States that are equal up to a renumbering of open files, and the steps and runs from them.
 use Rattle.std.specs.Prelude.{◌≡◌, ℕ, IsTrue, List, map, Option, option_map, is_some}
-use Rattle.pv_model.specs.Bytes.{Bytes}
-use Rattle.pv_model.specs.Numbered.{Numbered, at_number}
-use Rattle.pv_model.specs.State.{Descriptor, Program, Process, ProcessRecord, live, ended_record, State}
-use Rattle.pv_model.specs.Step.{Stepped, Run, step, run}
+use Rattle.pv_model.specs.Machine.{Bytes, Numbered, at_number, Descriptor, Program, Process, ProcessRecord, live, ended_record, State, Stepped, Run, step, run}
 use Rattle.pv_laws_states.specs.States.{IsValid}
 
 module _ (f : ℕ → ℕ) where

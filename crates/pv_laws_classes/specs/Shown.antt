@@ -3,22 +3,13 @@
 use Rattle.std.specs.Prelude.{◌≡◌, ◌≢◌, ℕ, ◌≤◌, IsTrue, List, [], ◌∷◌, ◌++◌, length, map, Contains, Option, option_map, is_some}
 use Rattle.std.specs.List.{AllByRecursion}
 use Rattle.pv_model.specs.declared.call.Call.{Call}
+use Rattle.pv_model.specs.declared.outcome.Outcome.{Outcome}
 use Rattle.pv_model.specs.declared.verdict.Why.{Why}
-use Rattle.pv_model.specs.Answers.Access.{Access, accesses, lines_of_accesses, reported_accesses, unread_files}
-use Rattle.pv_model.specs.Answers.Explore.{Found, states_found, is_complete}
-use Rattle.pv_model.specs.Answers.Lines.{AnswerLine, answer_line_bytes}
-use Rattle.pv_model.specs.Answers.Needs.{Asked}
-use Rattle.pv_model.specs.Answers.Observed.{Observation, of_calls}
-use Rattle.pv_model.specs.Answers.Policy.{Request, request}
-use Rattle.pv_model.specs.Bytes.{Bytes}
-use Rattle.pv_model.specs.Promises.{Promises}
-use Rattle.pv_model.specs.Sealed.{leaks}
-use Rattle.pv_model.specs.State.{Program, Process, State, process_at}
-use Rattle.pv_model.specs.Step.{Stepped, step, run}
-use Rattle.pv_model.specs.Tree.{Tree}
-use Rattle.pv_model.specs.Unveil.{Table}
-use Rattle.pv_laws_answers.specs.Accesses.{is_listed}
-use Rattle.pv_laws_answers.specs.Search.{IsSearched}
+use Rattle.pv_model.specs.Machine.{Access, accesses, lines_of_accesses, Found, states_found, is_complete, AnswerLine, answer_line_bytes, Asked, Observation, of_calls, Request, Bytes, Promises, leaks, Program, Process, State, process_at, Stepped, step, run, Tree, Table}
+use Rattle.pv_model.specs.Answers.Access.{reported_accesses, unread_files}
+use Rattle.pv_model.specs.Answers.Policy.{request}
+use Rattle.pv_laws_answers.specs.Accesses.{is_access_listed}
+use Rattle.pv_laws_answers.specs.Search.{IsSearchable}
 use Rattle.pv_laws_answers.specs.Witnesses.{AreSteps, EachToLater}
 use Rattle.pv_laws_classes.specs.Reduced.{may_step, bound_at, reduced_found, is_reduced_complete}
 use Rattle.pv_laws_classes.specs.ReducedAnswers.{reduced_accesses, reduced_unread_files}
@@ -56,22 +47,24 @@ shown_process s p = record { tree = s.tree; program = p.program; line = p.line; 
 
 -- what the three show of a process and its next step
 pub record Shown : Type 0 where
+  pub outcome : Outcome
   pub accesses : List Access
   pub access_lines : List AnswerLine
   pub calls : List ShownCall
   pub process : Option ShownProcess
 
 module _ (program_of : Bytes → Option Program) where
-  abbrev pub shown_of : State → ℕ → Stepped → Shown
-  shown_of s pid now = record {
+  abbrev pub shown_by_step : State → ℕ → Stepped → Shown
+  shown_by_step s pid now = record {
+    outcome = now.outcome;
     accesses = of_calls accesses s pid now;
     access_lines = of_calls lines_of_accesses s pid now;
     calls = map shown_call (of_calls (request program_of) s pid now);
     process = option_map (shown_process s) (process_at s pid);
   }
 
-  abbrev pub shown : State → ℕ → Shown
-  shown s pid = shown_of s pid (step program_of s pid)
+  abbrev pub shown_in : State → ℕ → Shown
+  shown_in s pid = shown_by_step s pid (step program_of s pid)
 
 -- ---- processes
 
@@ -82,20 +75,20 @@ pub record IsSeen (program_of : Bytes → Option Program) (limit : ℕ) (s : Sta
   pub within : Contains (reduced_found program_of s limit) visited
   pub lives : IsTrue (is_some (process_at visited.state pid))
   pub may : IsTrue (may_step (bound_at program_of s visited) pid)
-  pub same : shown program_of visited.state pid ≡ shown program_of (run program_of pids s).final pid
+  pub same : shown_in program_of visited.state pid ≡ shown_in program_of (run program_of pids s).final pid
   pub no_longer : length visited.witness ≤ length pids
 
 -- if the search is complete, there is one for each live process after each schedule
 abbrev pub EachProcessIsSeen : Type 0
 EachProcessIsSeen =
-    (program_of : Bytes → Option Program) (limit : ℕ) (s : State) (pids : List ℕ) (pid : ℕ) → IsSearched program_of limit s → IsTrue (is_reduced_complete program_of s limit)
+    (program_of : Bytes → Option Program) (limit : ℕ) (s : State) (pids : List ℕ) (pid : ℕ) → IsSearchable program_of limit s → IsTrue (is_reduced_complete program_of s limit)
     → AreSteps program_of pids s → IsTrue (is_some (process_at (run program_of pids s).final pid)) → IsSeen program_of limit s pids pid
 
 -- a state among these in which a process shows the same, with a witness that is no longer
 pub record IsSeenAmong (program_of : Bytes → Option Program) (found : List Found) (f : Found) (pid : ℕ) : Type 0 where
   pub visited : Found
   pub within : Contains found visited
-  pub same : shown program_of visited.state pid ≡ shown program_of f.state pid
+  pub same : shown_in program_of visited.state pid ≡ shown_in program_of f.state pid
   pub no_longer : length visited.witness ≤ length f.witness
 
 abbrev pub AreSeenAmong : (Bytes → Option Program) → List Found → List Found → Type 0
@@ -105,7 +98,7 @@ AreSeenAmong program_of found those = (f : Found) (pid : ℕ) → Contains those
 -- the other visits
 abbrev pub BothSeeTheSame : Type 0
 BothSeeTheSame =
-    (program_of : Bytes → Option Program) (limit other : ℕ) (s : State) → IsSearched program_of limit s → IsSearched program_of other s
+    (program_of : Bytes → Option Program) (limit other : ℕ) (s : State) → IsSearchable program_of limit s → IsSearchable program_of other s
     → IsTrue (is_complete program_of limit s) → IsTrue (is_reduced_complete program_of s other)
     → AreSeenAmong program_of (reduced_found program_of s other) (states_found program_of limit s) × AreSeenAmong program_of (states_found program_of limit s) (reduced_found program_of s other)
 
@@ -118,9 +111,9 @@ access_lines_of program_of s pid = of_calls lines_of_accesses s pid (step progra
 -- if the search is complete, each access of each step of a live process in each schedule is listed
 abbrev pub EachAccessIsListedReduced : Type 0
 EachAccessIsListedReduced =
-    (program_of : Bytes → Option Program) (limit : ℕ) (s : State) (pids : List ℕ) (pid : ℕ) → IsSearched program_of limit s → IsTrue (is_reduced_complete program_of s limit)
+    (program_of : Bytes → Option Program) (limit : ℕ) (s : State) (pids : List ℕ) (pid : ℕ) → IsSearchable program_of limit s → IsTrue (is_reduced_complete program_of s limit)
     → AreSteps program_of (pids ++ pid ∷ []) s
-    → AllByRecursion (λ access. IsTrue (is_listed access (reduced_accesses program_of limit s))) (access_lines_of program_of (run program_of pids s).final pid)
+    → AllByRecursion (λ access. IsTrue (is_access_listed access (reduced_accesses program_of limit s))) (access_lines_of program_of (run program_of pids s).final pid)
 
 -- an access is one of the last step of its witness, and no schedule of live processes with such an access is shorter
 pub record IsShortestAccess (program_of : Bytes → Option Program) (s : State) (o : Observation AnswerLine) : Type 0 where
@@ -137,7 +130,7 @@ pub record ListedAccessesReduced (program_of : Bytes → Option Program) (limit 
   pub once : EachToLater (λ o q. answer_line_bytes o.item ≢ answer_line_bytes q.item) (reduced_accesses program_of limit s)
 
 abbrev pub ListedAccessesHappenReduced : Type 0
-ListedAccessesHappenReduced = (program_of : Bytes → Option Program) (limit : ℕ) (s : State) → IsSearched program_of limit s → ListedAccessesReduced program_of limit s
+ListedAccessesHappenReduced = (program_of : Bytes → Option Program) (limit : ℕ) (s : State) → IsSearchable program_of limit s → ListedAccessesReduced program_of limit s
 
 -- an access with the same line and a witness of the same length
 pub record HasEqualAccess (os : List (Observation AnswerLine)) (o : Observation AnswerLine) : Type 0 where
@@ -156,6 +149,6 @@ pub record HaveSameAccesses (os qs : List (Observation AnswerLine)) : Type 0 whe
 -- and the same files as unread
 abbrev pub ReducedAccessesAreSame : Type 0
 ReducedAccessesAreSame =
-    (program_of : Bytes → Option Program) (limit other : ℕ) (s : State) → IsSearched program_of limit s → IsSearched program_of other s
+    (program_of : Bytes → Option Program) (limit other : ℕ) (s : State) → IsSearchable program_of limit s → IsSearchable program_of other s
     → IsTrue (is_complete program_of limit s) → IsTrue (is_reduced_complete program_of s other)
     → HaveSameAccesses (reduced_accesses program_of other s) (reported_accesses program_of limit s) × (reduced_unread_files program_of other s ≡ unread_files program_of limit s)

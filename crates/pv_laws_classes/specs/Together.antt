@@ -1,76 +1,71 @@
 -- Combined steps: the steps of a process on registers, together with its next other step.
 use Rattle.std.specs.Prelude.{◌≡◌, ◌≢◌, ◌↔◌, ℕ, zero, suc, ◌<◌, ◌≤◌, Bool, true, false, if◌then◌else◌, ◌==◌, IsTrue, IsFalse, List, [], ◌∷◌, ◌++◌, length, replicate, Option, None, Some, is_some}
 use Rattle.pv_model.specs.declared.outcome.Outcome.{Outcome}
-use Rattle.pv_model.specs.Answers.Explore.{has_ended}
-use Rattle.pv_model.specs.Bytes.{Bytes}
-use Rattle.pv_model.specs.Program.{Next, inside, calls_for, next}
-use Rattle.pv_model.specs.State.{Program, Process, State, process_at}
-use Rattle.pv_model.specs.Step.{Stepped, step, run}
-use Rattle.pv_model.specs.Trace.{Line, trace_bytes}
+use Rattle.pv_model.specs.Machine.{has_ended, Bytes, Next, inside, calls_for, next, Program, Process, State, process_at, Stepped, step, run, Line, trace_bytes}
 use Rattle.pv_laws_states.specs.States.{EncodesPrograms, IsValid}
-use Rattle.pv_laws_answers.specs.Search.{step_text}
+use Rattle.pv_laws_answers.specs.Search.{text_of_step}
 use Rattle.pv_laws_answers.specs.Witnesses.{AreSteps}
 
 -- ---- steps on registers
 
-abbrev pub is_inside : Next → Bool
-is_inside (inside q) = true
-is_inside (calls_for call) = false
+abbrev pub is_next_inside : Next → Bool
+is_next_inside (inside q) = true
+is_next_inside (calls_for call) = false
 
 abbrev pub is_inside_next : Option Process → Bool
 is_inside_next None = false
-is_inside_next (Some p) = is_inside (next p)
+is_inside_next (Some p) = is_next_inside (next p)
 
 -- whether the next step of a process is an instruction on registers
-abbrev pub on_registers : State → ℕ → Bool
-on_registers s pid = is_inside_next (process_at s pid)
+abbrev pub is_step_on_registers : State → ℕ → Bool
+is_step_on_registers s pid = is_inside_next (process_at s pid)
 
 -- a step has no lines if and only if it is on registers
 abbrev pub RegisterStepsAreSilent : Type 0
-RegisterStepsAreSilent = (program_of : Bytes → Option Program) (s : State) (pid : ℕ) → IsTrue (on_registers s pid) ↔ ((step program_of s pid).lines ≡ [])
+RegisterStepsAreSilent = (program_of : Bytes → Option Program) (s : State) (pid : ℕ) → IsTrue (is_step_on_registers s pid) ↔ ((step program_of s pid).lines ≡ [])
 
 -- a step that is not on registers: its process, outcome and lines
-pub record Reply : Type 0 where
+pub record StepResult : Type 0 where
   pub pid : ℕ
   pub outcome : Outcome
   pub lines : List Line
 
-abbrev pub reply : ℕ → Stepped → Reply
-reply pid now = record { pid = pid; outcome = now.outcome; lines = now.lines }
+abbrev pub step_result : ℕ → Stepped → StepResult
+step_result pid now = record { pid = pid; outcome = now.outcome; lines = now.lines }
 
 -- ---- schedules whose steps on registers are joined to other steps
 
 -- a turn: a process, with the number of its steps on registers before one step that is not
-abbrev pub Turn : Type 0
-Turn = ℕ × ℕ
+abbrev pub CombinedTurn : Type 0
+CombinedTurn = ℕ × ℕ
 
-abbrev pub steps_of_turns : List Turn → List ℕ
+abbrev pub steps_of_turns : List CombinedTurn → List ℕ
 steps_of_turns [] = []
 steps_of_turns (turn ∷ turns) = replicate (suc turn.1) turn.0 ++ steps_of_turns turns
 
 -- the number of steps of a process in a schedule
-unfoldable pub count_of : ℕ → List ℕ → ℕ
-count_of pid [] = 0
-count_of pid (other ∷ pids) = if other == pid then suc (count_of pid pids) else count_of pid pids
+unfoldable pub count_of_process : ℕ → List ℕ → ℕ
+count_of_process pid [] = 0
+count_of_process pid (other ∷ pids) = if other == pid then suc (count_of_process pid pids) else count_of_process pid pids
 
 module _ (program_of : Bytes → Option Program) where
   -- the steps of a schedule that are not on registers, in order
-  abbrev pub replies : List ℕ → State → List Reply
+  abbrev pub replies : List ℕ → State → List StepResult
   replies [] s = []
   replies (pid ∷ pids) s =
-      let now = step program_of s pid in if on_registers s pid then replies pids now.after else reply pid now ∷ replies pids now.after
+      let now = step program_of s pid in if is_step_on_registers s pid then replies pids now.after else step_result pid now ∷ replies pids now.after
 
   -- all steps are on registers
   abbrev pub AreOnRegisters : List ℕ → State → Type 0
   AreOnRegisters [] s = Unit {0}
-  AreOnRegisters (pid ∷ pids) s = IsTrue (on_registers s pid) × AreOnRegisters pids (step program_of s pid).after
+  AreOnRegisters (pid ∷ pids) s = IsTrue (is_step_on_registers s pid) × AreOnRegisters pids (step program_of s pid).after
 
   -- a number of steps of a live process on registers, and then one that is not
   abbrev pub IsTurn : ℕ → ℕ → State → Type 0
-  IsTurn pid zero s = IsTrue (is_some (process_at s pid)) × IsFalse (on_registers s pid)
-  IsTurn pid (suc count) s = IsTrue (on_registers s pid) × IsTurn pid count (step program_of s pid).after
+  IsTurn pid zero s = IsTrue (is_some (process_at s pid)) × IsFalse (is_step_on_registers s pid)
+  IsTurn pid (suc count) s = IsTrue (is_step_on_registers s pid) × IsTurn pid count (step program_of s pid).after
 
-  abbrev pub AreTurns : List Turn → State → Type 0
+  abbrev pub AreTurns : List CombinedTurn → State → Type 0
   AreTurns [] s = Unit {0}
   AreTurns (turn ∷ turns) s = IsTurn turn.0 turn.1 s × AreTurns turns (run program_of (replicate (suc turn.1) turn.0) s).final
 
@@ -78,13 +73,13 @@ module _ (program_of : Bytes → Option Program) where
 -- many steps as in the schedule. The steps that are not on registers have the same outcomes and lines in the same
 -- order, with and without the steps at the end
 pub record NormalForm (program_of : Bytes → Option Program) (s : State) (pids : List ℕ) : Type 0 where
-  pub turns : List Turn
+  pub turns : List CombinedTurn
   pub left : List ℕ
   pub joined : AreTurns program_of turns s
   pub at_end : AreOnRegisters program_of left (run program_of (steps_of_turns turns) s).final
   pub steps : AreSteps program_of (steps_of_turns turns ++ left) s
   pub count : length (steps_of_turns turns ++ left) ≡ length pids
-  pub each : (pid : ℕ) → count_of pid (steps_of_turns turns ++ left) ≡ count_of pid pids
+  pub each : (pid : ℕ) → count_of_process pid (steps_of_turns turns ++ left) ≡ count_of_process pid pids
   pub replies : replies program_of (steps_of_turns turns) s ≡ replies program_of pids s
   pub lines : (run program_of (steps_of_turns turns) s).lines ≡ (run program_of pids s).lines
   pub final : (run program_of (steps_of_turns turns ++ left) s).final ≡ (run program_of pids s).final
@@ -109,7 +104,7 @@ module _ (program_of : Bytes → Option Program) where
   abbrev pub together : ℕ → State → ℕ → Combined
   together zero s pid = record { count = 1; last = step program_of s pid }
   together (suc most) s pid =
-      if on_registers s pid then one_more (together most (step program_of s pid).after pid) else record { count = 1; last = step program_of s pid }
+      if is_step_on_registers s pid then one_more (together most (step program_of s pid).after pid) else record { count = 1; last = step program_of s pid }
 
   module _ (most : ℕ) where
     -- the steps of a schedule of combined steps
@@ -138,7 +133,7 @@ pub record IsCombined (program_of : Bytes → Option Program) (most : ℕ) (s : 
   pub bound : before ≤ most
   pub first : AreOnRegisters program_of (replicate before pid) s
   pub last : (together program_of most s pid).last ≡ step program_of (run program_of (replicate before pid) s).final pid
-  pub other : before < most → IsFalse (on_registers (run program_of (replicate before pid) s).final pid)
+  pub other : before < most → IsFalse (is_step_on_registers (run program_of (replicate before pid) s).final pid)
 
 abbrev pub CombinedStepsAreOfRegisters : Type 0
 CombinedStepsAreOfRegisters = (program_of : Bytes → Option Program) (most : ℕ) (s : State) (pid : ℕ) → IsCombined program_of most s pid
@@ -165,11 +160,11 @@ pub record EndsAlike (program_of : Bytes → Option Program) (most : ℕ) (s : S
 abbrev pub CombinedStepsReachEach : Type 0
 CombinedStepsReachEach =
     (program_of : Bytes → Option Program) (most : ℕ) (s : State) (pids : List ℕ) (pid : ℕ) → EncodesPrograms program_of → IsValid s → AreSteps program_of (pids ++ pid ∷ []) s
-    → IsFalse (on_registers (run program_of pids s).final pid) → EndsAlike program_of most s pids pid
+    → IsFalse (is_step_on_registers (run program_of pids s).final pid) → EndsAlike program_of most s pids pid
 
 -- ---- schedules as combined steps
 
--- a schedule as combined steps, and steps on registers at the end. Each process makes as many steps as in the schedule.
+-- a schedule as combined steps, and steps on registers at the end. Each process makes the same number of steps as in the schedule.
 -- The steps that are not on registers have the same outcomes and lines in the same order, with and without the steps at
 -- the end
 pub record CombinedForm (program_of : Bytes → Option Program) (most : ℕ) (s : State) (pids : List ℕ) : Type 0 where
@@ -178,7 +173,7 @@ pub record CombinedForm (program_of : Bytes → Option Program) (most : ℕ) (s 
   pub live : AreCombined program_of most combined s
   pub at_end : AreOnRegisters program_of left (after_together program_of most combined s)
   pub count : length (steps_together program_of most combined s ++ left) ≡ length pids
-  pub each : (pid : ℕ) → count_of pid (steps_together program_of most combined s ++ left) ≡ count_of pid pids
+  pub each : (pid : ℕ) → count_of_process pid (steps_together program_of most combined s ++ left) ≡ count_of_process pid pids
   pub replies : replies program_of (steps_together program_of most combined s) s ≡ replies program_of pids s
   pub lines : (run program_of (steps_together program_of most combined s) s).lines ≡ (run program_of pids s).lines
   pub final : (run program_of left (after_together program_of most combined s)).final ≡ (run program_of pids s).final
@@ -188,12 +183,13 @@ SchedulesHaveCombinedForms =
     (program_of : Bytes → Option Program) (most : ℕ) (s : State) (pids : List ℕ) → EncodesPrograms program_of → IsValid s → AreSteps program_of pids s
     → CombinedForm program_of most s pids
 
--- combined steps with the lines and the final state of a schedule, in which each process makes as many steps
+-- combined steps with the lines and the final state of a schedule, in which each process makes the same number
+-- of steps
 pub record EndsTogether (program_of : Bytes → Option Program) (most : ℕ) (s : State) (pids : List ℕ) : Type 0 where
   pub combined : List ℕ
   pub live : AreCombined program_of most combined s
   pub count : length (steps_together program_of most combined s) ≡ length pids
-  pub each : (pid : ℕ) → count_of pid (steps_together program_of most combined s) ≡ count_of pid pids
+  pub each : (pid : ℕ) → count_of_process pid (steps_together program_of most combined s) ≡ count_of_process pid pids
   pub lines : (run program_of (steps_together program_of most combined s) s).lines ≡ (run program_of pids s).lines
   pub final : after_together program_of most combined s ≡ (run program_of pids s).final
 
@@ -210,7 +206,7 @@ pub record HasSchedule (program_of : Bytes → Option Program) (s : State) (byte
   pub pids : List ℕ
   pub pid : ℕ
   pub steps : AreSteps program_of (pids ++ pid ∷ []) s
-  pub text : step_text program_of (run program_of pids s).final pid ≡ bytes
+  pub text : text_of_step program_of (run program_of pids s).final pid ≡ bytes
   pub count : length (pids ++ pid ∷ []) ≡ n
 
 -- combined steps of live processes, n steps in all, whose last one has this text

@@ -5,20 +5,19 @@ use Rattle.pv_model.specs.declared.instruction.Instruction.TheVariants.{Set, Add
 use Rattle.pv_model.specs.declared.instruction.Operand.TheVariants.{Number}
 use Rattle.pv_model.specs.declared.open_flags.Mode.TheVariants.{Write as Writing, ReadWrite}
 use Rattle.pv_model.specs.declared.outcome.Outcome.TheVariants.{Value, Text}
-use Rattle.pv_model.specs.State.{Program, State}
-use Rattle.pv_model.specs.Step.{step, run}
+use Rattle.pv_model.specs.Machine.{Program, State, step, run}
+use Rattle.pv_laws_states.specs.ExampleStates.{no_programs, state_after, flags}
 use Rattle.pv_laws_steps.specs.Commuting.{Commute}
-use Rattle.pv_laws_steps.specs.CommuteExamples.{no_programs, state_after, flags}
-use Rattle.pv_laws_classes.specs.Together.{reply, replies, NormalForm, together, steps_together, after_together}
+use Rattle.pv_laws_classes.specs.Together.{step_result, replies, NormalForm, together, steps_together, after_together}
 
 -- ---- two loops that end
 
 -- a process forks; then both processes count down from two on a register and call getpid
-abbrev pub counting : Program
-counting = Fork ∷ Set 1 (pos 2) ∷ Add 1 (negsuc 0) ∷ JumpIfNotZero 1 3 ∷ GetPid ∷ []
+abbrev pub counting_down : Program
+counting_down = Fork ∷ Set 1 (pos 2) ∷ Add 1 (negsuc 0) ∷ JumpIfNotZero 1 3 ∷ GetPid ∷ []
 
-abbrev pub forked : State
-forked = state_after counting (1 ∷ [])
+abbrev pub counting_forked : State
+counting_forked = state_after counting_down (1 ∷ [])
 
 -- a step of each process, six times
 abbrev pub by_turns : List ℕ
@@ -30,21 +29,21 @@ cut_short = 1 ∷ 2 ∷ 1 ∷ 2 ∷ 1 ∷ 2 ∷ 1 ∷ 2 ∷ 1 ∷ 2 ∷ 1 ∷ []
 
 pub record LoopExamples : Type 0 where
   -- all steps of one process are before those of the other
-  pub form : NormalForm no_programs forked by_turns
+  pub form : NormalForm no_programs counting_forked by_turns
   pub turns : form.turns ≡ (1, 5) ∷ (2, 5) ∷ []
   pub left : form.left ≡ []
   -- the child's steps are at the end, and six of the eleven steps reach the getpid
-  pub cut_form : NormalForm no_programs forked cut_short
+  pub cut_form : NormalForm no_programs counting_forked cut_short
   pub cut_turns : cut_form.turns ≡ (1, 5) ∷ []
   pub cut_left : cut_form.left ≡ replicate 5 2
-  pub cut_replies : replies no_programs cut_short forked ≡ reply 1 (together no_programs 5 forked 1).last ∷ []
+  pub cut_replies : replies no_programs cut_short counting_forked ≡ step_result 1 (together no_programs 5 counting_forked 1).last ∷ []
   -- the combined step of six steps; with a lesser bound it is two combined steps of three
-  pub whole : (together no_programs 5 forked 1).count ≡ 6
-  pub outcome : (together no_programs 5 forked 1).last.outcome ≡ Value 1
-  pub part : (together no_programs 2 forked 1).count ≡ 3
-  pub silent : (together no_programs 2 forked 1).last.lines ≡ []
-  pub two_parts : steps_together no_programs 2 (1 ∷ 1 ∷ []) forked ≡ replicate 6 1
-  pub final : after_together no_programs 2 (1 ∷ 1 ∷ []) forked ≡ after_together no_programs 5 (1 ∷ []) forked
+  pub whole : (together no_programs 5 counting_forked 1).count ≡ 6
+  pub outcome : (together no_programs 5 counting_forked 1).last.outcome ≡ Value 1
+  pub part : (together no_programs 2 counting_forked 1).count ≡ 3
+  pub silent : (together no_programs 2 counting_forked 1).last.lines ≡ []
+  pub two_parts : steps_together no_programs 2 (1 ∷ 1 ∷ []) counting_forked ≡ replicate 6 1
+  pub final : after_together no_programs 2 (1 ∷ 1 ∷ []) counting_forked ≡ after_together no_programs 5 (1 ∷ []) counting_forked
 
 -- ---- a loop that does not end
 
@@ -56,7 +55,7 @@ abbrev pub loops : State
 loops = state_after looping (1 ∷ [])
 
 pub record EndlessExamples : Type 0 where
-  -- a combined step in the loop has as many steps as the bound admits
+  -- a combined step in the loop has the greatest number of steps that the bound admits
   pub four : (together no_programs 3 loops 1).count ≡ 4
   pub six : (together no_programs 5 loops 1).count ≡ 6
   pub silent : (together no_programs 5 loops 1).last.lines ≡ []
@@ -85,15 +84,15 @@ two_reads =
 abbrev pub ready : State
 ready = state_after two_reads (1 ∷ 1 ∷ 1 ∷ 2 ∷ 2 ∷ [])
 
-abbrev pub bytes_read : ℕ → State → Type 0
-bytes_read n s = (step no_programs s 1).outcome ≡ Text (record { value = n; len = n })
+abbrev pub ReturnsBytes : ℕ → State → Type 0
+ReturnsBytes n s = (step no_programs s 1).outcome ≡ Text (record { value = n; len = n })
 
 pub record ReadExamples : Type 0 where
   -- the read and the write do not commute
-  pub before : bytes_read 0 ready
-  pub later : bytes_read 5 (run no_programs (2 ∷ []) ready).final
+  pub before : ReturnsBytes 0 ready
+  pub later : ReturnsBytes 5 (run no_programs (2 ∷ []) ready).final
   pub differ : ¬ Commute no_programs ready 1 2
   -- the second read returns four bytes if the write is between the reads, and none if the reads are made together
-  pub between : bytes_read 4 (run no_programs (1 ∷ 2 ∷ []) ready).final
-  pub not_before : bytes_read 0 (run no_programs (1 ∷ []) ready).final
-  pub not_later : bytes_read 0 (run no_programs (2 ∷ 1 ∷ []) ready).final
+  pub between : ReturnsBytes 4 (run no_programs (1 ∷ 2 ∷ []) ready).final
+  pub not_before : ReturnsBytes 0 (run no_programs (1 ∷ []) ready).final
+  pub not_later : ReturnsBytes 0 (run no_programs (2 ∷ 1 ∷ []) ready).final

@@ -17,7 +17,8 @@ pub fn canonical_is_unique()
     ensures { CanonicalIsUnique }
 {}
 
-/// The test of two classes decides this.
+/// The test whether two states are of one class succeeds if and only if they are equal up to a renumbering of open
+/// files.
 pub fn classes_are_distinguished()
     ensures { ClassesAreDistinguished }
 {}

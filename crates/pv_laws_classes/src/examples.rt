@@ -1,7 +1,7 @@
 //! Worked runs, by computation: a renumbering of open files, two open files that become one, and dead and live
 //! registers and bytes.
 
-ghost use Rattle.pv_laws_classes.specs.ClassExamples.{CanonicalExamples, SearchExamples, StateTextExamples};
+ghost use Rattle.pv_laws_classes.specs.ClassExamples.{CanonicalExamples, StateTextExamples};
 ghost use Rattle.pv_laws_classes.specs.Examples.{SwapExamples, MergeExamples};
 ghost use Rattle.pv_laws_classes.specs.LivenessExamples.{DeadExamples, LiveExamples};
 
@@ -22,14 +22,10 @@ pub fn canonical_forms_happen()
     ensures { CanonicalExamples }
 {}
 
-/// But their texts by `state` differ, since these have the numbers of open files.
+/// Two states that differ by a swap of two open files have different texts by `state`, which has the numbers of open
+/// files.
 pub fn state_texts_differ()
     ensures { StateTextExamples }
-{}
-
-/// A search that identifies states that are equal up to a renumbering of open files visits fewer states.
-pub fn class_searches_happen()
-    ensures { SearchExamples }
 {}
 
 /// Two states that differ in a dead register and a dead byte of the buffer have runs with equal lines.

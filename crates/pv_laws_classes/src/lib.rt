@@ -7,7 +7,6 @@
 //!
 //! - `renumbering`: the law for open files, for steps and for runs.
 //! - `canonical`: the equivalence, and the canonical form of a state.
-//! - `search`: the search that visits one state of each class, and what it has in common with the search of all states.
 //! - `liveness`: the law for dead registers and bytes, for steps and for runs, and tests that compute which are live.
 //! - `together`: the normal form of a schedule, and combined steps.
 //! - `reduced`: the search that identifies states in both ways and makes the steps of a process on registers directly before
@@ -25,7 +24,6 @@ pub mod liveness;
 pub mod reduced;
 pub mod reduced_examples;
 pub mod renumbering;
-pub mod search;
 pub mod shown;
 pub mod together;
 pub mod together_examples;

@@ -8,13 +8,14 @@ pub fn read_variables_are_closed()
     ensures { ReadIsClosed }
 {}
 
-/// Every test that satisfies these conditions accepts all of them.
+/// Every test that satisfies the conditions for live variables accepts all variables that some path of the program
+/// reads before setting them.
 pub fn closed_tests_accept_read_variables()
     ensures { ClosedTestsAcceptRead }
 {}
 
-/// The test that iterates over the lines of a program, as many times as there are lines, satisfies the conditions. So
-/// does the coarser test with the same registers and a bound of bytes for each line.
+/// The test that iterates n times over the lines of a program of n lines satisfies the conditions. The coarser test with
+/// the same registers and a bound of bytes for each line satisfies them too.
 pub fn computed_variables_are_closed()
     ensures { ComputedIsClosed }
 {}
@@ -42,7 +43,9 @@ pub fn unread_variables_alter_nothing()
     ensures { UnreadVariablesAlterNothing }
 {}
 
-/// The same holds for the variables that a test rejects, for every test that satisfies the conditions.
+/// For every test that satisfies the conditions for live variables, the variables that it rejects do not distinguish a
+/// state from a valid one: the steps have the same outcome and lines and lead to such states, and runs have the same
+/// lines.
 pub fn rejected_variables_alter_nothing()
     ensures { RejectedVariablesAlterNothing }
 {}

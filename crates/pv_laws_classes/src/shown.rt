@@ -8,7 +8,8 @@ pub fn each_process_is_seen()
     ensures { EachProcessIsSeen }
 {}
 
-/// If both searches are complete, each visits such a state for each live process of each state that the other visits.
+/// If the reduced and the full search are complete, each visits, for each live process of each state that the other
+/// visits, a state in which this process shows the same, with a witness that is no longer.
 pub fn both_see_the_same()
     ensures { BothSeeTheSame }
 {}
@@ -18,14 +19,14 @@ pub fn each_access_is_listed_reduced()
     ensures { EachAccessIsListedReduced }
 {}
 
-/// Each listed access is one of the last step of its witness, no schedule of live processes with such an access is shorter,
-/// and no two have the same line, whether the search is complete or not.
+/// Each access that `access --reduced` lists is one of the last step of its witness, no schedule of live processes with
+/// such an access is shorter, and no two have the same line, whether the search is complete or not.
 pub fn listed_accesses_happen_reduced()
     ensures { ListedAccessesHappenReduced }
 {}
 
-/// If both searches are complete, both list the same accesses, with witnesses of the same lengths, and the same files as
-/// unread.
+/// If the reduced and the full search are complete, both list the same accesses, with witnesses of the same lengths,
+/// and the same files as unread.
 pub fn reduced_accesses_are_same()
     ensures { ReducedAccessesAreSame }
 {}

@@ -7,11 +7,9 @@ pub fn register_steps_are_silent()
     ensures { RegisterStepsAreSilent }
 {}
 
-/// Every schedule of live processes has a normal form: the steps on registers of each process are directly before its
-/// next other step, and those that no other step of the process follows are at the end.
-///
-/// The normal form has as many steps and the same final state. Its other steps have the same outcomes and the same lines
-/// in the same order.
+/// Every schedule of live processes has a normal form of the same length with the same final state: the steps on
+/// registers of each process are directly before its next other step, or at the end if none follows. The other steps
+/// have the same outcomes and the same lines, in the same order.
 pub fn schedules_have_normal_forms()
     ensures { SchedulesHaveNormalForms }
 {}

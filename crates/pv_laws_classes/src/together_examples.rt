@@ -8,8 +8,8 @@ pub fn loops_happen()
     ensures { LoopExamples }
 {}
 
-/// In a loop on registers that does not end, a combined step has as many steps as its bound admits. A step of another
-/// process does not need them.
+/// In a loop on registers that does not end, a combined step has the greatest number of steps that its bound admits. A
+/// step of another process does not need them.
 pub fn endless_loops_happen()
     ensures { EndlessExamples }
 {}

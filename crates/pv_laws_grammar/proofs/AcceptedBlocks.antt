@@ -13,34 +13,24 @@ use Rattle.pv_model.specs.declared.fault.ScheduleFault.TheVariants.{Line as Turn
 use Rattle.pv_model.specs.declared.fault.What.TheVariants.{TooMany}
 use Rattle.pv_model.specs.declared.fault.What.{What}
 use Rattle.pv_model.specs.declared.instruction.Instruction.{Instruction}
-use Rattle.pv_model.specs.Answers.Lines.{spaced}
-use Rattle.pv_model.specs.Bytes.{Bytes, is_empty}
-use Rattle.pv_model.specs.Grammar.Arguments.{text_at, if_last}
+use Rattle.pv_model.specs.Machine.{spaced, Bytes, is_empty, text_at, instruction_of, decimal_of, Listed, is_manifest_path, path_of, entry_of, add_entry, add_entries, read_program, schedule_of_lines, EncodesText, ended, Entry, make, further_name, is_too_long, fits, Program, Schedule, Tree, root, find_entry, with_entry, file_node, components, Block, single, taken, blocks_from, LabelledLine, labelled_lines, labels_from, instruction_text, program_line_of, program_lines, taken_lines, instructions_of, reported_if, invalid_lines, program_faults, NumberedLine, NumberedWords, words_of, lines_that_count, last_word, written_lines}
+use Rattle.pv_model.specs.Grammar.Arguments.{if_last}
 use Rattle.pv_model.specs.Grammar.Entries.{EncodesEntry, of_program, Lists, at_end, at_schedule, entry}
-use Rattle.pv_model.specs.Grammar.Instructions.{instruction_of}
-use Rattle.pv_model.specs.Grammar.Lines.{decimal_of}
-use Rattle.pv_model.specs.Grammar.Manifests.{Listed, Taking, is_manifest_path, if_path, path_of, entry_of, container, source_of, if_room, with_source, entry_in, entry_at, add_entry, and_entries, add_entries}
-use Rattle.pv_model.specs.Grammar.Programs.{or_line, program_from, read_program}
-use Rattle.pv_model.specs.Grammar.Schedules.{turn_of, or_schedule_line, schedule_from, schedule_of_lines}
-use Rattle.pv_model.specs.Grammar.Encoding.{EncodesText}
-use Rattle.pv_model.specs.Grammar.Texts.{IsLine, ended}
-use Rattle.pv_model.specs.Manifest.{Entry, make, further_name}
-use Rattle.pv_model.specs.Room.{is_too_long, fits}
-use Rattle.pv_model.specs.State.{Program}
-use Rattle.pv_model.specs.Step.{Schedule}
-use Rattle.pv_model.specs.Tree.{Tree, root, find_entry, with_entry, file_node}
-use Rattle.pv_model.specs.Walk.{components}
+use Rattle.pv_model.specs.Grammar.Manifests.{Taking, if_path, container, source_of, if_room, with_source, entry_in, entry_at, and_entries}
+use Rattle.pv_model.specs.Grammar.Programs.{or_line, program_from}
+use Rattle.pv_model.specs.Grammar.Schedules.{turn_of, or_schedule_line, schedule_from}
+use Rattle.pv_model.specs.Grammar.Texts.{IsLine}
 use Rattle.pv_laws_grammar.proofs.Decimals.{Decimal-decimal_of, Decimal-encoded}
 use Rattle.pv_laws_grammar.proofs.EntryLines.{entry_found}
 use Rattle.pv_laws_grammar.proofs.EntryPaths.{IsEntryPath-from_test}
-use Rattle.pv_laws_grammar.proofs.OneWord.{mapped_found}
+use Rattle.pv_laws_grammar.proofs.SingleWords.{mapped_found}
 use Rattle.pv_laws_grammar.proofs.QuotedTexts.{reads_text}
 use Rattle.pv_laws_grammar.specs.Accepted.{IsRightInit}
-use Rattle.pv_model.specs.Source.Blocks.{Block, single, program, taken, cut_off, schedule, mark_of, lines_up_to, exec_by, exec_block, or_cut_off, blocks_at, blocks_from}
+use Rattle.pv_model.specs.Source.Blocks.{program, cut_off, schedule, mark_of, lines_up_to, exec_by, exec_block, or_cut_off, blocks_at}
 use Rattle.pv_model.specs.Source.Judged.{second_text, has_three_words, exec_path, executable, entry_of_block, is_init, invalid_turn, invalid_turns, faults_in, TreeSoFar, Judgement, made_or_reported, with_entry_of, number_of, judged_block, reported_of, faults_from}
-use Rattle.pv_model.specs.Source.Programs.{LabelledLine, label_of, after_label, labelled_words, or_exit, with_exit, labelled_lines, labels_from, number_of_label, is_jump, begins_with_letter, or_word, target_word, without_labels, instruction_text, ProgramLine, program_line_of, program_lines, taken_lines, instructions_of, is_set_in, and_label, count_instruction, is_invalid, reported_if, invalid_lines, program_faults}
-use Rattle.pv_model.specs.Source.Words.{NumberedLine, NumberedWords, words_of, is_alone, lines_that_count, last_word, with_last_word}
-use Rattle.pv_model.specs.Source.Written.{bytes_of_lines, written_lines}
+use Rattle.pv_model.specs.Source.Programs.{label_of, after_label, labelled_words, or_exit, with_exit, number_of_label, is_jump, begins_with_letter, or_word, target_word, without_labels, ProgramLine, is_set_in, and_label, count_instruction, is_invalid}
+use Rattle.pv_model.specs.Source.Words.{is_alone, with_last_word}
+use Rattle.pv_model.specs.Source.Written.{bytes_of_lines}
 use Rattle.pv_laws_grammar.proofs.WrittenLines.{AreLines, HaveLines, HaveWords, all-take, words_of-lines, spaced-line, last-line, with_last-lines, decimal-line, taken-lines, counting-lines, lines_again}
 
 -- ---- the blocks of a source

@@ -2,21 +2,13 @@
 use Rattle.std.proofs.Common.{◌≡◌, ◌∙◌, ap, ℕ, suc, Bool, true, false, cond, List, [], ◌∷◌, length, take, Option, None, Some, Ok, refl, sym, subst, inl, inr}
 use Rattle.std.specs.Prelude.{map, flat_map, codes}
 use Rattle.std.specs.Fmt.{decimal}
-use Rattle.pv_model.specs.Answers.Lines.{spaced}
-use Rattle.pv_model.specs.Bytes.{Bytes}
-use Rattle.pv_model.specs.Grammar.Entries.{EncodesManifest}
-use Rattle.pv_model.specs.Grammar.Lines.{lines_of}
-use Rattle.pv_model.specs.Grammar.Manifests.{Manifest, are_sizes, sizes_of, data_blocks, read_manifest, read_bundle}
-use Rattle.pv_model.specs.Grammar.Texts.{ended}
-use Rattle.pv_model.specs.Manifest.{empty_tree}
+use Rattle.pv_model.specs.Machine.{spaced, Bytes, EncodesManifest, lines_of, Manifest, sizes_of, data_blocks, read_manifest, read_bundle, ended, empty_tree, Block, single, blocks_of, faults_of_blocks, read_source, program_lines, instructions_of, NumberedWords, lines_that_count, written_lines, text_of_blocks}
+use Rattle.pv_model.specs.Grammar.Manifests.{are_sizes}
 use Rattle.pv_laws_grammar.proofs.EntryLines.{EncodesSizes-sizes_of}
-use Rattle.pv_laws_grammar.proofs.WholeManifests.{whole-EncodesManifest, are_sizes_found}
-use Rattle.pv_laws_grammar.specs.Accepted.{IsRight, IsAccepted, IsEnded}
-use Rattle.pv_model.specs.Source.Blocks.{Block, single, blocks_of}
-use Rattle.pv_model.specs.Source.Judged.{Judgement, image_so_far, judged_first, faults_from, faults_of_blocks, or_faults, read_source}
-use Rattle.pv_model.specs.Source.Programs.{program_lines, instructions_of}
-use Rattle.pv_model.specs.Source.Words.{NumberedWords, source_lines, lines_that_count, with_last_word}
-use Rattle.pv_model.specs.Source.Written.{written_lines, text_of_blocks}
+use Rattle.pv_laws_grammar.proofs.ManifestParsing.{whole-EncodesManifest, are_sizes_found}
+use Rattle.pv_laws_grammar.specs.Accepted.{IsRight, IsAcceptedText, HasLineEnds}
+use Rattle.pv_model.specs.Source.Judged.{Judgement, image_so_far, judged_first, faults_from, or_faults}
+use Rattle.pv_model.specs.Source.Words.{source_lines, with_last_word}
 use Rattle.pv_laws_grammar.proofs.AcceptedBlocks.{AreBlocks, no_block, by_itself, up_to_mark, so_many, unended, then_turns, blocks-are, reported_split, known, has_schedule, Listing, listing, program-lines}
 use Rattle.pv_laws_grammar.proofs.WrittenLines.{AreLines, HaveWords, all-append, spaced-line, with_last-lines, decimal-line, taken-lines, counting-lines, source-lines, lines_again}
 use Rattle.pv_model.specs.Grammar.Texts.{IsLine}
@@ -84,7 +76,7 @@ module _ (words : List Bytes) (image : (j : Judgement) × IsImage words j) (bloc
     right : IsRight whole
     right = record { tree = l.tree; made = l.made; init = l.init }
 
-  accepted-listing : (in_bundle : Bool) → Listing in_bundle 2 (empty_tree (data_blocks image.1.blocks image.1.inodes) image.1.inodes) (flat_map written_lines blocks) → IsAccepted (ended lines)
+  accepted-listing : (in_bundle : Bool) → Listing in_bundle 2 (empty_tree (data_blocks image.1.blocks image.1.inodes) image.1.inodes) (flat_map written_lines blocks) → IsAcceptedText (ended lines)
   unfolding read_manifest read_bundle
   accepted-listing true l = inl (record {
     manifest = whole true l;
@@ -95,7 +87,7 @@ module _ (words : List Bytes) (image : (j : Judgement) × IsImage words j) (bloc
   })
   accepted-listing false l = inr (record { manifest = whole false l; read = whole-EncodesManifest false (ended lines) (whole false l) (encoded false l); right = right false l })
 
-accepted-blocks : (last : ℕ) (blocks : List Block) → AreBlocks blocks → faults_of_blocks last blocks ≡ [] → IsAccepted (text_of_blocks blocks)
+accepted-blocks : (last : ℕ) (blocks : List Block) → AreBlocks blocks → faults_of_blocks last blocks ≡ [] → IsAcceptedText (text_of_blocks blocks)
 unfolding faults_of_blocks text_of_blocks
 accepted-blocks last _ no_block none = cc
 accepted-blocks last _ (by_itself n words blocks own later) none =
@@ -112,18 +104,18 @@ pub faults-parts : (blocks : List Block) (faults : List ℕ) (text : Bytes) → 
 faults-parts blocks [] text is = (refl, let same : text_of_blocks blocks ≡ text = cc in same)
 faults-parts blocks (n ∷ faults) text is = cc
 
-pub accepted : (source text : Bytes) → read_source source ≡ Ok text → IsAccepted text
+pub accepted : (source text : Bytes) → read_source source ≡ Ok text → IsAcceptedText text
 unfolding read_source blocks_of
 accepted source text is =
     let blocks = blocks_of source in
     let parts = faults-parts blocks (faults_of_blocks (suc (length (lines_of source))) blocks) text is in
-    subst IsAccepted parts.1 (accepted-blocks (suc (length (lines_of source))) blocks (blocks-are (source_lines source) 0 (source-lines 1 source)) parts.0)
+    subst IsAcceptedText parts.1 (accepted-blocks (suc (length (lines_of source))) blocks (blocks-are (source_lines source) 0 (source-lines 1 source)) parts.0)
 
 -- each line of the written text ends with an LF
-pub written-ended : (source text : Bytes) → read_source source ≡ Ok text → IsEnded text
+pub written-ended : (source text : Bytes) → read_source source ≡ Ok text → HasLineEnds text
 unfolding read_source blocks_of text_of_blocks
 written-ended source text is =
     let blocks = blocks_of source in
     let parts = faults-parts blocks (faults_of_blocks (suc (length (lines_of source))) blocks) text is in
     let are = block-lines blocks (blocks-are (source_lines source) 0 (source-lines 1 source)) in
-    subst IsEnded parts.1 (ap ended (sym (lines_again (flat_map written_lines blocks) are)))
+    subst HasLineEnds parts.1 (ap ended (sym (lines_again (flat_map written_lines blocks) are)))

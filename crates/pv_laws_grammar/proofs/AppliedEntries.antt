@@ -5,13 +5,10 @@ use Rattle.std.proofs.lemmas.Bool.{cond_both, cond-true, cond-false, or_parts, o
 use Rattle.std.proofs.lemmas.Option.{same_Some}
 use Rattle.pv_model.specs.declared.fault.ManifestFault.{ManifestFault}
 use Rattle.pv_model.specs.declared.fault.ManifestFault.TheVariants.{Parent, Exists, Source, Room}
-use Rattle.pv_model.specs.Bytes.{Bytes}
+use Rattle.pv_model.specs.Machine.{Bytes, Manifest, path_of, add_entry, add_entries, data_blocks, tree_of, Entry, make, further_name, empty_tree, manifest_tree, is_too_long, fits, Tree, root, is_directory_at, find_entry, with_entry, with_new_node, components}
 use Rattle.pv_model.specs.Grammar.Applied.{LeadsTo, at_last_name, down, NamesFile, MakesAt, IsPlaceOf, Makes, HasRoom, Applies, LacksSource, IsRefused, AppliesAll, IsFirstRefused}
-use Rattle.pv_model.specs.Grammar.Manifests.{Manifest, enter_directory, container, if_not_directory, under_container, source_of, if_room, with_source, entry_in, path_of, entry_at, add_entry, and_entries, add_entries, data_blocks, tree_of}
-use Rattle.pv_model.specs.Manifest.{Entry, make, further_name, empty_tree, or_none, descend, at_last, apply_entry, manifest_tree}
-use Rattle.pv_model.specs.Room.{is_too_long, fits}
-use Rattle.pv_model.specs.Tree.{Tree, root, is_directory_at, find_entry, with_entry, with_new_node}
-use Rattle.pv_model.specs.Walk.{components}
+use Rattle.pv_model.specs.Grammar.Manifests.{enter_directory, container, if_not_directory, under_container, source_of, if_room, with_source, entry_in, entry_at, and_entries}
+use Rattle.pv_model.specs.Manifest.{or_none, descend, at_last, apply_entry}
 
 -- ---- the place that names lead to
 

@@ -3,11 +3,11 @@ use Rattle.std.proofs.Common.{◌≡◌, ℕ, cond, ◌==◌, List, [], ◌∷�
 use Rattle.std.specs.Prelude.{option_map, option_and_then}
 use Rattle.std.proofs.lemmas.Bool.{cond_both}
 use Rattle.std.proofs.lemmas.Option.{same_Some}
-use Rattle.pv_model.specs.Bytes.{Bytes, is_empty}
-use Rattle.pv_model.specs.Grammar.Arguments.{Parsed, argument, if_last, no_argument, one_argument, and_one, two_arguments, and_two, three_arguments}
+use Rattle.pv_model.specs.Machine.{Bytes, is_empty, Parsed, one_argument, two_arguments}
+use Rattle.pv_model.specs.Grammar.Arguments.{argument, if_last, no_argument, and_one, and_two, three_arguments}
 use Rattle.pv_model.specs.Grammar.Forms.{Argument, Encodes, EncodesArguments, IsAfterWord}
-use Rattle.pv_laws_grammar.proofs.OneWord.{mapped_found}
-use Rattle.pv_laws_grammar.proofs.Reading.{Reads}
+use Rattle.pv_laws_grammar.proofs.SingleWords.{mapped_found}
+use Rattle.pv_laws_grammar.proofs.ParserCorrectness.{Reads}
 
 -- an argument after its space
 abbrev pub EncodedAfterSpace : {A : Type 0} → (A → Bytes → Type 0) → Bytes → A → Bytes → Type 0

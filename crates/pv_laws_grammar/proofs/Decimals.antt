@@ -5,8 +5,8 @@ use Rattle.std.proofs.lemmas.Fmt.{decimal_digit, decimal_step, decimal_by_steps}
 use Rattle.std.proofs.lemmas.List.Folds.{list_all-append}
 use Rattle.std.specs.Fmt.{decimal}
 use Rattle.std.specs.List.{list_all}
-use Rattle.pv_model.specs.Bytes.{Bytes, is_empty}
-use Rattle.pv_model.specs.Grammar.Lines.{is_digit, has_leading_zero, is_decimal, value_from, decimal_of}
+use Rattle.pv_model.specs.Machine.{Bytes, is_empty, decimal_of}
+use Rattle.pv_model.specs.Grammar.Lines.{is_digit, has_leading_zero, is_decimal, value_from}
 use Rattle.pv_model.specs.Grammar.Encoding.{Decimal, one_digit, one_more}
 use Rattle.pv_laws_grammar.proofs.FirstWord.{no_space}
 

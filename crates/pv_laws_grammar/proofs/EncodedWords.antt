@@ -4,12 +4,11 @@ use Rattle.std.specs.Prelude.{◌==◌, ◌&&◌, ◌||◌, ◌/◌, ◌%◌, no
 use Rattle.std.specs.List.{AllByRecursion, list_any}
 use Rattle.std.proofs.lemmas.Bool.{and_parts, eq-eqb, ne_eqb}
 use Rattle.std.proofs.lemmas.List.{append-nil}
-use Rattle.pv_model.specs.Answers.Lines.{spaced}
-use Rattle.pv_model.specs.Bytes.{Bytes, onto_first}
+use Rattle.pv_model.specs.Machine.{spaced, Bytes, onto_first, EncodesText, between, words_from, words_of}
 use Rattle.pv_model.specs.Grammar.Forms.{IsAfterWord}
-use Rattle.pv_model.specs.Grammar.Encoding.{Decimal, one_digit, one_more, EncodesBytes, nothing, plain, escaped, EncodesText}
+use Rattle.pv_model.specs.Grammar.Encoding.{Decimal, one_digit, one_more, EncodesBytes, nothing, plain, escaped}
 use Rattle.pv_model.specs.Trace.{hex_digit}
-use Rattle.pv_model.specs.Source.Words.{between, in_word, in_text, is_blank, begun, words_from, before_last, words_of}
+use Rattle.pv_model.specs.Source.Words.{in_word, in_text, is_blank, begun, before_last}
 use Rattle.pv_laws_grammar.proofs.WrittenLines.{all-append}
 
 -- ---- the bytes of lines contain blanks and marks only where allowed

@@ -7,20 +7,16 @@ use Rattle.std.proofs.lemmas.Bool.{cond_both, cond-true, and_parts, and_from, no
 use Rattle.std.proofs.lemmas.Option.{cond_some}
 use Rattle.std.proofs.lemmas.List.{length-take-le}
 use Rattle.std.proofs.lemmas.Slice.Eq.{bytes_eq-Decides}
-use Rattle.pv_model.specs.Bytes.{Bytes, is_empty}
-use Rattle.pv_model.specs.Grammar.Arguments.{word_at, text_at, one_argument, two_arguments}
+use Rattle.pv_model.specs.Machine.{Bytes, is_empty, word_at, text_at, one_argument, two_arguments, decimal_of, is_manifest_path, with_line_end, entry_of, sizes_of, EncodesText, ended, Entry, make, further_name, directory_node, file_node, link_node, is_link_text}
 use Rattle.pv_model.specs.Grammar.Entries.{EncodesEntry, of_directory, of_file, of_program, of_link, of_name, EncodesSizes}
-use Rattle.pv_model.specs.Grammar.Lines.{word_of, after_word, decimal_of}
-use Rattle.pv_model.specs.Grammar.Manifests.{is_manifest_path, Taking, directory_line, file_line, with_line_end, program_line, link_line, name_line, entry_by, entry_of, sizes_of}
-use Rattle.pv_model.specs.Grammar.Encoding.{Decimal, EncodesBytes, nothing, plain, escaped, EncodesText}
-use Rattle.pv_model.specs.Grammar.Texts.{ended}
-use Rattle.pv_model.specs.Manifest.{Entry, make, further_name}
-use Rattle.pv_model.specs.Tree.{directory_node, file_node, link_node, is_link_text}
+use Rattle.pv_model.specs.Grammar.Lines.{word_of, after_word}
+use Rattle.pv_model.specs.Grammar.Manifests.{Taking, directory_line, file_line, program_line, link_line, name_line, entry_by}
+use Rattle.pv_model.specs.Grammar.Encoding.{Decimal, EncodesBytes, nothing, plain, escaped}
 use Rattle.pv_laws_grammar.proofs.Decimals.{Decimal-decimal_of, decimal_of-Decimal, Decimal-decimal, Decimal-encoded, no_space-Decimal}
 use Rattle.pv_laws_grammar.proofs.EntryPaths.{IsEntryPath-from_test, is_manifest_path-IsEntryPath}
 use Rattle.pv_laws_grammar.proofs.FirstWord.{word_split}
 use Rattle.pv_laws_grammar.proofs.QuotedTexts.{reads_text}
-use Rattle.pv_laws_grammar.proofs.Reading.{Reads, ReadsWord, reads_word}
+use Rattle.pv_laws_grammar.proofs.ParserCorrectness.{Reads, ReadsWord, reads_word}
 use Rattle.pv_laws_grammar.proofs.WordLists.{one_word_found, one_word_again, two_words_found, two_words_again}
 
 reads_decimal : ReadsWord decimal_of Decimal

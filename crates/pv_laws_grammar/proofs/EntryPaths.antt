@@ -4,11 +4,8 @@ use Rattle.std.specs.Prelude.{IsTrue, codes, bytes_eq, nat_le}
 use Rattle.std.proofs.lemmas.Bool.{cond_both, and_parts, and_from, not-true, cond-false}
 use Rattle.std.specs.List.{AllByRecursion, list_all}
 use Rattle.pv_model.specs.declared.version.Version.TheVariants.{V1}
-use Rattle.pv_model.specs.Bytes.{Bytes, is_empty, onto_first}
+use Rattle.pv_model.specs.Machine.{Bytes, is_empty, onto_first, is_manifest_path, is_name_byte, is_name, split_slashes}
 use Rattle.pv_model.specs.Grammar.Entries.{path_of_names, IsEntryPath}
-use Rattle.pv_model.specs.Grammar.Manifests.{is_manifest_path}
-use Rattle.pv_model.specs.Tree.{is_name_byte, is_name}
-use Rattle.pv_model.specs.Walk.{split_slashes}
 
 -- joining the components between slashes gives the path back
 more_in_component : (b : ℕ) (bs : Bytes) (ps : List Bytes) → path_of_names ps ≡ 47 ∷ bs → path_of_names (onto_first b ps) ≡ 47 ∷ b ∷ bs

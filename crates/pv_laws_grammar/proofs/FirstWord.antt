@@ -3,7 +3,7 @@ use Rattle.std.proofs.Common.{◌≡◌, Bool, true, false, cond, not, ◌==◌,
 use Rattle.std.proofs.lemmas.Bool.{cond_both, and_parts, and_from, not-true}
 use Rattle.std.proofs.lemmas.List.Folds.{list_all-append}
 use Rattle.std.specs.List.{list_all}
-use Rattle.pv_model.specs.Bytes.{Bytes}
+use Rattle.pv_model.specs.Machine.{Bytes}
 use Rattle.pv_model.specs.Grammar.Lines.{word_of, after_word}
 use Rattle.pv_model.specs.Grammar.Forms.{IsAfterWord}
 

@@ -6,12 +6,12 @@ use Rattle.std.proofs.lemmas.Option.{same_Some, some_pair_parts}
 use Rattle.pv_model.specs.declared.open_flags.Mode.{Mode}
 use Rattle.pv_model.specs.declared.open_flags.Mode.TheVariants.{Read, Write, ReadWrite}
 use Rattle.pv_model.specs.declared.open_flags.OpenFlags.{OpenFlags}
-use Rattle.pv_model.specs.Bytes.{Bytes}
-use Rattle.pv_model.specs.Trace.{mode_text, flag_text, flags_text}
-use Rattle.pv_model.specs.Grammar.Arguments.{Parsed, without_front, flag_or_none, flag_at, mode_after_r, mode_at, if_nothing_left, flags_after, flags_of_mode, flags_of}
+use Rattle.pv_model.specs.Machine.{Bytes, mode_text, Parsed}
+use Rattle.pv_model.specs.Trace.{flag_text, flags_text}
+use Rattle.pv_model.specs.Grammar.Arguments.{without_front, flag_or_none, flag_at, mode_after_r, mode_at, if_nothing_left, flags_after, flags_of_mode, flags_of}
 use Rattle.pv_model.specs.Grammar.Encoding.{EncodesFlags}
 use Rattle.pv_laws_grammar.proofs.FirstWord.{no_space, no_space-append}
-use Rattle.pv_laws_grammar.proofs.Reading.{ReadsWord}
+use Rattle.pv_laws_grammar.proofs.ParserCorrectness.{ReadsWord}
 
 -- ---- one flag
 

@@ -15,18 +15,18 @@ use Rattle.pv_model.specs.declared.instruction.Origin.{Origin}
 use Rattle.pv_model.specs.declared.instruction.Origin.TheVariants.{WorkingDirectory}
 use Rattle.pv_model.specs.declared.open_flags.Mode.TheVariants.{Read as ForReading}
 use Rattle.pv_model.specs.declared.open_flags.OpenFlags.{OpenFlags}
-use Rattle.pv_model.specs.Bytes.{Bytes}
-use Rattle.pv_model.specs.Grammar.Arguments.{Parsed, text_at, text_or_null_at, operand_of, register_of, number_of, whence_of, origin_of, flags_of, operand_at, register_at, number_at, whence_at, origin_at, flags_at, no_argument, one_argument, two_arguments, three_arguments}
-use Rattle.pv_model.specs.Grammar.Instructions.{or_argument, buffer_place, line_within, or_target, jump_by, jump_if_by, peek_by, on_registers, on_processes, on_descriptors, on_paths, instruction_by, instruction_of}
+use Rattle.pv_model.specs.Machine.{Bytes, Parsed, text_at, one_argument, two_arguments, instruction_of}
+use Rattle.pv_model.specs.Grammar.Arguments.{text_or_null_at, operand_of, register_of, number_of, whence_of, origin_of, flags_of, operand_at, register_at, number_at, whence_at, origin_at, flags_at, no_argument, three_arguments}
+use Rattle.pv_model.specs.Grammar.Instructions.{or_argument, buffer_place, line_within, or_target, jump_by, jump_if_by, peek_by, on_registers, on_processes, on_descriptors, on_paths, instruction_by}
 use Rattle.pv_model.specs.Grammar.Lines.{word_of, after_word}
 use Rattle.pv_model.specs.Grammar.Forms.{Argument, operand, register, number, line, text, text_or_null, flags, whence, origin, Form, form_of, EncodesArguments, EncodesLine, IsAfterWord, BeginsWith, Jumping, always, if_zero, if_not_zero, if_negative, jump_form, IsLineOf, HasNoName, JumpsOut, IsInvalid}
 use Rattle.pv_model.specs.Grammar.Encoding.{EncodesOperand, EncodesRegister, EncodesNumber, EncodesWhence, EncodesOrigin, EncodesFlags}
 use Rattle.pv_laws_grammar.proofs.ArgumentLists.{ReadsAs, arguments_after, none_found, none_again, one_found, one_again, two_found, two_again, three_found, three_again}
 use Rattle.pv_laws_grammar.proofs.FirstWord.{no_space, word_split, after_word-ends, word_of-word, after_word-word}
 use Rattle.pv_laws_grammar.proofs.FlagWords.{reads_flags}
-use Rattle.pv_laws_grammar.proofs.OneWord.{reads_number, reads_register, reads_operand, reads_whence, reads_origin}
+use Rattle.pv_laws_grammar.proofs.SingleWords.{reads_number, reads_register, reads_operand, reads_whence, reads_origin}
 use Rattle.pv_laws_grammar.proofs.QuotedTexts.{reads_text, reads_text_or_null}
-use Rattle.pv_laws_grammar.proofs.Reading.{reads_word}
+use Rattle.pv_laws_grammar.proofs.ParserCorrectness.{reads_word}
 
 -- the parser of one kind of argument, in a program with a number of lines
 record Shape (lines : ℕ) (A : Type 0) : Type 0 where

@@ -4,9 +4,9 @@ use Rattle.std.specs.Prelude.{bytes_eq}
 use Rattle.std.specs.List.{AllByRecursion, cons_option}
 use Rattle.std.proofs.lemmas.Bool.{false_from_ne_true}
 use Rattle.std.proofs.lemmas.Slice.Eq.{bytes_eq-Decides}
-use Rattle.pv_model.specs.Bytes.{Bytes}
+use Rattle.pv_model.specs.Machine.{Bytes, LabelledLine, labels_from, instruction_text}
 use Rattle.pv_laws_grammar.specs.Labels.{instructions, IsSetAt, Denotes}
-use Rattle.pv_model.specs.Source.Programs.{LabelledLine, count_words, onto_labels, labels_from, number_of_label, instruction_text}
+use Rattle.pv_model.specs.Source.Programs.{count_words, onto_labels, number_of_label}
 
 one_or_none : (labels : List (Bytes × ℕ)) (words : List Bytes) (later : List Bytes) → length (cons_option (instruction_text labels words) later) ≡ count_words words + length later
 one_or_none labels [] later = omega arith

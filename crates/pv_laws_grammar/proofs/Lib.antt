@@ -1,10 +1,10 @@
 -- Lemmas about the text formats, from words to whole texts.
--- - Words: Reading, OneWord, FirstWord, Decimals, QuotedTexts, FlagWords, ShortestForm, WordLists.
+-- - Words: ParserCorrectness, SingleWords, FirstWord, Decimals, QuotedTexts, FlagWords, ShortestForm, WordLists.
 -- - Lines: ArgumentLists, InstructionLines, EntryLines, EntryPaths, TextLines.
--- - Whole texts: WholePrograms, WrittenPrograms, WholeSchedules, WholeManifests, AppliedEntries.
+-- - Whole texts: ProgramParsing, WrittenPrograms, ScheduleParsing, ManifestParsing, AppliedEntries.
 -- - Sources: LabelNumbers (labels), WrittenLines (written lines contain no LF), AcceptedBlocks and AcceptedSources (the
---   written text is accepted), EncodedWords (words of lines), AcceptedAgain (an accepted text denotes itself),
---   SameCode (sources with the same words).
+--   written text is accepted), EncodedWords (words of lines), AcceptedTexts (an accepted text denotes itself),
+--   EqualSources (sources with the same words).
 pub mod AppliedEntries
 pub mod ArgumentLists
 pub mod Decimals
@@ -13,20 +13,20 @@ pub mod EntryPaths
 pub mod FirstWord
 pub mod FlagWords
 pub mod InstructionLines
-pub mod OneWord
+pub mod SingleWords
 pub mod QuotedTexts
-pub mod Reading
+pub mod ParserCorrectness
 pub mod ShortestForm
 pub mod TextLines
-pub mod WholeManifests
-pub mod WholePrograms
-pub mod WholeSchedules
+pub mod ManifestParsing
+pub mod ProgramParsing
+pub mod ScheduleParsing
 pub mod WordLists
 pub mod WrittenPrograms
-pub mod AcceptedAgain
+pub mod AcceptedTexts
 pub mod AcceptedBlocks
 pub mod AcceptedSources
 pub mod LabelNumbers
 pub mod EncodedWords
 pub mod WrittenLines
-pub mod SameCode
+pub mod EqualSources

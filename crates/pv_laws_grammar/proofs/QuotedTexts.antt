@@ -3,13 +3,13 @@ use Rattle.std.proofs.Common.{◌≡◌, ◌≢◌, ℕ, ◌+◌, ◌-◌, ◌*�
 use Rattle.std.specs.Prelude.{codes}
 use Rattle.std.proofs.lemmas.Bool.{cond_both, and_parts, and_from, ne_eqb, eqb-false, cond-true, cond-false, ltb-false, ltb-true, lt-ltb, le-ltb, lt-leb, not-true}
 use Rattle.std.proofs.lemmas.Option.{cond_some, same_Some, some_pair_parts}
-use Rattle.pv_model.specs.Bytes.{Bytes}
-use Rattle.pv_model.specs.Trace.{hex_digit, hex_byte, is_plain}
-use Rattle.pv_model.specs.Grammar.Arguments.{Parsed, Escape, outside, after_backslash, after_x, after_digit, hex_value, onto_text, Onward, text_outside, first_digit, second_digit, text_step, text_rest, if_short, text_at, some_text, begins_text, null_of, word_at, text_or_null_at}
+use Rattle.pv_model.specs.Machine.{Bytes, hex_byte, is_plain, Parsed, text_at, word_at, EncodesText}
+use Rattle.pv_model.specs.Trace.{hex_digit}
+use Rattle.pv_model.specs.Grammar.Arguments.{Escape, outside, after_backslash, after_x, after_digit, hex_value, onto_text, Onward, text_outside, first_digit, second_digit, text_step, text_rest, if_short, some_text, begins_text, null_of, text_or_null_at}
 use Rattle.pv_model.specs.Grammar.Forms.{IsAfterWord}
-use Rattle.pv_model.specs.Grammar.Encoding.{EncodesBytes, nothing, plain, escaped, EncodesText, EncodesTextOrNull}
-use Rattle.pv_laws_grammar.proofs.OneWord.{EncodesNull, reads_null}
-use Rattle.pv_laws_grammar.proofs.Reading.{EncodedAt, Reads, reads_word}
+use Rattle.pv_model.specs.Grammar.Encoding.{EncodesBytes, nothing, plain, escaped, EncodesTextOrNull}
+use Rattle.pv_laws_grammar.proofs.SingleWords.{EncodesNull, reads_null}
+use Rattle.pv_laws_grammar.proofs.ParserCorrectness.{EncodedAt, Reads, reads_word}
 
 -- ---- hexadecimal digits
 

@@ -3,9 +3,8 @@ use Rattle.std.proofs.Common.{◌<◌, ◌≤◌, [], ◌∷◌, ◌++◌, lengt
 use Rattle.std.specs.Prelude.{flat_map, codes}
 use Rattle.std.proofs.lemmas.Bool.{cond_both}
 use Rattle.std.specs.List.{AllByRecursion}
-use Rattle.pv_model.specs.Bytes.{Bytes}
-use Rattle.pv_model.specs.Grammar.Encoding.{EncodesBytes, nothing, plain, escaped, EncodesText}
-use Rattle.pv_model.specs.Trace.{is_plain, hex_byte, quote_byte, quote}
+use Rattle.pv_model.specs.Machine.{Bytes, EncodesText, is_plain, hex_byte, quote_byte, quote}
+use Rattle.pv_model.specs.Grammar.Encoding.{EncodesBytes, nothing, plain, escaped}
 
 abbrev pub AreBytes : Bytes → Type 0
 AreBytes value = AllByRecursion (λ b. (0 < b) × (b < 256)) value

@@ -2,9 +2,8 @@
 use Rattle.std.proofs.Common.{◌≡◌, ◌≢◌, inl, inr, ℕ, ◌==◌, List, [], ◌∷◌, ◌++◌, ap, sym, ◌∙◌, refl, append_assoc, append-nil, eqb-true, ne_eqb}
 use Rattle.std.proofs.lemmas.Bool.{cond_both, eqb-false}
 use Rattle.std.specs.List.{AllByRecursion}
-use Rattle.pv_model.specs.Bytes.{Bytes, onto_first}
-use Rattle.pv_model.specs.Grammar.Lines.{lines_of}
-use Rattle.pv_model.specs.Grammar.Texts.{IsLine, ended, LacksLastEnd, HasLines}
+use Rattle.pv_model.specs.Machine.{Bytes, onto_first, lines_of, ended}
+use Rattle.pv_model.specs.Grammar.Texts.{IsLine, LacksLastEnd, HasLines}
 
 -- a line with its LF
 lines_of-line : (line rest : Bytes) → IsLine line → lines_of (line ++ 10 ∷ rest) ≡ line ∷ lines_of rest

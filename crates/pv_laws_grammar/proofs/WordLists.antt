@@ -1,11 +1,11 @@
 -- One or two words or quoted texts, each after a space, in lines that are not instructions.
 use Rattle.std.proofs.Common.{◌≡◌, [], ◌∷◌, ◌++◌, None, Some, ap, sym, ◌∙◌, refl, append-nil}
 use Rattle.std.specs.Prelude.{option_map}
-use Rattle.pv_model.specs.Bytes.{Bytes}
-use Rattle.pv_model.specs.Grammar.Arguments.{Parsed, argument, if_last, one_argument, and_one, two_arguments}
+use Rattle.pv_model.specs.Machine.{Bytes, Parsed, one_argument, two_arguments}
+use Rattle.pv_model.specs.Grammar.Arguments.{argument, if_last, and_one}
 use Rattle.pv_laws_grammar.proofs.ArgumentLists.{argument_found, if_last_found}
-use Rattle.pv_laws_grammar.proofs.OneWord.{mapped_found}
-use Rattle.pv_laws_grammar.proofs.Reading.{Reads}
+use Rattle.pv_laws_grammar.proofs.SingleWords.{mapped_found}
+use Rattle.pv_laws_grammar.proofs.ParserCorrectness.{Reads}
 
 module _ {A : Type 0} (at : Bytes → Parsed A) (S : A → Bytes → Type 0) (reads : Reads at S) where
   pub one_word_found : (bytes : Bytes) (a : A) → one_argument at bytes ≡ Some a → (word : Bytes) × S a word × (bytes ≡ 32 ∷ word)

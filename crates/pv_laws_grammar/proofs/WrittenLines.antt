@@ -3,12 +3,10 @@ use Rattle.std.proofs.Common.{◌≡◌, ◌≢◌, ℕ, zero, suc, ◌+◌, Boo
 use Rattle.std.specs.Prelude.{◌==◌, nat_lt, ◌/◌, ◌%◌, map, flat_map, codes, not, option_map, unwrap_or, IfSome}
 use Rattle.std.specs.Fmt.{decimal, digits, digits_onto, digit_glyph}
 use Rattle.std.specs.List.{AllByRecursion}
-use Rattle.pv_model.specs.Answers.Lines.{counted_from, spaced}
-use Rattle.pv_model.specs.Bytes.{Bytes, is_empty, onto_first}
-use Rattle.pv_model.specs.Grammar.Lines.{lines_of}
-use Rattle.pv_model.specs.Grammar.Texts.{IsLine, ended}
+use Rattle.pv_model.specs.Machine.{counted_from, spaced, Bytes, is_empty, onto_first, lines_of, ended, between, words_from, words_of, NumberedLine, NumberedWords, lines_that_count, last_word}
+use Rattle.pv_model.specs.Grammar.Texts.{IsLine}
 use Rattle.pv_laws_grammar.proofs.TextLines.{HasLines-lines_of, lines_from_relation}
-use Rattle.pv_model.specs.Source.Words.{Reading, between, in_word, in_text, is_blank, begun, after_byte_of_text, words_from, at_line_end, before_last, words_of, NumberedLine, NumberedWords, with_words, lines_that_count, last_word, with_last_word}
+use Rattle.pv_model.specs.Source.Words.{Reading, in_word, in_text, is_blank, begun, after_byte_of_text, at_line_end, before_last, with_words, with_last_word}
 
 abbrev pub AreLines : List Bytes → Type 0
 AreLines lines = AllByRecursion IsLine lines

@@ -16,14 +16,13 @@ use Rattle.pv_model.specs.declared.instruction.Origin.TheVariants.{WorkingDirect
 use Rattle.pv_model.specs.declared.open_flags.Mode.{Mode}
 use Rattle.pv_model.specs.declared.open_flags.Mode.TheVariants.{Read, Write, ReadWrite}
 use Rattle.pv_model.specs.declared.open_flags.OpenFlags.{OpenFlags}
-use Rattle.pv_model.specs.Bytes.{Bytes}
+use Rattle.pv_model.specs.Machine.{Bytes, ended, Program, is_plain, hex_byte, quote_byte, quote, mode_text}
 use Rattle.pv_model.specs.Grammar.Forms.{Argument, operand, register, number, line, place, text, text_or_null, flags, whence, origin, form_of, Encodes, EncodesArguments, EncodesLine}
 use Rattle.pv_model.specs.Grammar.Lines.{is_digit}
 use Rattle.pv_model.specs.Grammar.Encoding.{IsNumber, EncodesOperand, EncodesOrigin, EncodesTextOrNull}
-use Rattle.pv_model.specs.Grammar.Texts.{IsLine, ended, EncodeLines, EncodesProgram}
-use Rattle.pv_model.specs.State.{Program}
-use Rattle.pv_model.specs.Trace.{is_plain, hex_digit, hex_byte, quote_byte, quote, quote_or_null, mode_text, flag_text, flags_text, whence_text}
-use Rattle.pv_laws_grammar.specs.Written.{written_register, written_operand, written_origin, written, written_line, written_program, IsOperand, IsOrigin, IsTextOrNull, IsArgument, IsProgram}
+use Rattle.pv_model.specs.Grammar.Texts.{IsLine, EncodeLines, EncodesProgram}
+use Rattle.pv_model.specs.Trace.{hex_digit, quote_or_null, flag_text, flags_text, whence_text}
+use Rattle.pv_laws_grammar.specs.Written.{written_register, written_operand, written_origin, written_argument, written_line, written_program, IsOperand, IsOrigin, IsTextOrNull, IsArgument, IsProgram}
 use Rattle.pv_laws_grammar.proofs.Decimals.{Decimal-decimal, digits_all, digit_bounds}
 use Rattle.pv_laws_grammar.proofs.FlagWords.{after_mode, after_append, after_create, after_truncate, after_exclusive, after_no_follow, after_directory, flags_text-parts}
 use Rattle.pv_laws_grammar.proofs.ShortestForm.{EncodesText-quote}
@@ -42,7 +41,7 @@ encodes_text_or_null : (value : Option Bytes) → IsTextOrNull value → Encodes
 encodes_text_or_null None h = refl
 encodes_text_or_null (Some value) h = EncodesText-quote value h.0 h.1
 
-encodes_written : (lines : ℕ) → lines ≤ 256 → (a : Argument) → IsArgument lines a → Encodes lines a (written a)
+encodes_written : (lines : ℕ) → lines ≤ 256 → (a : Argument) → IsArgument lines a → Encodes lines a (written_argument a)
 encodes_written lines few (operand value) h = encodes_operand value h
 encodes_written lines few (register value) h = (h, refl)
 encodes_written lines few (number value) h = (h, refl)
@@ -54,12 +53,12 @@ encodes_written lines few (flags value) h = refl
 encodes_written lines few (whence value) h = refl
 encodes_written lines few (origin value) h = encodes_origin value h
 
-encodes_arguments : (lines : ℕ) → lines ≤ 256 → (arguments : List Argument) → AllByRecursion (IsArgument lines) arguments → EncodesArguments lines arguments (flat_map (λ a. 32 ∷ written a) arguments)
+encodes_arguments : (lines : ℕ) → lines ≤ 256 → (arguments : List Argument) → AllByRecursion (IsArgument lines) arguments → EncodesArguments lines arguments (flat_map (λ a. 32 ∷ written_argument a) arguments)
 encodes_arguments lines few [] h = refl
-encodes_arguments lines few (a ∷ others) h = (written a, flat_map (λ b. 32 ∷ written b) others, encodes_written lines few a h.0, encodes_arguments lines few others h.1, refl)
+encodes_arguments lines few (a ∷ others) h = (written_argument a, flat_map (λ b. 32 ∷ written_argument b) others, encodes_written lines few a h.0, encodes_arguments lines few others h.1, refl)
 
 encodes_line : (lines : ℕ) → lines ≤ 256 → (i : Instruction) → AllByRecursion (IsArgument lines) (form_of i).1 → EncodesLine lines (written_line i) i
-encodes_line lines few i h = (flat_map (λ a. 32 ∷ written a) (form_of i).1, encodes_arguments lines few (form_of i).1 h, refl)
+encodes_line lines few i h = (flat_map (λ a. 32 ∷ written_argument a) (form_of i).1, encodes_arguments lines few (form_of i).1 h, refl)
 
 encode_lines : (lines : ℕ) → lines ≤ 256 → (program : Program) → AllByRecursion (λ i. AllByRecursion (IsArgument lines) (form_of i).1) program → EncodeLines lines (map written_line program) program
 encode_lines lines few [] h = tt
@@ -154,7 +153,7 @@ clear_flags f =
     (clear_flag f.directory (codes "dir") (after_directory f) refl
     (clear_flag f.close_on_exec (codes "cloexec") [] refl refl)))))))
 
-clear_written : (lines : ℕ) → lines ≤ 256 → (a : Argument) → IsArgument lines a → clear (written a) ≡ true
+clear_written : (lines : ℕ) → lines ≤ 256 → (a : Argument) → IsArgument lines a → clear (written_argument a) ≡ true
 clear_written lines few (operand value) h = clear_operand value h
 clear_written lines few (register value) h = clear_register value h
 clear_written lines few (number value) h = clear_number value h
@@ -166,10 +165,10 @@ clear_written lines few (flags value) h = clear_flags value
 clear_written lines few (whence value) h = clear_whence value
 clear_written lines few (origin value) h = clear_origin value h
 
-clear_arguments : (lines : ℕ) → lines ≤ 256 → (arguments : List Argument) → AllByRecursion (IsArgument lines) arguments → clear (flat_map (λ a. 32 ∷ written a) arguments) ≡ true
+clear_arguments : (lines : ℕ) → lines ≤ 256 → (arguments : List Argument) → AllByRecursion (IsArgument lines) arguments → clear (flat_map (λ a. 32 ∷ written_argument a) arguments) ≡ true
 clear_arguments lines few [] h = refl
 clear_arguments lines few (a ∷ others) h =
-    clear-append (32 ∷ written a) (flat_map (λ b. 32 ∷ written b) others) (clear_byte 32 (written a) (omega arith) (clear_written lines few a h.0)) (clear_arguments lines few others h.1)
+    clear-append (32 ∷ written_argument a) (flat_map (λ b. 32 ∷ written_argument b) others) (clear_byte 32 (written_argument a) (omega arith) (clear_written lines few a h.0)) (clear_arguments lines few others h.1)
 
 clear_name : (i : Instruction) → clear (form_of i).0 ≡ true
 clear_name (Set r n) = refl
@@ -184,7 +183,7 @@ IsLine-clear (b ∷ bs) h =
 are_lines : (lines : ℕ) → lines ≤ 256 → (program : Program) → AllByRecursion (λ i. AllByRecursion (IsArgument lines) (form_of i).1) program → AllByRecursion IsLine (map written_line program)
 are_lines lines few [] h = tt
 are_lines lines few (i ∷ program) h = (
-  IsLine-clear (written_line i) (clear-append (form_of i).0 (flat_map (λ a. 32 ∷ written a) (form_of i).1) (clear_name i) (clear_arguments lines few (form_of i).1 h.0)),
+  IsLine-clear (written_line i) (clear-append (form_of i).0 (flat_map (λ a. 32 ∷ written_argument a) (form_of i).1) (clear_name i) (clear_arguments lines few (form_of i).1 h.0)),
   are_lines lines few program h.1,
 )
 

@@ -1,16 +1,7 @@
 -- The texts that the machine accepts: manifests and bundles.
 use Rattle.std.specs.Prelude.{◌≡◌, ◌⊎◌, true, codes, Ok}
 use Rattle.std.specs.List.{AllByRecursion}
-use Rattle.pv_model.specs.Bytes.{Bytes}
-use Rattle.pv_model.specs.Grammar.Lines.{lines_of}
-use Rattle.pv_model.specs.Grammar.Manifests.{Manifest, read_manifest, read_bundle, path_of, tree_of}
-use Rattle.pv_model.specs.Grammar.Programs.{read_program}
-use Rattle.pv_model.specs.Grammar.Schedules.{schedule_of_lines}
-use Rattle.pv_model.specs.Grammar.Texts.{ended}
-use Rattle.pv_model.specs.Manifest.{Entry, make}
-use Rattle.pv_model.specs.State.{Program}
-use Rattle.pv_model.specs.Step.{Schedule}
-use Rattle.pv_model.specs.Tree.{Tree, file_node}
+use Rattle.pv_model.specs.Machine.{Bytes, lines_of, Manifest, read_manifest, read_bundle, path_of, tree_of, read_program, schedule_of_lines, ended, Entry, make, Program, Schedule, Tree, file_node}
 
 -- an entry with the path `/init` is an executable file whose bytes are a program
 abbrev pub IsRightInit : Entry → Type 0
@@ -34,9 +25,9 @@ pub record IsManifest (text : Bytes) : Type 0 where
   pub read : read_manifest text ≡ Ok manifest
   pub right : IsRight manifest
 
-abbrev pub IsAccepted : Bytes → Type 0
-IsAccepted text = IsBundle text ⊎ IsManifest text
+abbrev pub IsAcceptedText : Bytes → Type 0
+IsAcceptedText text = IsBundle text ⊎ IsManifest text
 
 -- each line of a text ends with an LF
-abbrev pub IsEnded : Bytes → Type 0
-IsEnded text = text ≡ ended (lines_of text)
+abbrev pub HasLineEnds : Bytes → Type 0
+HasLineEnds text = text ≡ ended (lines_of text)

@@ -4,13 +4,9 @@ use Rattle.std.specs.Prelude.{◌≡◌, ◌≤◌, not, IsFalse, IsTrue, List, 
 use Rattle.std.specs.Fmt.{decimal}
 use Rattle.std.specs.List.{AllByRecursion, list_all}
 use Rattle.pv_model.specs.declared.limits.TheConstants.{PROGRAM_LINES}
-use Rattle.pv_model.specs.Answers.Lines.{counted_from}
-use Rattle.pv_model.specs.Bytes.{Bytes, is_empty}
-use Rattle.pv_model.specs.Grammar.Lines.{decimal_of, lines_of}
+use Rattle.pv_model.specs.Machine.{counted_from, Bytes, is_empty, decimal_of, lines_of, read_source, instructions_of, program_faults, program_lines, last_word, words_of}
 use Rattle.pv_model.specs.Source.Blocks.{mark_of}
-use Rattle.pv_model.specs.Source.Judged.{read_source}
-use Rattle.pv_model.specs.Source.Programs.{instructions_of, program_faults, program_lines}
-use Rattle.pv_model.specs.Source.Words.{is_alone, is_blank, last_word, words_of}
+use Rattle.pv_model.specs.Source.Words.{is_alone, is_blank}
 
 -- a line of blanks has no word, whether a comment follows them or not
 abbrev pub CommentsHaveNoWords : Type 0

@@ -1,8 +1,8 @@
 -- The number that a label denotes.
 use Rattle.std.specs.Prelude.{◌≡◌, ◌≢◌, ℕ, suc, List, ◌∷◌, ◌++◌, length, map, Some}
 use Rattle.std.specs.List.{AllByRecursion}
-use Rattle.pv_model.specs.Bytes.{Bytes}
-use Rattle.pv_model.specs.Source.Programs.{LabelledLine, labels_from, number_of_label, program_line_of, instructions_of}
+use Rattle.pv_model.specs.Machine.{Bytes, LabelledLine, labels_from, program_line_of, instructions_of}
+use Rattle.pv_model.specs.Source.Programs.{number_of_label}
 
 -- the instructions of lines, with labels replaced by numbers
 abbrev pub instructions : List (Bytes × ℕ) → List LabelledLine → List Bytes

@@ -8,12 +8,10 @@ use Rattle.pv_model.specs.declared.instruction.Operand.TheVariants.{Number, Regi
 use Rattle.pv_model.specs.declared.instruction.Origin.{Origin}
 use Rattle.pv_model.specs.declared.instruction.Origin.TheVariants.{WorkingDirectory, Descriptor}
 use Rattle.pv_model.specs.declared.limits.TheConstants.{BUFFER, REGISTERS, TEXT}
-use Rattle.pv_model.specs.Bytes.{Bytes}
+use Rattle.pv_model.specs.Machine.{Bytes, with_line_end, Program, quote}
 use Rattle.pv_model.specs.Grammar.Forms.{Argument, operand, register, number, line, place, text, text_or_null, flags, whence, origin, form_of}
-use Rattle.pv_model.specs.Grammar.Manifests.{with_line_end}
 use Rattle.pv_model.specs.Grammar.Encoding.{IsNumber}
-use Rattle.pv_model.specs.State.{Program}
-use Rattle.pv_model.specs.Trace.{quote, quote_or_null, flags_text, whence_text}
+use Rattle.pv_model.specs.Trace.{quote_or_null, flags_text, whence_text}
 
 abbrev pub written_register : ℕ → Bytes
 written_register r = codes "r" ++ decimal r
@@ -26,20 +24,20 @@ abbrev pub written_origin : Origin → Bytes
 written_origin WorkingDirectory = codes "cwd"
 written_origin (Descriptor d) = written_operand d
 
-abbrev pub written : Argument → Bytes
-written (operand value) = written_operand value
-written (register value) = written_register value
-written (number value) = signed_decimal value
-written (line value) = decimal value
-written (place value) = decimal value
-written (text value) = quote value
-written (text_or_null value) = quote_or_null value
-written (flags value) = flags_text value
-written (whence value) = whence_text value
-written (origin value) = written_origin value
+abbrev pub written_argument : Argument → Bytes
+written_argument (operand value) = written_operand value
+written_argument (register value) = written_register value
+written_argument (number value) = signed_decimal value
+written_argument (line value) = decimal value
+written_argument (place value) = decimal value
+written_argument (text value) = quote value
+written_argument (text_or_null value) = quote_or_null value
+written_argument (flags value) = flags_text value
+written_argument (whence value) = whence_text value
+written_argument (origin value) = written_origin value
 
 abbrev pub written_line : Instruction → Bytes
-written_line i = (form_of i).0 ++ flat_map (λ a. 32 ∷ written a) (form_of i).1
+written_line i = (form_of i).0 ++ flat_map (λ a. 32 ∷ written_argument a) (form_of i).1
 
 abbrev pub written_program : Program → Bytes
 written_program program = flat_map (λ i. with_line_end (written_line i)) program

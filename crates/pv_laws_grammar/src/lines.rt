@@ -2,10 +2,8 @@
 ghost use Rattle.std.specs.Prelude.{ℕ, List, Ok, Err, ◌≡◌, ◌↔◌};
 ghost use Rattle.pv_model.specs.declared.fault.What.{What};
 ghost use Rattle.pv_model.specs.declared.instruction.Instruction.{Instruction};
-ghost use Rattle.pv_model.specs.Bytes.{Bytes};
+ghost use Rattle.pv_model.specs.Machine.{Bytes, instruction_of, lines_of};
 ghost use Rattle.pv_model.specs.Grammar.Forms.{EncodesLine, IsInvalid};
-ghost use Rattle.pv_model.specs.Grammar.Instructions.{instruction_of};
-ghost use Rattle.pv_model.specs.Grammar.Lines.{lines_of};
 ghost use Rattle.pv_model.specs.Grammar.Texts.{HasLines};
 
 /// A text has exactly one list of lines: each ends with an LF, which may be missing after the last line.

@@ -2,12 +2,9 @@
 ghost use Rattle.std.specs.Prelude.{ℕ, true, false, map, Ok, Err, ◌≡◌, ◌↔◌, ◌⊎◌};
 ghost use Rattle.pv_model.specs.declared.fault.ManifestFault.{ManifestFault};
 ghost use Rattle.pv_model.specs.declared.fault.ManifestFault.TheVariants.{Form, Size};
-ghost use Rattle.pv_model.specs.Bytes.{Bytes};
+ghost use Rattle.pv_model.specs.Machine.{Bytes, EncodesManifest, Manifest, read_manifest, read_bundle, data_blocks, tree_of, empty_tree, manifest_tree, Tree};
 ghost use Rattle.pv_model.specs.Grammar.Applied.{AppliesAll, IsFirstRefused};
-ghost use Rattle.pv_model.specs.Grammar.Entries.{EncodesManifest, IsFirstWithoutForm, HasOtherSizes};
-ghost use Rattle.pv_model.specs.Grammar.Manifests.{Manifest, read_manifest, read_bundle, data_blocks, tree_of};
-ghost use Rattle.pv_model.specs.Manifest.{empty_tree, manifest_tree};
-ghost use Rattle.pv_model.specs.Tree.{Tree};
+ghost use Rattle.pv_model.specs.Grammar.Entries.{IsFirstWithoutForm, HasOtherSizes};
 
 /// Bytes parse as a manifest or as a bundle if and only if they encode it. The value of a bundle includes the lines
 /// after its line `schedule`.

@@ -2,10 +2,8 @@
 ghost use Rattle.std.specs.Prelude.{ℕ, Some, Err, ◌≡◌, ◌≢◌, ◌↔◌};
 ghost use Rattle.pv_model.specs.declared.fault.ParseFault.TheVariants.{Line, Memory};
 ghost use Rattle.pv_model.specs.declared.fault.What.{What};
-ghost use Rattle.pv_model.specs.Bytes.{Bytes};
-ghost use Rattle.pv_model.specs.Grammar.Programs.{program_of, read_program};
+ghost use Rattle.pv_model.specs.Machine.{Bytes, program_of, read_program, Program};
 ghost use Rattle.pv_model.specs.Grammar.Texts.{EncodesProgram, IsFirstInvalid};
-ghost use Rattle.pv_model.specs.State.{Program};
 ghost use Rattle.pv_laws_grammar.specs.Written.{IsProgram, written_program};
 
 /// Bytes parse as a program if and only if they encode it.

@@ -1,10 +1,8 @@
 //! Laws of schedules.
 ghost use Rattle.std.specs.Prelude.{ℕ, List, Ok, Err, ◌≡◌, ◌≢◌, ◌↔◌};
 ghost use Rattle.pv_model.specs.declared.fault.ScheduleFault.TheVariants.{Line, Memory};
-ghost use Rattle.pv_model.specs.Bytes.{Bytes};
-ghost use Rattle.pv_model.specs.Grammar.Schedules.{schedule_of_lines, read_schedule};
+ghost use Rattle.pv_model.specs.Machine.{Bytes, schedule_of_lines, read_schedule, Schedule};
 ghost use Rattle.pv_model.specs.Grammar.Texts.{EncodeSchedule, EncodesSchedule, IsFirstNoTurn};
-ghost use Rattle.pv_model.specs.Step.{Schedule};
 
 /// Bytes, or the lines after a bundle's manifest, parse as a schedule if and only if they encode it.
 pub fn schedule_is_read_as_it_is_encoded()

@@ -7,12 +7,10 @@ ghost use Rattle.pv_model.specs.declared.instruction.Operand.{Operand};
 ghost use Rattle.pv_model.specs.declared.instruction.Origin.{Origin};
 ghost use Rattle.pv_model.specs.declared.limits.TheConstants.{TEXT};
 ghost use Rattle.pv_model.specs.declared.open_flags.OpenFlags.{OpenFlags};
-ghost use Rattle.pv_model.specs.Bytes.{Bytes};
-ghost use Rattle.pv_model.specs.Grammar.Arguments.{number_of, register_of, operand_of, flags_of, whence_of, origin_of, text_at, text_or_null_at};
+ghost use Rattle.pv_model.specs.Machine.{Bytes, text_at, decimal_of, EncodesText, quote};
+ghost use Rattle.pv_model.specs.Grammar.Arguments.{number_of, register_of, operand_of, flags_of, whence_of, origin_of, text_or_null_at};
 ghost use Rattle.pv_model.specs.Grammar.Forms.{IsAfterWord};
-ghost use Rattle.pv_model.specs.Grammar.Lines.{decimal_of};
-ghost use Rattle.pv_model.specs.Grammar.Encoding.{Decimal, EncodesNumber, EncodesRegister, EncodesOperand, EncodesFlags, EncodesWhence, EncodesOrigin, EncodesText, EncodesTextOrNull};
-ghost use Rattle.pv_model.specs.Trace.{quote};
+ghost use Rattle.pv_model.specs.Grammar.Encoding.{Decimal, EncodesNumber, EncodesRegister, EncodesOperand, EncodesFlags, EncodesWhence, EncodesOrigin, EncodesTextOrNull};
 
 /// A word parses as a decimal number if and only if it encodes it. Below 2^64 the only such word is the one that is
 /// written for the number.

@@ -4,16 +4,11 @@ use Rattle.std.specs.List.{list_all}
 use Rattle.std.proofs.lemmas.Bool.{and_parts, and_from, le-leb}
 use Rattle.std.proofs.lemmas.List.Folds.{list_all-append}
 use Rattle.pv_model.specs.declared.version.Version.TheVariants.{V1}
-use Rattle.pv_model.specs.Bytes.{Bytes, is_empty, onto_first}
+use Rattle.pv_model.specs.Machine.{Bytes, is_empty, onto_first, is_manifest_path, with_line_end, Listed, EncodesText, ended, Entry, make, further_name, Node, link_node, entries_of, is_name, is_node, split_slashes, components}
 use Rattle.pv_model.specs.Grammar.Entries.{EncodesPath, EncodesEntry, of_directory, of_file, of_program, of_link, of_name, Lists, at_end, at_schedule, entry}
-use Rattle.pv_model.specs.Grammar.Manifests.{is_manifest_path, with_line_end, Listed}
-use Rattle.pv_model.specs.Grammar.Encoding.{EncodesText}
-use Rattle.pv_model.specs.Grammar.Texts.{HasLines, ended}
-use Rattle.pv_model.specs.Manifest.{Entry, make, further_name}
-use Rattle.pv_model.specs.Tree.{Node, link_node, entries_of, is_name, is_node}
-use Rattle.pv_model.specs.Walk.{split_slashes, components}
+use Rattle.pv_model.specs.Grammar.Texts.{HasLines}
 use Rattle.pv_laws_grammar.proofs.EntryPaths.{is_manifest_path-IsEntryPath}
-use Rattle.pv_laws_states.specs.States.{is_byte, are_bytes, is_text_byte, has_bytes}
+use Rattle.pv_laws_answers.specs.OfLawsStates.States.{is_byte, are_bytes, is_text_byte, has_bytes}
 use Rattle.pv_laws_trees.proofs.Entries.{list_all-filter}
 use Rattle.pv_laws_trees.proofs.Places.{list_all-weaker}
 use Rattle.pv_laws_trees.proofs.ImageBytes.{join-bytes, split-bytes}

@@ -6,14 +6,9 @@ use Rattle.std.proofs.lemmas.List.{length-append}
 use Rattle.std.proofs.lemmas.List.Folds.{list_any-append}
 use Rattle.std.proofs.lemmas.List.Sums.{sum_by-cons}
 use Rattle.pv_model.specs.declared.version.Version.{Version}
-use Rattle.pv_model.specs.Bytes.{Bytes}
-use Rattle.pv_model.specs.Held.{among}
-use Rattle.pv_model.specs.Image.{field, inode_blocks, used_index, used_content, used_blocks, IsImageOf}
-use Rattle.pv_model.specs.Numbered.{Numbered, at_number, present, numbered_from, numbered}
-use Rattle.pv_model.specs.Room.{node_length, need, greatest_length, fits, is_too_long}
-use Rattle.pv_model.specs.Tree.{Entries, Node, Tree, root, node_at, entries_of, names_in, named_numbers}
-use Rattle.pv_laws_states.specs.States.{are_bytes, IsFirstTree}
-use Rattle.pv_laws_trees.proofs.Held.{node-held}
+use Rattle.pv_model.specs.Machine.{Bytes, among, field, inode_blocks, used_index, used_content, used_blocks, IsImageOf, Numbered, at_number, present, numbered_from, numbered, node_length, need, greatest_length, fits, is_too_long, Entries, Node, Tree, root, node_at, entries_of, names_in, named_numbers}
+use Rattle.pv_laws_answers.specs.OfLawsStates.States.{are_bytes, IsFirstTree}
+use Rattle.pv_laws_trees.proofs.HeldNodes.{node-held}
 use Rattle.pv_laws_trees.proofs.Inodes.{need-used}
 use Rattle.pv_laws_trees.proofs.Ranges.{each_weaker, distinct-within}
 use Rattle.pv_laws_trees.proofs.ImageBytes.{node-bytes}

@@ -4,32 +4,24 @@ use Rattle.std.specs.Prelude.{codes}
 use Rattle.std.specs.List.{AllByRecursion, list_all}
 use Rattle.std.proofs.lemmas.Bool.{and_parts, cases_eq}
 use Rattle.pv_model.specs.declared.kernel_fault.BootFault.{BootFault}
-use Rattle.pv_model.specs.Bytes.{Bytes}
+use Rattle.pv_model.specs.Machine.{Bytes, Manifest, data_blocks, read_bundle, tree_of, read_program, Entry, make, further_name, empty_tree, fits, is_too_long, read_source, and_then, booted, bundle_started, started_on, Program, State, first_state, Entries, Node, directory_node, file_node, link_node, Tree, root, node_at, entries_at, is_directory, is_directory_at, find_entry, new_number, with_entry, with_new_node, with_node, components}
 use Rattle.pv_model.specs.Grammar.Applied.{LeadsTo, at_last_name, down, Applies, AppliesAll}
-use Rattle.pv_model.specs.Grammar.Manifests.{Manifest, data_blocks, read_bundle, tree_of}
-use Rattle.pv_model.specs.Grammar.Programs.{read_program}
-use Rattle.pv_model.specs.Manifest.{Entry, make, further_name, empty_tree}
-use Rattle.pv_model.specs.Room.{fits, is_too_long}
 use Rattle.pv_model.specs.RunFault.{of_init, of_manifest}
-use Rattle.pv_model.specs.Source.Judged.{read_source}
-use Rattle.pv_model.specs.Start.{and_then, booted, bundle_started, init_of, program_in, started_on}
-use Rattle.pv_model.specs.State.{Program, State, first_state}
-use Rattle.pv_model.specs.Tree.{Entries, Node, directory_node, file_node, link_node, Tree, root, node_at, entries_at, is_directory, is_directory_at, find_entry, new_number, with_entry, with_new_node, with_node}
-use Rattle.pv_model.specs.Walk.{components}
+use Rattle.pv_model.specs.Start.{init_of, program_in}
 use Rattle.std.specs.FinMap.Entries.{find, put}
-use Rattle.pv_laws_grammar.specs.Accepted.{IsBundle, IsEnded, IsRightInit}
-use Rattle.pv_laws_grammar.proofs.AcceptedAgain.{appears-for-itself}
+use Rattle.pv_laws_grammar.specs.Accepted.{IsBundle, HasLineEnds, IsRightInit}
+use Rattle.pv_laws_grammar.proofs.AcceptedTexts.{appears-for-itself}
 use Rattle.pv_laws_grammar.proofs.AppliedEntries.{AppliesAll-tree_of}
-use Rattle.pv_laws_grammar.proofs.WholeManifests.{EncodesManifest-whole}
-use Rattle.pv_laws_states.specs.States.{are_bytes}
+use Rattle.pv_laws_grammar.proofs.ManifestParsing.{EncodesManifest-whole}
+use Rattle.pv_laws_answers.specs.OfLawsStates.States.{are_bytes}
 use Rattle.pv_laws_trees.proofs.Changes.{directory-below, found-with, node_at-other, node_at-same}
 use Rattle.pv_laws_trees.proofs.Edits.{new_number-free}
 use Rattle.pv_laws_trees.proofs.Entries.{by_name}
 use Rattle.pv_laws_trees.proofs.NewNodes.{dir-new, entries-new, entry-stays, free-new, new-other, new-same}
 use Rattle.pv_laws_runs.specs.OwnSources.{NamesNoInit, StartsOn}
-use Rattle.pv_laws_runs.proofs.Asked.{started-by}
+use Rattle.pv_laws_runs.proofs.RunChecks.{started-by}
 use Rattle.pv_laws_runs.proofs.Entries.{AreGoodEntries, IsGoodEntry, lines-bytes, listed-good}
-use Rattle.pv_laws_runs.proofs.Started.{not_refused}
+use Rattle.pv_laws_runs.proofs.RunPremises.{not_refused}
 use Rattle.pv_laws_runs.proofs.Trees.{IsStarting, applied, appears-root, leads-appears, leads-name, starting-empty, within}
 
 -- the same node, or two directories
@@ -72,7 +64,7 @@ one-name t _ _ _ _ last (at_last_name d name) is = (refl, cc is)
 one-name t _ _ _ _ last (down d n name next others container end found dir more) is = cc is
 
 module _ (t : Tree) (start : IsStarting t) where
-  -- an entry is added, and what a name of the root led to stays alike
+  -- an entry is added, and each name of the root still leads to an equal node
   preserved : (e : Entry) (after : Tree) → IsGoodEntry e → Applies t e after → (name : Bytes) (v : Node) → HasLike t name v → HasLike after name v
   preserved (make path node) after good is name v has =
       let d = is.0.container in
@@ -201,5 +193,5 @@ started-accepted bytes on =
       turns = turns.0;
     }
 
-pub started-own : (bytes : Bytes) → StartsOn bytes → IsEnded bytes → read_source bytes ≡ Ok bytes
+pub started-own : (bytes : Bytes) → StartsOn bytes → HasLineEnds bytes → read_source bytes ≡ Ok bytes
 started-own bytes on ended = appears-for-itself bytes (inl (started-accepted bytes on)) ended

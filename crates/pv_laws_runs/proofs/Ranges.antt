@@ -1,5 +1,5 @@
 -- A parsed program is in range.
-use Rattle.std.proofs.Common.{◌≡◌, ℕ, suc, ℤ, pos, negsuc, ◌≤◌, ◌<◌, Bool, true, false, not, ◌&&◌, ◌==◌, nat_le, nat_lt, List, [], ◌∷◌, length, Option, None, Some, refl, ap, sym, ◌∙◌, arith}
+use Rattle.std.proofs.Common.{◌≡◌, ℕ, suc, ℤ, pos, negsuc, ◌≤◌, ◌<◌, Bool, true, false, not, ◌&&◌, ◌==◌, nat_le, nat_lt, List, [], ◌∷◌, length, Option, None, Some, refl, ap, arith}
 use Rattle.std.specs.List.{list_all}
 use Rattle.std.proofs.lemmas.Bool.{and_parts, and_from, le-leb, lt-ltb, leb-true, ne_eqb}
 use Rattle.pv_model.specs.declared.instruction.Instruction.{Instruction}
@@ -8,15 +8,12 @@ use Rattle.pv_model.specs.declared.instruction.Operand.{Operand}
 use Rattle.pv_model.specs.declared.instruction.Operand.TheVariants.{Number, Register}
 use Rattle.pv_model.specs.declared.instruction.Origin.{Origin}
 use Rattle.pv_model.specs.declared.instruction.Origin.TheVariants.{WorkingDirectory, Descriptor}
-use Rattle.pv_model.specs.Bytes.{Bytes}
+use Rattle.pv_model.specs.Machine.{Bytes, program_of, EncodesText, Program, is_plain}
 use Rattle.pv_model.specs.Grammar.Forms.{Argument, operand, register, number, line, place, text, text_or_null, flags, whence, origin, form_of, Encodes, EncodesArguments}
-use Rattle.pv_model.specs.Grammar.Programs.{program_of}
-use Rattle.pv_model.specs.Grammar.Encoding.{IsNumber, EncodesOperand, EncodesOrigin, EncodesText, EncodesTextOrNull, EncodesBytes, nothing, plain, escaped}
+use Rattle.pv_model.specs.Grammar.Encoding.{IsNumber, EncodesOperand, EncodesOrigin, EncodesTextOrNull, EncodesBytes, nothing, plain, escaped}
 use Rattle.pv_model.specs.Grammar.Texts.{EncodeLines, EncodesProgram}
-use Rattle.pv_model.specs.State.{Program}
-use Rattle.pv_model.specs.Trace.{is_plain}
-use Rattle.pv_laws_grammar.proofs.WholePrograms.{EncodesProgram-program_of}
-use Rattle.pv_laws_states.specs.States.{is_word, is_byte, is_text_byte, is_text, is_text_or_none, is_operand, is_origin, is_target_line, is_instruction, is_program, EncodesPrograms}
+use Rattle.pv_laws_grammar.proofs.ProgramParsing.{EncodesProgram-program_of}
+use Rattle.pv_laws_answers.specs.OfLawsStates.States.{is_word, is_byte, is_text_byte, is_text, is_text_or_none, is_operand, is_origin, is_target_line, is_instruction, is_program_in_bounds, EncodesPrograms}
 
 -- ---- arguments
 
@@ -145,7 +142,7 @@ lines-encoded count (l ∷ ls) [] is = absurd is
 
 -- ---- programs
 
-program-encoded : (bytes : Bytes) (program : Program) → EncodesProgram bytes program → is_program program ≡ true
+program-encoded : (bytes : Bytes) (program : Program) → EncodesProgram bytes program → is_program_in_bounds program ≡ true
 program-encoded bytes program is =
     let parts = lines-encoded (length is.0) is.0 program is.3 in
     and_from (nat_le (length program) 256) (list_all (is_instruction (length program)) program)

@@ -1,27 +1,20 @@
 -- The tree that entries make is a valid first tree.
-use Rattle.std.proofs.Common.{◌≡◌, ℕ, ◌≤◌, ◌<◌, Ok, true, false, Bool, not, ◌&&◌, List, [], ◌∷◌, length, Option, None, Some, is_some, is_none, refl, ap, sym, subst, ◌∙◌, arith}
+use Rattle.std.proofs.Common.{◌≡◌, ℕ, ◌≤◌, ◌<◌, Ok, true, false, Bool, List, [], ◌∷◌, length, Option, None, Some, is_some, is_none, refl, ap, sym, subst, ◌∙◌, arith}
 use Rattle.std.specs.List.{list_all}
 use Rattle.std.proofs.lemmas.Bool.{and_parts}
 use Rattle.pv_model.specs.declared.version.Version.TheVariants.{V1}
-use Rattle.pv_model.specs.Bytes.{Bytes}
+use Rattle.pv_model.specs.Machine.{Bytes, EncodesManifest, Manifest, data_blocks, tree_of, Entry, make, further_name, empty_tree, fits, is_too_long, State, first_state, Node, Tree, root, node_at, is_directory_at, find_entry, is_name, new_number, with_node, with_entry, with_new_node, components}
 use Rattle.pv_model.specs.Grammar.Applied.{LeadsTo, at_last_name, down, Applies, AppliesAll}
-use Rattle.pv_model.specs.Grammar.Entries.{EncodesManifest}
-use Rattle.pv_model.specs.Grammar.Manifests.{Manifest, data_blocks, tree_of}
-use Rattle.pv_model.specs.Manifest.{Entry, make, further_name, empty_tree}
-use Rattle.pv_model.specs.Room.{fits, is_too_long}
-use Rattle.pv_model.specs.State.{State, first_state}
-use Rattle.pv_model.specs.Tree.{Node, directory_node, Tree, root, node_at, entries_of, is_directory_at, is_removed, find_entry, parent, is_name, new_number, with_node, with_entry, with_new_node}
-use Rattle.pv_model.specs.Walk.{components}
 use Rattle.pv_laws_grammar.proofs.AppliedEntries.{AppliesAll-tree_of}
-use Rattle.pv_laws_states.specs.States.{are_bytes, has_bytes, IsFirstTree}
-use Rattle.pv_laws_states.proofs.BySteps.{first-whole}
-use Rattle.pv_laws_states.proofs.Grown.{bytes-with_node, bytes-with_entry, new-below}
-use Rattle.pv_laws_states.proofs.Collect.{held_after}
+use Rattle.pv_laws_answers.specs.OfLawsStates.States.{are_bytes, has_bytes, IsFirstTree}
+use Rattle.pv_laws_answers.proofs.OfLawsStates.BySteps.{first-whole}
+use Rattle.pv_laws_answers.proofs.OfLawsStates.GrownTrees.{bytes-with_node, bytes-with_entry, new-below}
+use Rattle.pv_laws_answers.proofs.OfLawsStates.Collect.{held_after}
 use Rattle.pv_laws_trees.specs.Preserved.{EachIsNamed}
 use Rattle.pv_laws_trees.specs.Tree.{Appears}
 use Rattle.pv_laws_trees.proofs.Edits.{stays-new_node, stays-with_entry}
-use Rattle.pv_laws_trees.proofs.Empty.{only-root, sound-empty, short-empty, fits-empty}
-use Rattle.pv_laws_trees.proofs.Keeping.{preserved_all}
+use Rattle.pv_laws_trees.proofs.EmptyTrees.{only-root, sound-empty, short-empty, fits-empty}
+use Rattle.pv_laws_trees.proofs.Collection.{preserved_all}
 use Rattle.pv_laws_trees.proofs.NewNodes.{dir-new, named-with_entry, named-with_new_node}
 use Rattle.pv_laws_trees.proofs.Numbered.{least_free-within, length-drop_one}
 use Rattle.pv_laws_trees.proofs.Trees.{sound, well_formed, ordered, parent-root, entry-parent}

@@ -6,28 +6,21 @@ use Rattle.std.proofs.lemmas.Bool.{le-leb, ltb-false}
 use Rattle.pv_model.specs.declared.call.Call.{Call}
 use Rattle.pv_model.specs.declared.outcome.Outcome.{Outcome}
 use Rattle.pv_model.specs.declared.outcome.Outcome.TheVariants.{Blocked, Gone}
-use Rattle.pv_model.specs.Answer.{answer}
-use Rattle.pv_model.specs.Answers.Nodes.{first_of}
-use Rattle.pv_model.specs.Answers.Turns.{continues, live_after, next_turn, turns}
-use Rattle.pv_model.specs.Bytes.{Bytes}
-use Rattle.pv_model.specs.Grammar.Programs.{program_of as programs}
-use Rattle.pv_model.specs.Held.{live_processes}
-use Rattle.pv_model.specs.Program.{Next, calls_for, inside, next}
-use Rattle.pv_model.specs.State.{Process, Program, State, first_state, process_at}
-use Rattle.pv_model.specs.Step.{Run, Stepped, boot, init_program, run, step, step_by}
-use Rattle.pv_model.specs.Tree.{Tree, find_entry, node_at, root}
+use Rattle.pv_model.specs.Machine.{answer, first_of, continues, next_turn, turns, Bytes, program_of as programs, live_processes, Next, calls_for, inside, next, Process, Program, State, first_state, process_at, Run, Stepped, boot, run, step, step_by, Tree, find_entry, node_at, root}
+use Rattle.pv_model.specs.Answers.Turns.{live_after}
+use Rattle.pv_model.specs.Step.{init_program}
 use Rattle.pv_model.proofs.Runs.{run-append}
-use Rattle.pv_laws_states.proofs.Outcomes.{gone-leaves}
-use Rattle.pv_laws_access.proofs.Ends.{step-is}
+use Rattle.pv_laws_answers.proofs.OfLawsStates.Outcomes.{gone-leaves}
+use Rattle.pv_laws_answers.proofs.OfLawsAccess.Ends.{step-is}
 use Rattle.pv_laws_answers.specs.Waits.{GoesOn, ParentsAreOlder}
 use Rattle.pv_laws_answers.proofs.Lists.{Among, among-filter, among-left, among-map, among-right}
-use Rattle.pv_laws_answers.proofs.LiveOnes.{live-listed}
-use Rattle.pv_laws_answers.proofs.Older.{first-older}
-use Rattle.pv_laws_answers.proofs.Waiting.{run-older, some-continues}
+use Rattle.pv_laws_answers.proofs.LiveProcesses.{live-listed}
+use Rattle.pv_laws_answers.proofs.ParentNumbers.{first-older}
+use Rattle.pv_laws_answers.proofs.WaitingProcesses.{run-older, some-continues}
 use Rattle.pv_laws_runs.specs.Runs.{IsReachedFrom}
 use Rattle.pv_laws_runs.specs.Turns.{AllReady, NoneLive, NoneReady, steps_by_turns}
 use Rattle.pv_laws_runs.proofs.Ranges.{program_of-encodes}
-use Rattle.pv_laws_runs.proofs.Starting.{boot-whole, given-first, reached-whole}
+use Rattle.pv_laws_runs.proofs.StartingStates.{boot-whole, given-first, reached-whole}
 use Rattle.pv_laws_runs.proofs.TurnsReady.{within-end, within-few, within-ready}
 
 module _ (program_of : Bytes → Option Program) where

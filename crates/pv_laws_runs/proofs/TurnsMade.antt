@@ -1,11 +1,8 @@
 -- Turns: the process that has the next turn, and the steps of one turn.
 use Rattle.std.proofs.Common.{◌≡◌, ℕ, zero, suc, ◌≤◌, Bool, true, false, cond, List, [], ◌∷◌, Option, Some, refl, ap, subst, arith}
 use Rattle.std.specs.List.{filter}
-use Rattle.pv_model.specs.Answers.Nodes.{first_of}
-use Rattle.pv_model.specs.Answers.Turns.{Turn, continues, live_after, next_turn, one_step_more, turn}
-use Rattle.pv_model.specs.Bytes.{Bytes}
-use Rattle.pv_model.specs.State.{Program, State}
-use Rattle.pv_model.specs.Step.{step}
+use Rattle.pv_model.specs.Machine.{first_of, continues, next_turn, Bytes, Program, State, step}
+use Rattle.pv_model.specs.Answers.Turns.{Turn, live_after, one_step_more, turn}
 
 first-passes : {X : Type 0} (p : X → Bool) (xs : List X) (x : X) → first_of (filter p xs) ≡ Some x → p x ≡ true
 first-passes p [] x is = absurd (cc)

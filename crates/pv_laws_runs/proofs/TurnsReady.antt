@@ -1,10 +1,8 @@
 -- The steps of a fair schedule are of ready processes.
 use Rattle.std.proofs.Common.{◌≡◌, ◌∙◌, ℕ, zero, suc, ◌+◌, ◌-◌, ◌<◌, ◌≤◌, Bool, true, false, cond, List, [], ◌∷◌, ◌++◌, length, length-append, Option, None, Some, refl, sym, ap, subst, min, arith}
 use Rattle.std.specs.Prelude.{IsSome, replicate}
-use Rattle.pv_model.specs.Answers.Turns.{Turn, continues, next_turn, one_step_more, turn, turn_then, turns, turns_within}
-use Rattle.pv_model.specs.Bytes.{Bytes}
-use Rattle.pv_model.specs.State.{Process, Program, State, process_at}
-use Rattle.pv_model.specs.Step.{Run, run, step, step_of, steps_of}
+use Rattle.pv_model.specs.Machine.{continues, next_turn, turns, Bytes, Process, Program, State, process_at, Run, run, step, step_of, steps_of}
+use Rattle.pv_model.specs.Answers.Turns.{Turn, one_step_more, turn, turn_then, turns_within}
 use Rattle.pv_model.proofs.Runs.{run-append}
 use Rattle.pv_laws_runs.specs.Turns.{AllReady, IsReady}
 use Rattle.pv_laws_runs.proofs.TurnsMade.{next-goes, turn-few, turn-some}

@@ -1,15 +1,8 @@
 -- The checks of a run, in terms of the relations of the formats.
 use Rattle.std.specs.Prelude.{◌≡◌, ◌↔◌, true, Some, Ok}
-use Rattle.pv_model.specs.Bytes.{Bytes}
+use Rattle.pv_model.specs.Machine.{Bytes, EncodesManifest, Manifest, data_blocks, program_of, IsImageOf, empty_tree, Started, bundle_started, image_started, boot}
 use Rattle.pv_model.specs.Grammar.Applied.{AppliesAll}
-use Rattle.pv_model.specs.Grammar.Entries.{EncodesManifest}
-use Rattle.pv_model.specs.Grammar.Manifests.{Manifest, data_blocks}
-use Rattle.pv_model.specs.Grammar.Programs.{program_of}
 use Rattle.pv_model.specs.Grammar.Texts.{EncodeSchedule, EncodesSchedule}
-use Rattle.pv_model.specs.Image.{IsImageOf}
-use Rattle.pv_model.specs.Manifest.{empty_tree}
-use Rattle.pv_model.specs.Start.{Started, bundle_started, image_started}
-use Rattle.pv_model.specs.Step.{boot}
 
 -- the bytes are an image of a tree on which the machine boots, and the text encodes the schedule
 pub record AsksOfImage (image turns : Bytes) (it : Started) : Type 0 where

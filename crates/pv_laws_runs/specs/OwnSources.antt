@@ -1,13 +1,9 @@
 -- A bundle on which the machine starts is its own source.
 use Rattle.std.specs.Prelude.{◌≡◌, ◌≢◌, IsTrue, codes, Ok}
 use Rattle.std.specs.List.{AllByRecursion}
-use Rattle.pv_model.specs.Bytes.{Bytes}
-use Rattle.pv_model.specs.Grammar.Manifests.{Manifest, read_bundle}
-use Rattle.pv_model.specs.Manifest.{further_name}
-use Rattle.pv_model.specs.Source.Judged.{read_source}
-use Rattle.pv_model.specs.Start.{Started, bundle_started}
-use Rattle.pv_laws_states.specs.States.{are_bytes}
-use Rattle.pv_laws_grammar.specs.Accepted.{IsBundle, IsEnded}
+use Rattle.pv_model.specs.Machine.{Bytes, Manifest, read_bundle, further_name, read_source, Started, bundle_started}
+use Rattle.pv_laws_answers.specs.OfLawsStates.States.{are_bytes}
+use Rattle.pv_laws_grammar.specs.Accepted.{IsBundle, HasLineEnds}
 
 -- no line `name` gives a file the further path `/init`
 abbrev pub NamesNoInit : Manifest → Type 0
@@ -29,4 +25,4 @@ StartedBundlesAreAccepted = (bytes : Bytes) → StartsOn bytes → IsBundle byte
 
 -- so it is its own source, if each line ends with an LF
 abbrev pub StartedBundlesAreTheirOwn : Type 0
-StartedBundlesAreTheirOwn = (bytes : Bytes) → StartsOn bytes → IsEnded bytes → read_source bytes ≡ Ok bytes
+StartedBundlesAreTheirOwn = (bytes : Bytes) → StartsOn bytes → HasLineEnds bytes → read_source bytes ≡ Ok bytes

@@ -1,15 +1,11 @@
 -- Laws of every run that an accepted input starts.
 use Rattle.std.specs.Prelude.{◌≡◌, ◌≢◌, ℕ, IsTrue, List, length, Some, Ok}
-use Rattle.pv_model.specs.Bytes.{Bytes}
-use Rattle.pv_model.specs.Grammar.Programs.{program_of}
-use Rattle.pv_model.specs.Start.{Started, image_started, bundle_started, IsAccepted}
-use Rattle.pv_model.specs.State.{Process, State, process_at}
-use Rattle.pv_model.specs.Step.{boot, step, run}
-use Rattle.pv_model.specs.Touch.{file_bytes, IsJustified}
-use Rattle.pv_model.specs.Tree.{Tree}
-use Rattle.pv_laws_states.specs.States.{are_bytes, IsValid}
-use Rattle.pv_laws_access.specs.Growth.{MayDoNoMore, IsLeftAlone, StaysInImage}
-use Rattle.pv_laws_access.specs.Sealing.{IsSealedFile, IsFrozenFile, IsLeftFrozen, WritesNothing}
+use Rattle.pv_model.specs.Machine.{Bytes, program_of, Started, image_started, bundle_started, Process, State, process_at, boot, step, run, file_bytes, Tree}
+use Rattle.pv_model.specs.Start.{IsAccepted}
+use Rattle.pv_model.specs.Touch.{IsJustified}
+use Rattle.pv_laws_answers.specs.OfLawsStates.States.{are_bytes, IsValid}
+use Rattle.pv_laws_answers.specs.OfLawsAccess.Growth.{MayDoNoMore, IsLeftAlone, StaysInImage}
+use Rattle.pv_laws_answers.specs.OfLawsAccess.Sealing.{IsSealedFile, IsFrozenFile, IsLeftFrozen, WritesNothing}
 use Rattle.pv_laws_runs.specs.Starts.{GivesTree}
 
 -- a state that a run reaches, with steps of any processes, from the first state of the tree that the bytes give

@@ -1,11 +1,7 @@
 -- The schedules of the answer `turns`: their steps, and the states in which they end.
 use Rattle.std.specs.Prelude.{◌≡◌, ◌≢◌, ◌↔◌, ℕ, ◌<◌, ◌≤◌, List, [], ◌∷◌, length, Option, None, IsSome}
 use Rattle.pv_model.specs.declared.outcome.Outcome.TheVariants.{Blocked}
-use Rattle.pv_model.specs.Answers.Turns.{turns}
-use Rattle.pv_model.specs.Bytes.{Bytes}
-use Rattle.pv_model.specs.Grammar.Programs.{program_of as programs}
-use Rattle.pv_model.specs.State.{Program, State, process_at}
-use Rattle.pv_model.specs.Step.{run, step, steps_of}
+use Rattle.pv_model.specs.Machine.{turns, Bytes, program_of as programs, Program, State, process_at, run, step, steps_of}
 use Rattle.pv_laws_runs.specs.Runs.{IsReachedFrom}
 
 module _ (program_of : Bytes → Option Program) where
@@ -45,7 +41,7 @@ TurnsEndIdle =
     (program_of : Bytes → Option Program) (slice steps : ℕ) (s : State) → 1 ≤ slice → length (steps_by_turns program_of slice steps s) < steps
     → NoneReady program_of (run program_of (steps_by_turns program_of slice steps s) s).final
 
--- in each state that a run reaches, no process is ready exactly if none is live
+-- in each state that a run reaches, no process is ready if and only if no process is live
 abbrev pub IdleIfNoneLives : Type 0
 IdleIfNoneLives = (bytes : Bytes) (s : State) → IsReachedFrom bytes s → NoneReady programs s ↔ NoneLive s
 

@@ -2,17 +2,17 @@
 
 ghost use Rattle.pv_laws_runs.specs.Runs.{ReachedIsValid, RunsAreJust, RunsNeverLoosen, RunsKeepOthers, SealedReportsNothing, FrozenIsLeft, AcceptedImagesStart, ImagesStart, BundlesStart};
 
-/// An accepted image starts in a state that satisfies the premises of these laws.
+/// An accepted image starts in a state to which the laws of runs apply.
 pub fn accepted_images_start()
     ensures { AcceptedImagesStart }
 {}
 
-/// A run on an image whose checks succeed starts in such a state.
+/// A run on an image whose checks succeed starts in a state to which the laws of runs apply.
 pub fn images_start()
     ensures { ImagesStart }
 {}
 
-/// A run of a bundle whose checks succeed starts in such a state.
+/// A run of a bundle whose checks succeed starts in a state to which the laws of runs apply.
 pub fn bundles_start()
     ensures { BundlesStart }
 {}
@@ -29,7 +29,7 @@ pub fn runs_are_just()
 {}
 
 /// Monotonicity of privilege: while a process stays live in one program image, it loses no restraint, whichever
-/// processes make the steps in between. See `pv_laws_access::growth`.
+/// processes make the steps in between.
 pub fn runs_never_loosen()
     ensures { RunsNeverLoosen }
 {}

@@ -2,14 +2,12 @@
 use Rattle.std.proofs.Common.{◌≡◌, ◌∙◌, sym, ap, ap₂, ℕ, Bool, true, false, not, ◌&&◌, bytes_eq, List, [], ◌∷◌, ◌++◌, Option, None, Some, is_some, refl}
 use Rattle.std.proofs.lemmas.Bool.{and_parts}
 use Rattle.pv_model.specs.Answers.Compare.{is_live, is_restraint}
-use Rattle.pv_model.specs.Bytes.{Bytes}
-use Rattle.pv_model.specs.State.{Program, Process, State, process_at}
-use Rattle.pv_model.specs.Step.{run}
+use Rattle.pv_model.specs.Machine.{Bytes, Program, Process, State, process_at, run}
 use Rattle.pv_laws_trees.proofs.Entries.{bytes_eq-same}
-use Rattle.pv_laws_answers.specs.Search.{step_text}
+use Rattle.pv_laws_answers.specs.Search.{text_of_step}
 use Rattle.pv_laws_schedules.specs.Compare.{AlikeRunsAlike, text_unless, texts_compared}
-use Rattle.pv_laws_schedules.proofs.Pairs.{final-more, none-different}
-use Rattle.pv_laws_schedules.proofs.Shown.{after_number, shows_live, shows_restraint, step-shows}
+use Rattle.pv_laws_schedules.proofs.PairSearch.{final-more, none-different}
+use Rattle.pv_laws_schedules.proofs.StepTexts.{after_number, shows_live, shows_restraint, step-shows}
 
 -- a call of pledge or unveil is one of a live process
 restraint-live : (o : Option Process) → is_restraint o ≡ true → is_some o ≡ true
@@ -21,16 +19,16 @@ module _ (program_of : Bytes → Option Program) (s t : State) (pid : ℕ) where
   restrained u = is_restraint (process_at u pid)
 
   record StepAlike : Type 0 where
-    pub text : text_unless (restrained s) (step_text program_of s pid) ≡ text_unless (restrained t) (step_text program_of t pid)
+    pub text : text_unless (restrained s) (text_of_step program_of s pid) ≡ text_unless (restrained t) (text_of_step program_of t pid)
     pub live : is_live s pid ≡ is_live t pid
 
   both-restrained : restrained s ≡ true → restrained t ≡ true → StepAlike
   both-restrained a b = record {
-    text = ap (λ c. text_unless c (step_text program_of s pid)) a ∙ sym (ap (λ c. text_unless c (step_text program_of t pid)) b);
+    text = ap (λ c. text_unless c (text_of_step program_of s pid)) a ∙ sym (ap (λ c. text_unless c (text_of_step program_of t pid)) b);
     live = restraint-live (process_at s pid) a ∙ sym (restraint-live (process_at t pid) b);
   }
 
-  same-texts : step_text program_of s pid ≡ step_text program_of t pid → StepAlike
+  same-texts : text_of_step program_of s pid ≡ text_of_step program_of t pid → StepAlike
   same-texts same =
       let here = step-shows program_of s pid in
       let there = step-shows program_of t pid in
@@ -41,20 +39,17 @@ module _ (program_of : Bytes → Option Program) (s t : State) (pid : ℕ) where
       }
 
   -- a step that does not differ
-  step-alike : (not (restrained s && restrained t) && not (bytes_eq (step_text program_of s pid) (step_text program_of t pid))) ≡ false → StepAlike
-  step-alike is = by (restrained s && restrained t) (bytes_eq (step_text program_of s pid) (step_text program_of t pid)) refl refl is
+  step-alike : (not (restrained s && restrained t) && not (bytes_eq (text_of_step program_of s pid) (text_of_step program_of t pid))) ≡ false → StepAlike
+  step-alike is = by (restrained s && restrained t) (bytes_eq (text_of_step program_of s pid) (text_of_step program_of t pid)) refl refl is
     where
-      by : (b c : Bool) → (restrained s && restrained t) ≡ b → bytes_eq (step_text program_of s pid) (step_text program_of t pid) ≡ c → (not b && not c) ≡ false → StepAlike
+      by : (b c : Bool) → (restrained s && restrained t) ≡ b → bytes_eq (text_of_step program_of s pid) (text_of_step program_of t pid) ≡ c → (not b && not c) ≡ false → StepAlike
       by true c both texts is' = let parts = and_parts (restrained s) (restrained t) both in both-restrained parts.0 parts.1
-      by false true both texts is' = same-texts (bytes_eq-same (step_text program_of s pid) (step_text program_of t pid) texts)
+      by false true both texts is' = same-texts (bytes_eq-same (text_of_step program_of s pid) (text_of_step program_of t pid) texts)
       by false false both texts is' = cc
 
 pub runs-alike : AlikeRunsAlike
 runs-alike program_of limit s t pairs it is pids = record { texts = texts pids []; live = λ pid. (steps pids pid).live }
   where
-    after : List ℕ → State → State
-    after done u = (run program_of done u).final
-
     steps : (done : List ℕ) (pid : ℕ) → StepAlike program_of (run program_of done s).final (run program_of done t).final pid
     steps done pid = step-alike program_of (run program_of done s).final (run program_of done t).final pid (none-different program_of limit s t it pairs is done pid)
 

@@ -4,20 +4,16 @@ use Rattle.std.specs.FinMap.Entries.{find}
 use Rattle.std.specs.Ordering.{eq_by_cmp}
 use Rattle.std.specs.declared.cmp.Ordering.{Ordering}
 use Rattle.std.proofs.lemmas.Bool.{and_from}
-use Rattle.pv_model.specs.Answers.Files.{files_of_tree, is_file_at, named_files, unnamed_files}
-use Rattle.pv_model.specs.Answers.Numbers.{number_numbers}
-use Rattle.pv_model.specs.Answers.Reach.{ListedName, listed_names}
-use Rattle.pv_model.specs.Bytes.{Bytes, is_empty}
-use Rattle.pv_model.specs.Numbered.{numbered}
-use Rattle.pv_model.specs.Sealed.{is_file}
-use Rattle.pv_model.specs.Tree.{Node, Tree, root, node_at, find_entry, names_of, IsReached, from_root, by_entry, IsWellFormed}
+use Rattle.pv_model.specs.Machine.{files_of_tree, is_file_at, named_files, number_numbers, ListedName, Bytes, is_empty, numbered, is_file, Node, Tree, root, node_at, find_entry, names_of, IsReached, from_root, by_entry, IsWellFormed}
+use Rattle.pv_model.specs.Answers.Files.{unnamed_files}
+use Rattle.pv_model.specs.Answers.Reach.{listed_names}
 use Rattle.pv_laws_trees.proofs.Changes.{entries-good}
 use Rattle.pv_laws_trees.proofs.Members.{In, in-entry, numbered-at}
 use Rattle.pv_laws_access.specs.Order.{Places, by_names, led_to}
 use Rattle.pv_laws_answers.specs.ReachNames.{AreNamesOf}
-use Rattle.pv_laws_answers.proofs.Complete.{among-contains}
+use Rattle.pv_laws_answers.proofs.CompleteSearches.{among-contains}
 use Rattle.pv_laws_answers.proofs.Lists.{Among, among-filter, among-left, among-map, among-right}
-use Rattle.pv_laws_answers.proofs.New.{new-like}
+use Rattle.pv_laws_answers.proofs.NewKeys.{new-like}
 use Rattle.pv_laws_answers.proofs.ReachedNames.{reach-lists}
 use Rattle.pv_laws_schedules.specs.Exposure.{EachFileIsListed}
 

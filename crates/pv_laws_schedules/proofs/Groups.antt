@@ -1,15 +1,12 @@
 -- Groups of elements with equal keys, and programs with equal keys.
 use Rattle.std.proofs.Common.{◌≡◌, ◌∙◌, sym, ap, subst, bytes_eq, List, [], ◌∷◌, ◌++◌, ◌⊎◌, inl, inr}
-use Rattle.pv_model.specs.Answers.Explore.{new_ones}
-use Rattle.pv_model.specs.Answers.Numbers.{Numbers, bool_numbers, bytes_numbers, descriptor_numbers, entry_numbers, file_numbers, integer_numbers, list_numbers, number_numbers, option_numbers, process_numbers, state_numbers, tree_numbers}
-use Rattle.pv_model.specs.Answers.Observed.{with_alike, groups}
-use Rattle.pv_model.specs.Answers.ProgramNames.{program_numbers}
-use Rattle.pv_model.specs.State.{Program, Process, State, first_process, first_state}
-use Rattle.pv_model.specs.Tree.{Tree}
+use Rattle.pv_model.specs.Machine.{new_ones, Numbers, bool_numbers, bytes_numbers, descriptor_numbers, entry_numbers, file_numbers, integer_numbers, list_numbers, number_numbers, option_numbers, state_numbers, tree_numbers, groups, program_numbers, Program, Process, State, first_process, first_state, Tree}
+use Rattle.pv_model.specs.Answers.Numbers.{process_numbers}
+use Rattle.pv_model.specs.Answers.Observed.{with_alike}
 use Rattle.pv_laws_trees.proofs.Entries.{bytes_eq-same, bytes_eq-itself}
 use Rattle.pv_laws_answers.proofs.Lists.{Among, among-filter, filter-among, among-map, map-among}
-use Rattle.pv_laws_answers.proofs.New.{new-came, new-like}
-use Rattle.pv_laws_answers.proofs.Reading.{same-state_numbers}
+use Rattle.pv_laws_answers.proofs.NewKeys.{new-came, new-like}
+use Rattle.pv_laws_answers.proofs.StateDecoding.{same-state_numbers}
 
 module _ {X : Type 0} (key : X → Numbers) where
   -- the group of an element

@@ -1,28 +1,38 @@
 -- Lemmas about searches and the answers over every schedule.
--- - `compare`: Searches (breadth-first search of any elements), Pairs (the search of pairs), Shown (what a step's text
+-- - `compare`: Searches (breadth-first search of any elements), PairSearch (the search of pairs), StepTexts (what a step's text
 --   shows), AlikeRuns.
--- - `access`: Reached (the visited states), Seen (what processes show in them), Happening (reported observations),
---   ReadAccess (reads are accesses), UnreadFiles, Touching (reads and reports), Justified.
--- - `exposure`: Groups (elements with equal keys), Exposed, AllFiles, ReducedExposed (the reduced search).
--- - `policy`: Requested (the calls of visited states), Promised (promises), Lettered (permissions), TargetLines (their lines).
+-- - `access`: ReachedStates (the visited states), SeenStates (what processes show in them), ReportedObservations
+--   (reported observations), ReadAccess (reads are accesses), UnreadFiles, SuccessfulCalls, NamedPlaces and DoneCalls (calls
+--   that succeed), TouchAccesses (touches are accesses), ListedTouches, JustifiedAccesses, ReducedAccesses (the reduced search).
+-- - `exposure`: Groups (elements with equal keys), ExposureLines, AllFiles, ReducedExposureLines (the reduced search).
+-- - `policy`: VisitedCalls (the calls of visited states), NeededPromises (promises), NeededPermissions (permissions),
+--   TargetLines (their lines), Granted (granted calls), FewerPromises (a step with other promises), IdlePromises.
 -- - ReducedTextRuns: texts by the reduced search, by computation.
 pub mod Searches
-pub mod Pairs
-pub mod Shown
+pub mod PairSearch
+pub mod StepTexts
 pub mod AlikeRuns
-pub mod Reached
-pub mod Seen
-pub mod Happening
+pub mod ReachedStates
+pub mod SeenStates
+pub mod ReportedObservations
 pub mod ReadAccess
 pub mod UnreadFiles
-pub mod Touching
-pub mod Justified
+pub mod SuccessfulCalls
+pub mod NamedPlaces
+pub mod DoneCalls
+pub mod TouchAccesses
+pub mod ListedTouches
+pub mod JustifiedAccesses
+pub mod ReducedAccesses
 pub mod Groups
-pub mod Exposed
+pub mod ExposureLines
 pub mod AllFiles
-pub mod ReducedExposed
-pub mod Requested
-pub mod Promised
-pub mod Lettered
+pub mod ReducedExposureLines
+pub mod VisitedCalls
+pub mod NeededPromises
+pub mod NeededPermissions
 pub mod TargetLines
+pub mod Granted
+pub mod FewerPromises
+pub mod IdlePromises
 pub mod ReducedTextRuns

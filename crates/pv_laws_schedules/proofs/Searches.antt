@@ -5,7 +5,7 @@ use Rattle.std.proofs.lemmas.Bool.Decides.{nat_tests}
 use Rattle.pv_model.specs.Answers.Search.{with_move, found_after, found_from, search}
 use Rattle.pv_laws_answers.specs.Witnesses.{EachToLater}
 use Rattle.pv_laws_answers.proofs.Lists.{Among, among-left, among-right, each-among, each-from_among, each-append, each-weaker, get-past, get-seam}
-use Rattle.pv_laws_answers.proofs.Least.{to_later-append}
+use Rattle.pv_laws_answers.proofs.WitnessOrders.{to_later-append}
 
 pub fold-append : {S X : Type 0} (f : S → X → S) (s : S) (xs ys : List X) → fold f s (xs ++ ys) ≡ fold f (fold f s xs) ys
 fold-append f s [] ys = refl

@@ -1,15 +1,12 @@
 -- The lines about targets are those of all permissions that are asked.
 use Rattle.std.proofs.Common.{◌≡◌, ◌∙◌, sym, ap, ap₂, Bool, true, false, not, ◌&&◌, ◌||◌, List, [], ◌∷◌, ◌++◌, flat_map, refl}
 use Rattle.pv_model.specs.declared.perms.Perms.{Perms}
-use Rattle.pv_model.specs.Answers.Explain.{permissions_lacked}
-use Rattle.pv_model.specs.Answers.Lines.{AnswerLine}
-use Rattle.pv_model.specs.Answers.Needs.{Judged}
-use Rattle.pv_model.specs.Answers.Observed.{Observation, with_alike}
+use Rattle.pv_model.specs.Machine.{permissions_lacked, AnswerLine, Judged, Observation, no_permissions, join_permissions}
+use Rattle.pv_model.specs.Answers.Observed.{with_alike}
 use Rattle.pv_model.specs.Answers.Policy.{new_permissions, new_permissions_lines, walks_asked}
-use Rattle.pv_model.specs.Perms.{no_permissions, join_permissions}
 use Rattle.pv_laws_answers.proofs.Lists.{map-among}
 use Rattle.pv_laws_schedules.specs.Policy.{joined_new, joined_permissions, newly_asked, permissions_at_words, walks_by_words, TargetLinesAreOfPermissions}
-use Rattle.pv_laws_classes.proofs.Seen.{themselves}
+use Rattle.pv_laws_classes.proofs.SeenProcesses.{themselves}
 
 lines-of : (had : Perms) (ws : List (Observation Judged)) → new_permissions had ws ≡ flat_map (λ l. new_permissions_lines l.0 l.1) (newly_asked had ws)
 lines-of had [] = refl
@@ -25,7 +22,7 @@ all-lines (g ∷ gs) = ap₂ (λ (xs ys : List AnswerLine). xs ++ ys) (lines-of 
 perms-equal : (a b : Perms) → a.r ≡ b.r → a.w ≡ b.w → a.x ≡ b.x → a.c ≡ b.c → a ≡ b
 perms-equal a b r w x c = λ i. record { r = r i; w = w i; x = x i; c = c i }
 
--- what is had, what is new, and what comes later
+-- earlier, new and later permissions
 one : (h w n j : Bool) → ((h || w) || n) ≡ ((h || w) || j) → (h || ((w && not h) || n)) ≡ (h || (w || j))
 one true w n j same = refl
 one false true n j same = refl

@@ -3,29 +3,22 @@ use Rattle.std.proofs.Common.{◌≡◌, ◌≢◌, ◌∙◌, sym, ap, subst, �
 use Rattle.std.specs.List.{list_any}
 use Rattle.std.proofs.lemmas.Bool.{and_parts, not-true}
 use Rattle.std.proofs.lemmas.Bool.Decides.{nat_tests}
-use Rattle.pv_model.specs.Answers.Access.{Access, reads, executes, accesses, file_read, files_read, is_unread, unread_files}
-use Rattle.pv_model.specs.Answers.Explore.{Found, Move, move, moves_of, states_found}
-use Rattle.pv_model.specs.Answers.Files.{named_files}
-use Rattle.pv_model.specs.Answers.Observed.{Observation, observed, observations_at, observations, of_next, of_process, of_calls}
-use Rattle.pv_model.specs.Bytes.{Bytes}
-use Rattle.pv_model.specs.Calls.Paths.{same_node}
-use Rattle.pv_model.specs.Program.{Next}
-use Rattle.pv_model.specs.State.{Program, Process, State, first_state, process_at}
-use Rattle.pv_model.specs.Step.{step, boot, init_program}
-use Rattle.pv_model.specs.Touch.{read_file, Touches}
-use Rattle.pv_model.specs.Tree.{Node, directory_node, file_node, link_node, Tree, root, node_at, find_entry}
-use Rattle.pv_laws_answers.specs.Search.{IsSearched}
+use Rattle.pv_model.specs.Machine.{Access, executes, accesses, Found, Move, move, moves_of, states_found, named_files, Observation, observed, observations, of_next, of_process, of_calls, Bytes, same_node, Next, Program, Process, State, first_state, process_at, step, boot, read_file, Touches, Node, directory_node, file_node, link_node, Tree, root, node_at, find_entry}
+use Rattle.pv_model.specs.Answers.Access.{reads, file_read, files_read, is_unread, unread_files}
+use Rattle.pv_model.specs.Answers.Observed.{observations_at}
+use Rattle.pv_model.specs.Step.{init_program}
+use Rattle.pv_laws_answers.specs.Search.{IsSearchable}
 use Rattle.pv_laws_answers.specs.Unread.{IsReadByNone}
-use Rattle.pv_laws_answers.proofs.Beside.{unread-files}
+use Rattle.pv_laws_answers.proofs.UnreadRuns.{unread-files}
 use Rattle.pv_laws_answers.proofs.Lists.{Among, each-from_among, any-among, among-flat, among-map, filter-among, among-filter_map}
-use Rattle.pv_laws_states.specs.States.{EncodesPrograms, IsValid, is_program}
+use Rattle.pv_laws_states.specs.States.{EncodesPrograms, IsValid, is_program_in_bounds}
 use Rattle.pv_laws_states.proofs.BySteps.{first-whole}
 use Rattle.pv_laws_schedules.specs.Access.{UnreadFilesAreReadByNone, UnreadFilesChangeNothing}
 use Rattle.pv_laws_schedules.proofs.ReadAccess.{IsReadAccess, reads-accessed}
-use Rattle.pv_laws_classes.proofs.Seen.{themselves}
-use Rattle.pv_laws_schedules.proofs.Reached.{own-move}
+use Rattle.pv_laws_classes.proofs.SeenProcesses.{themselves}
+use Rattle.pv_laws_schedules.proofs.ReachedStates.{own-move}
 
-module _ (program_of : Bytes → Option Program) (limit : ℕ) (s : State) (it : IsSearched program_of limit s) where
+module _ (program_of : Bytes → Option Program) (limit : ℕ) (s : State) (it : IsSearchable program_of limit s) where
   -- an access of a step from a visited state that reads a file
   read-listed : (g : Found) → Among g (states_found program_of limit s) → (pid f : ℕ) (p : Process) → process_at g.state pid ≡ Some p
       → (a : Access) → file_read a ≡ Some f → Among a (of_calls accesses g.state pid (step program_of g.state pid)) → Among f (files_read program_of limit s)
@@ -84,23 +77,23 @@ module _ (program_of : Bytes → Option Program) (encodes : EncodesPrograms prog
   abbrev init : Option Node
   init = option_and_then (node_at t) (find_entry t root (codes "init"))
 
-  program-fits : (o : Option Node) (program : Program) → init_program program_of t o ≡ Some program → is_program program ≡ true
-  program-fits None program is = let same : [] ≡ program = cc is in subst (λ p. is_program p ≡ true) same refl
+  program-fits : (o : Option Node) (program : Program) → init_program program_of t o ≡ Some program → is_program_in_bounds program ≡ true
+  program-fits None program is = let same : [] ≡ program = cc is in subst (λ p. is_program_in_bounds p ≡ true) same refl
   program-fits (Some (file_node true code)) program is = encodes.encodes code program is
   program-fits (Some (file_node false code)) program is = cc
   program-fits (Some (directory_node es)) program is = cc
   program-fits (Some (link_node text)) program is = cc
 
-  booted : (s : State) → boot program_of t ≡ Some s → (program : Program) × (s ≡ first_state t program) × (is_program program ≡ true)
+  booted : (s : State) → boot program_of t ≡ Some s → (program : Program) × (s ≡ first_state t program) × (is_program_in_bounds program ≡ true)
   booted s boots = by (init_program program_of t init) refl boots
     where
-      by : (o : Option Program) → init_program program_of t init ≡ o → option_map (first_state t) o ≡ Some s → (program : Program) × (s ≡ first_state t program) × (is_program program ≡ true)
+      by : (o : Option Program) → init_program program_of t init ≡ o → option_map (first_state t) o ≡ Some s → (program : Program) × (s ≡ first_state t program) × (is_program_in_bounds program ≡ true)
       by None none is = cc
       by (Some program) encoded is = let same : first_state t program ≡ s = cc is in (program, sym same, program-fits init program encoded)
 
 pub unread-change_nothing : UnreadFilesChangeNothing
 unread-change_nothing program_of limit t s f bytes encodes room first other long boots complete has =
     let by = booted program_of encodes t s boots in
-    let it : IsSearched program_of limit s = record { encodes = encodes; whole = subst IsValid (sym by.1) (first-whole t by.0 first by.2); room = room } in
+    let it : IsSearchable program_of limit s = record { encodes = encodes; whole = subst IsValid (sym by.1) (first-whole t by.0 first by.2); room = room } in
     let apart = other-node (find_entry t root (codes "init")) f (ap (λ (u : State). same_node (find_entry u.tree root (codes "init")) f) (sym by.1) ∙ (unread-parts program_of limit s it f has).0) in
     unread-files program_of limit t s f bytes encodes room first other long apart boots complete (none-reads program_of limit s it f has)

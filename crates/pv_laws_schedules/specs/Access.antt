@@ -1,27 +1,15 @@
 -- Laws of `access`: the accesses that it lists, and the files that it lists as unread.
-use Rattle.std.specs.Prelude.{◌≡◌, ◌≢◌, ◌⊎◌, ℕ, ◌≤◌, Bool, true, false, IsTrue, List, [], ◌∷◌, ◌++◌, length, codes, Contains, Option, None, Some}
-use Rattle.std.specs.List.{AllByRecursion}
+use Rattle.std.specs.Prelude.{◌≡◌, ◌≢◌, ℕ, ◌≤◌, IsTrue, List, [], ◌∷◌, ◌++◌, length, codes, Contains, Option, None, Some}
+use Rattle.std.specs.List.{AllByRecursion, list_any}
 use Rattle.pv_model.specs.declared.call.Call.{Call}
-use Rattle.pv_model.specs.Answers.Access.{Access, changes_name, opens, touch_of, accesses, access_line, lines_of_accesses, reported_accesses, unread_files}
-use Rattle.pv_model.specs.Answers.Explore.{is_complete}
-use Rattle.pv_model.specs.Answers.Files.{node_brief}
-use Rattle.pv_model.specs.Answers.Lines.{AnswerLine, answer_line, answer_line_bytes}
-use Rattle.pv_model.specs.Answers.Numbers.{Numbers}
-use Rattle.pv_model.specs.Answers.Observed.{Observer, Observation, of_calls}
-use Rattle.pv_model.specs.Bytes.{Bytes}
-use Rattle.pv_model.specs.Calls.Descriptors.{with_content}
-use Rattle.pv_model.specs.Effect.{bytes_of}
-use Rattle.pv_model.specs.Needs.{needs}
-use Rattle.pv_model.specs.Program.{calls_for, next}
-use Rattle.pv_model.specs.Promises.{missing_promise}
-use Rattle.pv_model.specs.State.{Program, Process, State, process_at}
-use Rattle.pv_model.specs.Step.{step, run, boot}
-use Rattle.pv_model.specs.Touch.{read_file, report_node, Justifies, Touches}
-use Rattle.pv_model.specs.Tree.{Tree, node_at}
+use Rattle.pv_model.specs.Machine.{Access, accesses, lines_of_accesses, is_complete, node_brief, AnswerLine, answer_line, answer_line_bytes, Numbers, Observer, Observation, of_calls, Bytes, with_content, bytes_of, needs, calls_for, next, missing_promise, Program, Process, State, process_at, step, run, boot, read_file, change_file, report_node, gain_descriptor, Justifies, Touches, mode_text, Tree, node_at}
+use Rattle.pv_model.specs.Answers.Access.{touch_of, access_line, reported_accesses, unread_files}
+use Rattle.pv_model.specs.Answers.Nodes.{name_words}
+use Rattle.pv_model.specs.Touch.{Touch, change_entry}
 use Rattle.pv_laws_states.specs.States.{EncodesPrograms, IsFirstTree, IsValid}
-use Rattle.pv_laws_answers.specs.Accesses.{is_listed}
-use Rattle.pv_laws_answers.specs.Search.{IsSearched}
-use Rattle.pv_laws_answers.specs.Unread.{IsReadByNone, StartsAlike}
+use Rattle.pv_laws_answers.specs.Accesses.{is_access_listed}
+use Rattle.pv_laws_answers.specs.Search.{IsSearchable}
+use Rattle.pv_laws_answers.specs.Unread.{IsReadByNone, StartsWithOtherBytes}
 use Rattle.pv_laws_answers.specs.Witnesses.{AreSteps, EachToLater}
 
 -- an item is observed of the last step of its witness, and each schedule with such a step is as long
@@ -55,14 +43,14 @@ pub record ListedAccesses (program_of : Bytes → Option Program) (limit : ℕ) 
   pub once : EachToLater (λ o q. answer_line_bytes o.item ≢ answer_line_bytes q.item) (reported_accesses program_of limit s)
 
 abbrev pub ListedAccessesHappen : Type 0
-ListedAccessesHappen = (program_of : Bytes → Option Program) (limit : ℕ) (s : State) → IsSearched program_of limit s → ListedAccesses program_of limit s
+ListedAccessesHappen = (program_of : Bytes → Option Program) (limit : ℕ) (s : State) → IsSearchable program_of limit s → ListedAccesses program_of limit s
 
 -- ---- unread files
 
 -- no step of a live process from a visited state reads a file that is listed as unread
 abbrev pub UnreadFilesAreReadByNone : Type 0
 UnreadFilesAreReadByNone =
-    (program_of : Bytes → Option Program) (limit : ℕ) (s : State) (f : ℕ) → IsSearched program_of limit s → Contains (unread_files program_of limit s) f → IsReadByNone program_of limit s f
+    (program_of : Bytes → Option Program) (limit : ℕ) (s : State) (f : ℕ) → IsSearchable program_of limit s → Contains (unread_files program_of limit s) f → IsReadByNone program_of limit s f
 
 -- if the search is complete, each image that differs only in the bytes of such a file, with equal length, boots and has
 -- the same texts and witnesses
@@ -70,37 +58,33 @@ abbrev pub UnreadFilesChangeNothing : Type 0
 UnreadFilesChangeNothing =
     (program_of : Bytes → Option Program) (limit : ℕ) (t : Tree) (s : State) (f : ℕ) (bytes : Bytes) → EncodesPrograms program_of → 1 ≤ limit
     → IsFirstTree t → IsFirstTree (with_content t f bytes) → length bytes ≡ length (bytes_of (node_at t f))
-    → boot program_of t ≡ Some s → IsTrue (is_complete program_of limit s) → Contains (unread_files program_of limit s) f → StartsAlike program_of limit s t f bytes
+    → boot program_of t ≡ Some s → IsTrue (is_complete program_of limit s) → Contains (unread_files program_of limit s) f → StartsWithOtherBytes program_of limit s t f bytes
 
 -- ---- touches
 
--- if the search is complete, each file that a step of a schedule reads is listed with READ or EXEC for its process
-abbrev pub ReadsAreListed : Type 0
-ReadsAreListed =
-    (program_of : Bytes → Option Program) (limit : ℕ) (s : State) (pids : List ℕ) (pid f : ℕ) → IsSearched program_of limit s → IsTrue (is_complete program_of limit s)
-    → Touches program_of (run program_of pids s).final pid (read_file f)
-    → IsTrue (is_listed (answer_line pid (codes "READ") (node_brief (run program_of pids s).final.tree f)) (reported_accesses program_of limit s))
-    ⊎ IsTrue (is_listed (answer_line pid (codes "EXEC") (node_brief (run program_of pids s).final.tree f)) (reported_accesses program_of limit s))
+-- the lines of the accesses that a touch of a process can be, with the words of the state before the step, or after it for
+-- a new descriptor
+abbrev pub lines_of_touch : State → State → ℕ → Touch → List AnswerLine
+lines_of_touch before after pid (read_file f) = answer_line pid (codes "READ") (node_brief before.tree f) ∷ answer_line pid (codes "EXEC") (node_brief before.tree f) ∷ []
+lines_of_touch before after pid (change_file f) = answer_line pid (codes "WRIT") (node_brief before.tree f) ∷ []
+lines_of_touch before after pid (change_entry d name) = answer_line pid (codes "NAME") (name_words before.tree d name) ∷ []
+lines_of_touch before after pid (report_node n) = answer_line pid (codes "TELL") (node_brief before.tree n) ∷ []
+lines_of_touch before after pid (gain_descriptor n mode) = answer_line pid (codes "OPEN") (mode_text mode ++ codes " " ++ node_brief after.tree n) ∷ []
 
--- and each node that a step reports is listed with TELL
-abbrev pub ReportsAreListed : Type 0
-ReportsAreListed =
-    (program_of : Bytes → Option Program) (limit : ℕ) (s : State) (pids : List ℕ) (pid n : ℕ) → IsSearched program_of limit s → IsTrue (is_complete program_of limit s)
-    → Touches program_of (run program_of pids s).final pid (report_node n)
-    → IsTrue (is_listed (answer_line pid (codes "TELL") (node_brief (run program_of pids s).final.tree n)) (reported_accesses program_of limit s))
+-- if the search is complete, each touch of each step of a schedule is listed with one of these lines
+abbrev pub TouchesAreListed : Type 0
+TouchesAreListed =
+    (program_of : Bytes → Option Program) (limit : ℕ) (s : State) (pids : List ℕ) (pid : ℕ) (touch : Touch) → IsSearchable program_of limit s → IsTrue (is_complete program_of limit s)
+    → Touches program_of (run program_of pids s).final pid touch
+    → IsTrue (list_any (λ line. is_access_listed line (reported_accesses program_of limit s))
+    (lines_of_touch (run program_of pids s).final (step program_of (run program_of pids s).final pid).after pid touch))
 
 -- ---- what justifies an access
 
--- an access to the bytes of a file, or a report of a node
-abbrev pub is_of_node : Access → Bool
-is_of_node (changes_name d name) = false
-is_of_node (opens n mode) = false
-is_of_node access = true
-
--- each access READ, EXEC, WRIT or TELL is justified as the touch that it can be: the promises of its call are held, and a
--- descriptor, or a place that the table allows, leads to the node
+-- each access is justified as the touch that it can be: the promises of its call are held, and a descriptor, or a place that
+-- the table allows, leads to the node or the name
 abbrev pub AccessesAreJustified : Type 0
 AccessesAreJustified =
     (program_of : Bytes → Option Program) (s : State) (pid : ℕ) (p : Process) (call : Call) (a : Access) → IsValid s → process_at s pid ≡ Some p → next p ≡ calls_for call
-    → Contains (accesses s pid p call (step program_of s pid)) a → IsTrue (is_of_node a)
+    → Contains (accesses s pid p call (step program_of s pid)) a
     → (missing_promise p.promises (needs call) ≡ None) × Justifies s p call (touch_of a)

@@ -1,17 +1,9 @@
 -- Laws of `exposure`: the lines of each program at which a process is not closed to a file.
 use Rattle.std.specs.Prelude.{◌≡◌, ℕ, ◌≤◌, IsTrue, List, flat_map, Contains, Option, Some}
-use Rattle.pv_model.specs.Answers.Explore.{Found, states_found, is_complete}
-use Rattle.pv_model.specs.Answers.Exposure.{Located, located, program_key, Leak, leaks_at, line_of, greatest_line, last_leak, in_ranges, lines_leaking, safe_files}
-use Rattle.pv_model.specs.Answers.Files.{node_brief, is_file_at, files_of_tree}
-use Rattle.pv_model.specs.Answers.Nodes.{first_of}
-use Rattle.pv_model.specs.Answers.Observed.{groups}
-use Rattle.pv_model.specs.Bytes.{Bytes}
+use Rattle.pv_model.specs.Machine.{Found, states_found, is_complete, Located, program_key, in_ranges, node_brief, is_file_at, files_of_tree, first_of, groups, Bytes, leaks as leaks_of, Program, Process, State, process_at, run, Tree, IsWellFormed}
+use Rattle.pv_model.specs.Answers.Exposure.{located, Leak, leaks_at, line_of, greatest_line, last_leak, lines_leaking, safe_files}
 use Rattle.pv_model.specs.Closed.{IsClosed}
-use Rattle.pv_model.specs.Sealed.{leaks as leaks_of}
-use Rattle.pv_model.specs.State.{Program, Process, State, process_at}
-use Rattle.pv_model.specs.Step.{run}
-use Rattle.pv_model.specs.Tree.{Tree, IsWellFormed}
-use Rattle.pv_laws_answers.specs.Search.{IsSearched}
+use Rattle.pv_laws_answers.specs.Search.{IsSearchable}
 use Rattle.pv_laws_answers.specs.Witnesses.{AreSteps, IsWitness}
 
 -- the leaks of each file, by its description
@@ -34,8 +26,8 @@ pub record IsListedIn (found : List Found) (program : Program) (file : Bytes) (l
 
 module _ (program_of : Bytes → Option Program) (limit : ℕ) (s : State) where
   -- the programs, each with its processes in all visited states
-  abbrev pub programs : List (Located × List Located)
-  programs = groups program_key (located (states_found program_of limit s))
+  abbrev pub located_programs : List (Located × List Located)
+  located_programs = groups program_key (located (states_found program_of limit s))
 
   abbrev pub IsListedLeak : Program → Bytes → ℕ → Type 0
   IsListedLeak = IsListedIn (states_found program_of limit s)
@@ -58,22 +50,22 @@ module _ (program_of : Bytes → Option Program) (limit : ℕ) (s : State) where
 -- of a file is closed to it
 abbrev pub UnlistedLinesAreClosed : Type 0
 UnlistedLinesAreClosed =
-    (program_of : Bytes → Option Program) (limit : ℕ) (s : State) (pids : List ℕ) (pid : ℕ) (p : Process) (f : ℕ) → IsSearched program_of limit s → IsTrue (is_complete program_of limit s)
+    (program_of : Bytes → Option Program) (limit : ℕ) (s : State) (pids : List ℕ) (pid : ℕ) (p : Process) (f : ℕ) → IsSearchable program_of limit s → IsTrue (is_complete program_of limit s)
     → process_at (run program_of pids s).final pid ≡ Some p → Contains (files_of_tree (run program_of pids s).final.tree) f
     → ¬ IsListedLeak program_of limit s p.program (node_brief (run program_of pids s).final.tree f) p.line → IsClosed (run program_of pids s).final p f
 
 -- each listed line leaks in some schedule, whether the search is complete or not
 abbrev pub ListedLinesLeak : Type 0
 ListedLinesLeak =
-    (program_of : Bytes → Option Program) (limit : ℕ) (s : State) (program : Program) (file : Bytes) (line : ℕ) → IsSearched program_of limit s
+    (program_of : Bytes → Option Program) (limit : ℕ) (s : State) (program : Program) (file : Bytes) (line : ℕ) → IsSearchable program_of limit s
     → IsListedLeak program_of limit s program file line → IsLeak program_of limit s program file line
 
 -- if the search is complete, in every schedule each process of a program is closed to each file that is listed as safe
 -- for it, if its number is still that of a file
 abbrev pub SafeFilesAreClosed : Type 0
 SafeFilesAreClosed =
-    (program_of : Bytes → Option Program) (limit : ℕ) (s : State) (group : Located × List Located) (f : ℕ) (pids : List ℕ) (pid : ℕ) (p : Process) → IsSearched program_of limit s
-    → IsTrue (is_complete program_of limit s) → Contains (programs program_of limit s) group → Contains (safe_files program_of limit s group.1) f
+    (program_of : Bytes → Option Program) (limit : ℕ) (s : State) (group : Located × List Located) (f : ℕ) (pids : List ℕ) (pid : ℕ) (p : Process) → IsSearchable program_of limit s
+    → IsTrue (is_complete program_of limit s) → Contains (located_programs program_of limit s) group → Contains (safe_files program_of limit s group.1) f
     → process_at (run program_of pids s).final pid ≡ Some p → p.program ≡ group.0.process.program → IsTrue (is_file_at (run program_of pids s).final.tree f)
     → IsClosed (run program_of pids s).final p f
 
@@ -92,8 +84,8 @@ pub record IsWitnessed (program_of : Bytes → Option Program) (s : State) (leak
 
 abbrev pub WitnessesLeak : Type 0
 WitnessesLeak =
-    (program_of : Bytes → Option Program) (limit : ℕ) (s : State) (group : Located × List Located) (leaks : Leak × List Leak) → IsSearched program_of limit s
-    → Contains (programs program_of limit s) group → Contains (leaks_by_file group.1) leaks → IsWitnessed program_of s leaks
+    (program_of : Bytes → Option Program) (limit : ℕ) (s : State) (group : Located × List Located) (leaks : Leak × List Leak) → IsSearchable program_of limit s
+    → Contains (located_programs program_of limit s) group → Contains (leaks_by_file group.1) leaks → IsWitnessed program_of s leaks
 
 -- the files of a tree, named or held, are all its files: so the laws above are about each file of a state
 abbrev pub EachFileIsListed : Type 0

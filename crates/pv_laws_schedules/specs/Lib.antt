@@ -2,6 +2,9 @@ pub mod Compare
 pub mod Access
 pub mod Exposure
 pub mod Policy
+pub mod GrantedPolicy
+pub mod ReducedAccess
 pub mod ReducedExposure
 pub mod ReducedPolicy
+pub mod Idle
 pub mod ReducedRuns

@@ -8,79 +8,66 @@ use Rattle.pv_model.specs.declared.outcome.Cause.TheVariants.{Unveil as ByUnveil
 use Rattle.pv_model.specs.declared.outcome.Outcome.TheVariants.{Failed}
 use Rattle.pv_model.specs.declared.perms.Perms.{Perms}
 use Rattle.pv_model.specs.declared.target.Target.{Target}
-use Rattle.pv_model.specs.Answer.{answer}
-use Rattle.pv_model.specs.Answers.Explain.{need_text, permissions_lacked}
-use Rattle.pv_model.specs.Answers.Explore.{is_complete, by_line}
-use Rattle.pv_model.specs.Answers.Lines.{AnswerLine, answer_line}
-use Rattle.pv_model.specs.Answers.Needs.{Judged}
-use Rattle.pv_model.specs.Answers.Nodes.{first_of, target_words}
-use Rattle.pv_model.specs.Answers.Observed.{Observation, groups}
-use Rattle.pv_model.specs.Answers.Policy.{Request, Requests, program_key, requests, needs_with, promises_in_use, with_need, promise_lines, walks_asked, new_permissions_lines, target_lines}
-use Rattle.pv_model.specs.Bytes.{Bytes}
-use Rattle.pv_model.specs.Perms.{no_permissions, join_permissions, covers}
-use Rattle.pv_model.specs.Program.{calls_for, next}
-use Rattle.pv_model.specs.Promises.{Promises, Need, is_met}
-use Rattle.pv_model.specs.State.{Program, Process, State, process_at}
-use Rattle.pv_model.specs.Step.{step, run}
-use Rattle.pv_model.specs.Tree.{Tree}
-use Rattle.pv_model.specs.Unveil.{Table, same_target, permissions_at}
-use Rattle.pv_laws_states.specs.Courses.{is_unveil}
+use Rattle.pv_model.specs.Machine.{answer, permissions_lacked, is_complete, AnswerLine, answer_line, Judged, first_of, target_words, Observation, groups, is_unveil, Request, Requests, Bytes, no_permissions, join_permissions, covers, calls_for, next, Promises, Need, is_met, Program, Process, State, process_at, step, run, Tree, Table, same_target, permissions_at}
+use Rattle.pv_model.specs.Answers.Explain.{need_text}
+use Rattle.pv_model.specs.Answers.Explore.{by_line}
+use Rattle.pv_model.specs.Answers.Policy.{program_key, requests, needs_with, promises_in_use, with_need, promise_lines, walks_asked, new_permissions_lines, target_lines}
 use Rattle.pv_laws_answers.specs.ProcessImages.{with_promises, with_own_table, governing_target, GivesAt}
-use Rattle.pv_laws_answers.specs.Search.{IsSearched}
+use Rattle.pv_laws_answers.specs.Search.{IsSearchable}
 use Rattle.pv_laws_answers.specs.Wanted.{reports_need, reports_of_table}
 use Rattle.pv_laws_answers.specs.Witnesses.{AreSteps}
 
 -- ---- the listed promises
 
 -- a listed need, with the first call that has it
-abbrev pub Listed : Type 0
-Listed = Need × Observation Request
+abbrev pub ListedNeed : Type 0
+ListedNeed = Need × Observation Request
 
 -- the first of some needs that a call has
-abbrev pub listed_or : Option Listed → Need → Option (Observation Request) → Option Listed
+abbrev pub listed_or : Option ListedNeed → Need → Option (Observation Request) → Option ListedNeed
 listed_or rest need None = rest
 listed_or rest need (Some r) = Some (need, r)
 
-abbrev pub first_listed : Requests → List Need → Option Listed
+abbrev pub first_listed : Requests → List Need → Option ListedNeed
 first_listed rs [] = None
 first_listed rs (need ∷ others) = listed_or (first_listed rs others) need (first_of (with_need rs need))
 
 -- the listed needs of a program: for each promise the promise itself if a call needs it, or else the alternatives that
 -- begin with it if a call needs these
-abbrev pub needs_listed : Requests → List Listed
+abbrev pub needs_listed : Requests → List ListedNeed
 needs_listed rs = filter_map (λ p. first_listed rs (needs_with p)) promises_in_use
 
-abbrev pub listed_lines : Listed → List AnswerLine
-listed_lines (need, r) =
+abbrev pub lines_of_need : ListedNeed → List AnswerLine
+lines_of_need (need, r) =
     by_line r.move ∷ answer_line r.move.pid (codes "PLDG") (need_text need ++ codes ", line " ++ decimal r.item.asked.line) ∷ []
 
 -- the lines PLDG of a program are those of its listed needs
 abbrev pub PromiseLinesAreOfNeeds : Type 0
-PromiseLinesAreOfNeeds = (rs : Requests) → promise_lines rs ≡ flat_map listed_lines (needs_listed rs)
+PromiseLinesAreOfNeeds = (rs : Requests) → promise_lines rs ≡ flat_map lines_of_need (needs_listed rs)
 
 -- the promises meet all listed needs
 abbrev pub MeetsAll : Promises → Requests → Type 0
-MeetsAll set rs = (l : Listed) → Contains (needs_listed rs) l → IsTrue (is_met (Some set) l.0)
+MeetsAll set rs = (l : ListedNeed) → Contains (needs_listed rs) l → IsTrue (is_met (Some set) l.0)
 
 -- the programs, each with its calls
-abbrev pub programs : (Bytes → Option Program) → ℕ → State → List (Observation Request × Requests)
-programs program_of limit s = groups program_key (requests program_of limit s)
+abbrev pub calling_programs : (Bytes → Option Program) → ℕ → State → List (Observation Request × Requests)
+calling_programs program_of limit s = groups program_key (requests program_of limit s)
 
 -- ---- the laws
 
 -- if the search is complete, each program that makes a call in some schedule is listed
 abbrev pub CallingProgramsAreListed : Type 0
 CallingProgramsAreListed =
-    (program_of : Bytes → Option Program) (limit : ℕ) (s : State) (pids : List ℕ) (pid : ℕ) (p : Process) (call : Call) → IsSearched program_of limit s → IsTrue (is_complete program_of limit s)
+    (program_of : Bytes → Option Program) (limit : ℕ) (s : State) (pids : List ℕ) (pid : ℕ) (p : Process) (call : Call) → IsSearchable program_of limit s → IsTrue (is_complete program_of limit s)
     → process_at (run program_of pids s).final pid ≡ Some p → next p ≡ calls_for call
-    → (group : Observation Request × Requests) × Contains (programs program_of limit s) group × (group.0.item.process.program ≡ p.program)
+    → (group : Observation Request × Requests) × Contains (calling_programs program_of limit s) group × (group.0.item.process.program ≡ p.program)
 
 -- if the search is complete, no step of a program in any schedule lacks a promise, if it is made with promises that meet
 -- all needs that are listed for the program
-abbrev pub ListedPromisesAreEnough : Type 0
-ListedPromisesAreEnough =
-    (program_of : Bytes → Option Program) (limit : ℕ) (s : State) (group : Observation Request × Requests) (pids : List ℕ) (pid : ℕ) (p : Process) (set : Promises) → IsSearched program_of limit s
-    → IsTrue (is_complete program_of limit s) → Contains (programs program_of limit s) group → process_at (run program_of pids s).final pid ≡ Some p → p.program ≡ group.0.item.process.program
+abbrev pub PolicyPromisesAreEnough : Type 0
+PolicyPromisesAreEnough =
+    (program_of : Bytes → Option Program) (limit : ℕ) (s : State) (group : Observation Request × Requests) (pids : List ℕ) (pid : ℕ) (p : Process) (set : Promises) → IsSearchable program_of limit s
+    → IsTrue (is_complete program_of limit s) → Contains (calling_programs program_of limit s) group → process_at (run program_of pids s).final pid ≡ Some p → p.program ≡ group.0.item.process.program
     → MeetsAll set group.1 → IsFalse (reports_need (step program_of (with_promises (run program_of pids s).final pid set) pid).lines)
 
 -- a step at the end of its witness lacks a promise if it is made with these promises
@@ -92,10 +79,10 @@ pub record IsRefusedWith (program_of : Bytes → Option Program) (s : State) (se
 
 -- with promises that do not meet a listed need, the last step of its witness lacks a promise, whether the search is
 -- complete or not
-abbrev pub ListedPromisesAreNeeded : Type 0
-ListedPromisesAreNeeded =
-    (program_of : Bytes → Option Program) (limit : ℕ) (s : State) (group : Observation Request × Requests) (l : Listed) (set : Promises) → IsSearched program_of limit s
-    → Contains (programs program_of limit s) group → Contains (needs_listed group.1) l → IsFalse (is_met (Some set) l.0) → IsRefusedWith program_of s set l.1
+abbrev pub PolicyPromisesAreNeeded : Type 0
+PolicyPromisesAreNeeded =
+    (program_of : Bytes → Option Program) (limit : ℕ) (s : State) (group : Observation Request × Requests) (l : ListedNeed) (set : Promises) → IsSearchable program_of limit s
+    → Contains (calling_programs program_of limit s) group → Contains (needs_listed group.1) l → IsFalse (is_met (Some set) l.0) → IsRefusedWith program_of s set l.1
 
 -- ---- the listed permissions
 
@@ -120,7 +107,7 @@ GivesAsked rs t table target = IsTrue (asks_at_words rs (target_words t target))
 abbrev pub ListedPermissionsAreEnough : Type 0
 ListedPermissionsAreEnough =
     (program_of : Bytes → Option Program) (limit : ℕ) (s : State) (group : Observation Request × Requests) (pids : List ℕ) (pid : ℕ) (p : Process) (call : Call) (table : Table)
-    → IsSearched program_of limit s → IsTrue (is_complete program_of limit s) → Contains (programs program_of limit s) group
+    → IsSearchable program_of limit s → IsTrue (is_complete program_of limit s) → Contains (calling_programs program_of limit s) group
     → process_at (run program_of pids s).final pid ≡ Some p → p.program ≡ group.0.item.process.program → next p ≡ calls_for call → IsFalse (is_unveil call)
     → ((target : Target) → GivesAsked group.1 (run program_of pids s).final.tree table target)
     → IsTrue (reports_of_table (step program_of (with_own_table (run program_of pids s).final pid table) pid).lines)
@@ -137,7 +124,7 @@ pub record GivesAskedBut (rs : Requests) (t : Tree) (table : Table) (target : Ta
 abbrev pub ListedPermissionsAreNeeded : Type 0
 ListedPermissionsAreNeeded =
     (program_of : Bytes → Option Program) (limit : ℕ) (s : State) (group : Observation Request × Requests) (r : Observation Request) (w : Judged) (table : Table) (permission : Perms) (k : ℕ)
-    → IsSearched program_of limit s → Contains (programs program_of limit s) group → Contains group.1 r → Contains r.item.asked.walks w → IsTrue (covers w.permissions permission)
+    → IsSearchable program_of limit s → Contains (calling_programs program_of limit s) group → Contains group.1 r → Contains r.item.asked.walks w → IsTrue (covers w.permissions permission)
     → GivesAskedBut group.1 r.item.before.tree table w.target permission k
     → (answer program_of (with_own_table r.item.before r.move.pid table) r.move.pid r.item.call).outcome ≡ Failed EACCES (ByUnveil (Some k))
 

@@ -2,11 +2,8 @@
 use Rattle.std.specs.Prelude.{◌≡◌, true, IsTrue, List, [], ◌∷◌, ◌++◌, flat_map, codes, length, pos}
 use Rattle.pv_model.specs.declared.instruction.Instruction.TheVariants.{Set, Fork, Mkdir, Open}
 use Rattle.pv_model.specs.declared.open_flags.Mode.TheVariants.{ReadWrite}
-use Rattle.pv_model.specs.Answers.Explore.{states_found, is_complete}
-use Rattle.pv_model.specs.Answers.Lines.{answer_bytes}
-use Rattle.pv_model.specs.Bytes.{Bytes}
-use Rattle.pv_model.specs.State.{State}
-use Rattle.pv_laws_steps.specs.CommuteExamples.{no_programs, state_after, flags}
+use Rattle.pv_model.specs.Machine.{states_found, is_complete, answer_bytes, Bytes, State}
+use Rattle.pv_laws_states.specs.ExampleStates.{no_programs, state_after, flags}
 use Rattle.pv_laws_classes.specs.ReducedAnswers.{reduced_access_lines, reduced_policy_lines, reduced_exposure_lines}
 
 -- a process has an empty file open; it forks, and both processes set a register and make the same directory
@@ -14,12 +11,12 @@ abbrev pub file_open : State
 file_open = state_after (Open (codes "/x") (flags ReadWrite true) ∷ Fork ∷ Set 1 (pos 5) ∷ Mkdir (codes "/d") ∷ []) (1 ∷ [])
 
 -- lines, each with the byte that ends it
-abbrev pub text_of : List Bytes → Bytes
-text_of lines = flat_map (λ l. l ++ 10 ∷ []) lines
+abbrev pub joined_lines : List Bytes → Bytes
+joined_lines lines = flat_map (λ l. l ++ 10 ∷ []) lines
 
-abbrev pub access_text : Bytes
-access_text =
-    text_of (
+abbrev pub reduced_access_text : Bytes
+reduced_access_text =
+    joined_lines (
     codes "    1 BY    1 3"
     ∷ codes "    1 NAME  \"/d\""
     ∷ codes "    2 BY    1 1, 2 2"
@@ -29,9 +26,9 @@ access_text =
     ∷ []
     )
 
-abbrev pub policy_text : Bytes
-policy_text =
-    text_of (
+abbrev pub reduced_policy_text : Bytes
+reduced_policy_text =
+    joined_lines (
     codes "    0 PROG  1, no file"
     ∷ codes "    1 BY    1 3"
     ∷ codes "    1 PLDG  cpath, line 4"
@@ -45,9 +42,9 @@ policy_text =
     ∷ []
     )
 
-abbrev pub exposure_text : Bytes
-exposure_text =
-    text_of (
+abbrev pub reduced_exposure_text : Bytes
+reduced_exposure_text =
+    joined_lines (
     codes "    0 PROG  1, no file"
     ∷ codes "    1 BY    1 3"
     ∷ codes "    1 LEAK  \"/x\", lines 2-5, reads descriptor 0"
@@ -58,6 +55,6 @@ exposure_text =
 pub record ReducedTexts : Type 0 where
   pub complete : IsTrue (is_complete no_programs 30 file_open)
   pub states : length (states_found no_programs 30 file_open) ≡ 20
-  pub access : answer_bytes (reduced_access_lines no_programs 30 file_open) ≡ access_text
-  pub policy : answer_bytes (reduced_policy_lines no_programs 30 file_open) ≡ policy_text
-  pub exposure : answer_bytes (reduced_exposure_lines no_programs 30 file_open) ≡ exposure_text
+  pub access : answer_bytes (reduced_access_lines no_programs 30 file_open) ≡ reduced_access_text
+  pub policy : answer_bytes (reduced_policy_lines no_programs 30 file_open) ≡ reduced_policy_text
+  pub exposure : answer_bytes (reduced_exposure_lines no_programs 30 file_open) ≡ reduced_exposure_text

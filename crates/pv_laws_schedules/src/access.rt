@@ -1,20 +1,16 @@
 //! Laws of the accesses of a search, and of the files that no step reads.
 
-ghost use Rattle.pv_laws_schedules.specs.Access.{AccessesAreJustified, ListedAccessesHappen, ReadsAreListed, ReportsAreListed, UnreadFilesAreReadByNone, UnreadFilesChangeNothing};
+ghost use Rattle.pv_laws_schedules.specs.Access.{AccessesAreJustified, ListedAccessesHappen, TouchesAreListed, UnreadFilesAreReadByNone, UnreadFilesChangeNothing};
 
 /// Each listed access is one of the last step of its witness, and no shorter schedule has it.
 pub fn listed_accesses_happen()
     ensures { ListedAccessesHappen }
 {}
 
-/// If a search is complete, each file that a step of a schedule reads is listed with READ or EXEC for its process.
-pub fn reads_are_listed()
-    ensures { ReadsAreListed }
-{}
-
-/// If a search is complete, each node that a step of a schedule reports is listed with TELL for its process.
-pub fn reports_are_listed()
-    ensures { ReportsAreListed }
+/// If a search is complete, each touch of each step of a schedule is listed for its process: a read of a file with READ or
+/// EXEC, a change of a file with WRIT, of an entry with NAME, a report of a node with TELL, a new descriptor with OPEN.
+pub fn touches_are_listed()
+    ensures { TouchesAreListed }
 {}
 
 /// No step from a visited state reads a file that is listed as unread.
@@ -28,7 +24,8 @@ pub fn unread_files_change_nothing()
     ensures { UnreadFilesChangeNothing }
 {}
 
-/// Each access READ, EXEC, WRIT or TELL of a step is justified as the touch that it can be.
+/// Each access of a step is justified as the touch that it can be: by the promises that its call needs, and by a descriptor, or
+/// a place that the table allows.
 pub fn accesses_are_justified()
     ensures { AccessesAreJustified }
 {}

@@ -2,7 +2,7 @@
 
 ghost use Rattle.pv_laws_schedules.specs.Compare.{ItselfIsAlike, DifferencesAreShortest, AlikeRunsAlike};
 
-/// An image beside itself is never different.
+/// An image never differs from itself.
 pub fn itself_is_alike()
     ensures { ItselfIsAlike }
 {}

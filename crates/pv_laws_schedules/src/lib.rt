@@ -6,15 +6,17 @@
 //! - `compare`: two images with the same programs.
 //! - `access`: which process can access what, and the files that no step reads.
 //! - `exposure`: the lines of a program at which a process is not closed to a file.
-//! - `policy`: the promises and permissions that a program needs.
-//! - `reduced_exposure`, `reduced_policy`: the same of both by the reduced search.
+//! - `policy`: the promises and permissions that a program needs; `granted_policy`: those that its granted calls need.
+//! - `reduced_access`, `reduced_exposure`, `reduced_policy`: the same by the reduced search.
 //! - `reduced_runs`: worked runs of the texts by the reduced search.
 #![tactic(auto)]
 
 pub mod access;
 pub mod compare;
 pub mod exposure;
+pub mod granted_policy;
 pub mod policy;
+pub mod reduced_access;
 pub mod reduced_exposure;
 pub mod reduced_policy;
 pub mod reduced_runs;

@@ -1,6 +1,7 @@
 //! Laws of the promises and permissions that a program needs.
 
-ghost use Rattle.pv_laws_schedules.specs.Policy.{PromiseLinesAreOfNeeds, CallingProgramsAreListed, ListedPromisesAreEnough, ListedPromisesAreNeeded, ListedPermissionsAreEnough, ListedPermissionsAreNeeded, TargetLinesAreOfPermissions};
+ghost use Rattle.pv_laws_schedules.specs.Idle.{IdlePromisesAreIdle};
+ghost use Rattle.pv_laws_schedules.specs.Policy.{PromiseLinesAreOfNeeds, CallingProgramsAreListed, PolicyPromisesAreEnough, PolicyPromisesAreNeeded, ListedPermissionsAreEnough, ListedPermissionsAreNeeded, TargetLinesAreOfPermissions};
 
 /// The lines about promises of a program are those of its listed needs, each with the first call that has it.
 pub fn promise_lines_are_of_needs()
@@ -15,12 +16,12 @@ pub fn calling_programs_are_listed()
 /// If a search is complete, no step of a program in any schedule lacks a promise, if it is made with promises that meet
 /// all needs that are listed for the program.
 pub fn listed_promises_are_enough()
-    ensures { ListedPromisesAreEnough }
+    ensures { PolicyPromisesAreEnough }
 {}
 
 /// With promises that do not meet a listed need, the last step of its witness lacks a promise.
 pub fn listed_promises_are_needed()
-    ensures { ListedPromisesAreNeeded }
+    ensures { PolicyPromisesAreNeeded }
 {}
 
 /// The lines about targets of a program are those of the permissions newly asked at each target in words, which are
@@ -29,9 +30,8 @@ pub fn target_lines_are_of_permissions()
     ensures { TargetLinesAreOfPermissions }
 {}
 
-/// If a search is complete, no call of a program in any schedule has an UNVL line of a check, if it is made with a table
-/// that gives all permissions that are listed for the program; except for a second walk whose call was refused at the
-/// first.
+/// If a search is complete, no call of a listed program in any schedule, made with a table that gives all permissions
+/// listed for the program, has an UNVL line of a check, except at a second walk whose call was refused at the first.
 pub fn listed_permissions_are_enough()
     ensures { ListedPermissionsAreEnough }
 {}
@@ -39,4 +39,10 @@ pub fn listed_permissions_are_enough()
 /// If the entry that governs a target lacks a permission that a call asked there, this entry refuses the call.
 pub fn listed_permissions_are_needed()
     ensures { ListedPermissionsAreNeeded }
+{}
+
+/// If a search is complete, each step of a listed program in any schedule, other than pledge, has the same lines if it is
+/// made without the promises listed as idle, and the next state differs only in promises.
+pub fn idle_promises_are_idle()
+    ensures { IdlePromisesAreIdle }
 {}

@@ -5,13 +5,7 @@ use Rattle.pv_model.specs.declared.errno.Errno.TheVariants.{EFBIG, ENOSPC}
 use Rattle.pv_model.specs.declared.perms.Perms.{Perms}
 use Rattle.pv_model.specs.declared.place.Place.{Place}
 use Rattle.pv_model.specs.declared.follow.Follow.{Follow}
-use Rattle.pv_model.specs.Attempt.{Attempt, done, refused, after_walks, ◌>>=◌, ◌>>◌, give, refuse_if, demand}
-use Rattle.pv_model.specs.Bytes.{Bytes}
-use Rattle.pv_model.specs.Effect.{place_or_refusal, walk_from, judge_for, with_room}
-use Rattle.pv_model.specs.Held.{collect}
-use Rattle.pv_model.specs.Room.{is_too_long, fits}
-use Rattle.pv_model.specs.State.{Process, State}
-use Rattle.pv_model.specs.Walk.{resolve}
+use Rattle.pv_model.specs.Machine.{Attempt, done, refused, after_walks, ◌>>=◌, ◌>>◌, give, refuse_if, demand, Bytes, place_or_refusal, walk_from, judge_for, with_room, collect, is_too_long, fits, Process, State, resolve}
 use Rattle.std.specs.Prelude.{not}
 
 -- the value, if there is one, has a property

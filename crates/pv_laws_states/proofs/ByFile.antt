@@ -9,23 +9,18 @@ use Rattle.pv_model.specs.declared.open_flags.Mode.{Mode}
 use Rattle.pv_model.specs.declared.errno.Errno.TheVariants.{EBADF, EINVAL, EISDIR}
 use Rattle.pv_model.specs.declared.version.Version.{Version}
 use Rattle.pv_model.specs.declared.version.Version.TheVariants.{V1, V2}
-use Rattle.pv_model.specs.Attempt.{Attempt, ◌>>=◌, ◌>>◌, refuse_if, demand}
-use Rattle.pv_model.specs.Bytes.{Bytes}
-use Rattle.pv_model.specs.Calls.Descriptors.{within, if_mode, is_past, next_name, open_file_for, read, seek_base, lseek, list_name, getdents}
-use Rattle.pv_model.specs.Effect.{Effect, answers, answers_bytes, descriptor_at, open_file, open_file_of, with_file, bytes_of}
-use Rattle.pv_model.specs.Numbered.{at_number, with_number}
-use Rattle.pv_model.specs.State.{OpenFile, Descriptor, Process, State, reads}
-use Rattle.pv_model.specs.Tree.{Entries, Node, directory_node, file_node, link_node, Tree, greatest_name, node_at, entries_of, entries_at, is_directory_at, is_name, is_name_byte}
-use Rattle.pv_laws_states.specs.States.{is_byte, are_bytes, IsOpenFile, is_listed, AreFiles, IsValid}
+use Rattle.pv_model.specs.Machine.{Attempt, ◌>>=◌, ◌>>◌, refuse_if, demand, Bytes, within, is_past, next_name, open_file_for, read, seek_base, lseek, list_name, getdents, Effect, answers, answers_bytes, descriptor_at, open_file, open_file_of, with_file, bytes_of, at_number, with_number, OpenFile, Descriptor, Process, State, reads, Entries, Node, directory_node, file_node, link_node, Tree, greatest_name, node_at, entries_of, entries_at, is_directory_at, is_name, is_name_byte}
+use Rattle.pv_model.specs.Calls.Descriptors.{if_mode}
+use Rattle.pv_laws_states.specs.States.{is_byte, are_bytes, IsOpenFile, is_listed_name, AreFiles, IsValid}
 use Rattle.pv_laws_states.proofs.Attempts.{Leads, leads-refuse_if, leads-demand}
 use Rattle.pv_laws_states.proofs.ByProcess.{within-limit}
 use Rattle.pv_laws_trees.proofs.Changes.{entries-good}
 use Rattle.pv_laws_trees.proofs.Numbered.{at_number-below, length-with_number, with_number-same, with_number-other}
 use Rattle.pv_laws_states.proofs.Replies.{IsEffect}
 use Rattle.pv_laws_trees.proofs.Rooms.{length-within, greatest-low}
-use Rattle.pv_laws_states.proofs.Running.{IsReady, list_all-take, list_all-drop}
-use Rattle.pv_laws_states.proofs.Present.{ready, carries-self, solid-present}
-use Rattle.pv_laws_states.proofs.Whole.{has_room, solid}
+use Rattle.pv_laws_states.proofs.ProcessInsides.{IsReady, list_all-take, list_all-drop}
+use Rattle.pv_laws_states.proofs.ChangedStates.{ready, carries-self, solid-present}
+use Rattle.pv_laws_states.proofs.ValidStates.{has_room, solid}
 
 abbrev numbered_file : ℕ → OpenFile → Option (ℕ × OpenFile)
 numbered_file k f = Some (k, f)
@@ -99,7 +94,7 @@ names-of : (test : Bytes → Bool) (es : Entries) → list_all (λ e. test e.0) 
 names-of test [] all = refl
 names-of test (e ∷ es) all = let parts = and_parts (test e.0) (list_all (λ e. test e.0) es) all in and_from (test e.0) _ parts.0 (names-of test es parts.1)
 
-pub next-listed : (s : State) → IsValid s → (d : ℕ) (last : Option Bytes) (name : Bytes) → next_name last (entries_at s.tree d) ≡ Some name → is_listed s.tree.version (Some name) ≡ true
+pub next-listed : (s : State) → IsValid s → (d : ℕ) (last : Option Bytes) (name : Bytes) → next_name last (entries_at s.tree d) ≡ Some name → is_listed_name s.tree.version (Some name) ≡ true
 next-listed s whole d last name is =
     find-list_all (is_past last) (λ name. is_name s.tree.version name && are_bytes name) (map (λ e. e.0) (entries_at s.tree d)) name
     (names-of (λ name. is_name s.tree.version name && are_bytes name) (entries_at s.tree d)

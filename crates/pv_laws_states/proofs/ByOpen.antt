@@ -6,18 +6,8 @@ use Rattle.pv_model.specs.declared.call.Start.TheVariants.{WorkingDirectory}
 use Rattle.pv_model.specs.declared.errno.Errno.TheVariants.{EEXIST, ENOENT, ENOTDIR, EISDIR, EINVAL, ENFILE, EMFILE, ELOOP}
 use Rattle.pv_model.specs.declared.open_flags.OpenFlags.{OpenFlags}
 use Rattle.pv_model.specs.declared.place.Place.{Place}
-use Rattle.pv_model.specs.Attempt.{Attempt, ◌>>=◌, ◌>>◌, refuse_if}
-use Rattle.pv_model.specs.Bytes.{Bytes}
-use Rattle.pv_model.specs.Calls.Descriptors.{is_link, contradicts, with_content, new_open_file, open_node, open_here, check_start, open_at}
-use Rattle.pv_model.specs.Effect.{Effect, answers, start_directory, walk_from, judge_for, with_room, node_of, name_of}
-use Rattle.pv_model.specs.Held.{among, held_by_process}
-use Rattle.pv_model.specs.Needs.{permissions_of_open}
-use Rattle.pv_model.specs.Numbered.{Numbered, at_number, with_number, least_free}
-use Rattle.pv_model.specs.Room.{fits}
-use Rattle.pv_model.specs.Sealed.{is_file}
-use Rattle.pv_model.specs.State.{OpenFile, Descriptor, Process, State, writes, process_at, with_process}
-use Rattle.pv_model.specs.Tree.{Node, directory_node, file_node, link_node, Tree, node_at, is_directory, is_directory_at, new_number, with_node, with_new_node}
-use Rattle.pv_model.specs.Walks.{follow_of}
+use Rattle.pv_model.specs.Machine.{Attempt, ◌>>=◌, ◌>>◌, refuse_if, Bytes, is_link, contradicts, with_content, new_open_file, open_node, check_start, open_at, Effect, answers, start_directory, walk_from, judge_for, with_room, node_of, name_of, among, held_by_process, permissions_of_open, Numbered, at_number, with_number, least_free, fits, is_file, OpenFile, Descriptor, Process, State, writes, process_at, with_process, Node, directory_node, file_node, link_node, Tree, node_at, is_directory, is_directory_at, new_number, with_node, with_new_node, follow_of}
+use Rattle.pv_model.specs.Calls.Descriptors.{open_here}
 use Rattle.pv_laws_states.specs.Held.{used}
 use Rattle.pv_laws_states.specs.States.{is_text, IsTree, IsOpenFile, AreFiles, IsSolid, IsValid}
 use Rattle.pv_laws_states.proofs.Attempts.{Leads, leads-after_walks, leads-following, leads-refuse_if, leads-then, leads-place, leads-room}
@@ -25,15 +15,15 @@ use Rattle.pv_laws_states.proofs.ByProcess.{with-opens}
 use Rattle.pv_laws_states.proofs.ByTree.{FineName, named-place, place-there, tree-new}
 use Rattle.pv_laws_trees.proofs.Changes.{node_at-same, node_at-other, directory-below}
 use Rattle.pv_laws_trees.proofs.Edits.{new_number-free}
-use Rattle.pv_laws_states.proofs.Grown.{tree-content, carries-content, new-below}
+use Rattle.pv_laws_states.proofs.GrownTrees.{tree-content, carries-content, new-below}
 use Rattle.pv_laws_states.proofs.Members.{among-used, used-among, among-held_by, among-held_file, held_cases}
 use Rattle.pv_laws_trees.proofs.Numbered.{length-with_number, with_number-same, with_number-other, least_free-free}
 use Rattle.pv_laws_states.proofs.Processes.{process_at-same, process_at-other}
 use Rattle.pv_laws_states.proofs.Replies.{IsEffect}
-use Rattle.pv_laws_states.proofs.Present.{IsFinePlace, resolve-fine, Carries, carries-self, file-carried, placed-carried, solid-present, my-running, my-placed, running-like}
-use Rattle.pv_laws_states.proofs.Starts.{StartsWell, leads-start}
+use Rattle.pv_laws_states.proofs.ChangedStates.{IsFinePlace, resolve-fine, Carries, carries-self, file-carried, placed-carried, solid-present, my-running, my-placed, running-like}
+use Rattle.pv_laws_states.proofs.WalkStarts.{StartsWell, leads-start}
 use Rattle.pv_laws_states.proofs.Collect.{held_after, tree-collect}
-use Rattle.pv_laws_states.proofs.Whole.{solid, solid-with_process}
+use Rattle.pv_laws_states.proofs.ValidStates.{solid, solid-with_process}
 
 -- the kinds of nodes that can be opened
 kinds : (o : Option Node) → is_some o ≡ true → is_link o ≡ false → (is_file o || is_directory o) ≡ true

@@ -10,21 +10,13 @@ use Rattle.pv_model.specs.declared.follow.Follow.{Follow}
 use Rattle.pv_model.specs.declared.follow.Follow.TheVariants.{Last, Keep}
 use Rattle.pv_model.specs.declared.errno.Errno.TheVariants.{EPERM, ENOENT, E2BIG, ENOEXEC, EBADF, EACCES, ENOTDIR, EINVAL, EMFILE}
 use Rattle.pv_model.specs.declared.outcome.Cause.TheVariants.{Unveil as ByUnveil}
-use Rattle.pv_model.specs.Promises.{Promises, narrow_promises, is_lenient}
-use Rattle.pv_model.specs.Attempt.{Attempt, refused, ◌>>=◌, ◌>>◌, give, refuse, refuse_if, demand}
-use Rattle.pv_model.specs.Bytes.{Bytes, is_empty, little_endian}
-use Rattle.pv_model.specs.Calls.Descriptors.{with_descriptor, with_duplicate, is_number, within, close, dup, dup2, fstat, fchdir, directory_of}
-use Rattle.pv_model.specs.Calls.Paths.{link_text, chdir, stat_at, readlink}
-use Rattle.pv_model.specs.Calls.Processes.{exit, getpid, getppid, execve, with_program, descriptor_after_exec, executable_bytes}
-use Rattle.pv_model.specs.Calls.Restraints.{asked_promises, unless_refused, entries_of_table, add_entry, add_target, refuse_if_locked, pledge, unveil}
-use Rattle.pv_model.specs.Effect.{Effect, answers, answers_bytes, returns_bytes, walk_from, node_of, descriptor_at, open_file, status, status_of, sort_number, size_of}
-use Rattle.pv_model.specs.Numbered.{Numbered, at_number, with_number, without_number, least_free}
-use Rattle.pv_model.specs.Perms.{covers, permission_r, permission_x, read_permissions}
-use Rattle.pv_model.specs.State.{OpenFile, Descriptor, Program, Process, State, process_at, with_process}
-use Rattle.pv_model.specs.Tree.{Node, directory_node, file_node, link_node, node_at, is_directory_at}
+use Rattle.pv_model.specs.Machine.{Promises, narrow_promises, is_lenient, Attempt, refused, ◌>>=◌, ◌>>◌, give, refuse, refuse_if, demand, Bytes, is_empty, little_endian, with_descriptor, is_number, within, close, dup, dup2, fstat, fchdir, directory_of, link_text, chdir, stat_at, readlink, execve, with_program, executable_bytes, asked_promises, unless_refused, entries_of_table, add_target, refuse_if_locked, pledge, unveil, Effect, answers, answers_bytes, returns_bytes, walk_from, node_of, descriptor_at, open_file, status, size_of, Numbered, at_number, with_number, without_number, least_free, covers, permission_r, permission_x, read_permissions, OpenFile, Descriptor, Program, Process, State, process_at, with_process, Node, directory_node, file_node, link_node, node_at, is_directory_at, Table, entry_for, permissions_at, with_permissions, target_of, from_here}
+use Rattle.pv_model.specs.Calls.Descriptors.{with_duplicate}
+use Rattle.pv_model.specs.Calls.Processes.{exit, getpid, getppid, descriptor_after_exec}
+use Rattle.pv_model.specs.Calls.Restraints.{add_entry}
+use Rattle.pv_model.specs.Effect.{status_of, sort_number}
 use Rattle.pv_model.specs.declared.target.Target.{Target}
-use Rattle.pv_model.specs.Unveil.{Table, entry_for, permissions_at, with_permissions, target_of}
-use Rattle.pv_laws_states.specs.States.{is_byte, are_bytes, is_text, is_text_or_none, is_target, is_table, EncodesPrograms, IsRunning, IsPlaced, IsValid}
+use Rattle.pv_laws_states.specs.States.{is_byte, are_bytes, is_text_or_none, is_target, is_table, EncodesPrograms, IsRunning, IsValid}
 use Rattle.pv_laws_states.proofs.Attempts.{Leads, leads-bind, leads-then, leads-refuse_if, leads-demand, leads-walk, leads-place, leads-any}
 use Rattle.pv_laws_states.proofs.Members.{find_number-list_all, live-found}
 use Rattle.pv_laws_trees.proofs.Numbered.{length-with_number, length-without_number, with_number-same, with_number-other, without_number-same, without_number-other}
@@ -32,9 +24,8 @@ use Rattle.pv_laws_trees.proofs.Places.{link-text}
 use Rattle.pv_laws_trees.proofs.Trees.{sound}
 use Rattle.pv_laws_trees.proofs.ImageBytes.{length-little_endian}
 use Rattle.pv_laws_states.proofs.Replies.{IsEffect}
-use Rattle.pv_laws_states.proofs.Running.{IsReady, list_all-set, list_all-both, list_all-replicate, bytes-little_endian}
-use Rattle.pv_laws_states.proofs.Present.{ready, ready-process, my-running, my-placed, running-like, resolve-fine, target-fine}
-use Rattle.pv_model.specs.Walks.{from_here}
+use Rattle.pv_laws_states.proofs.ProcessInsides.{IsReady, list_all-set, list_all-both, list_all-replicate, bytes-little_endian}
+use Rattle.pv_laws_states.proofs.ChangedStates.{ready, ready-process, my-running, my-placed, running-like, resolve-fine, target-fine}
 
 -- a number within a limit
 pub within-limit : (limit : ℕ) (n : ℤ) (k : ℕ) → within limit n ≡ Some k → k ≤ limit
@@ -69,7 +60,7 @@ module _ (s : State) (pid : ℕ) (me : Process) (whole : IsValid s) (at : proces
       by : (o : Option Process) → process_at s k ≡ o → is_some o ≡ true → k ≤ 2147483647
       by None none is = cc
       by (Some p) found is =
-          let number = find_number-list_all (Rattle.pv_laws_states.specs.States.is_number s.last_process) k _ s.processes whole.processes.numbers (live-found s k p found) in
+          let number = find_number-list_all (Rattle.pv_laws_states.specs.States.is_process_number s.last_process) k _ s.processes whole.processes.numbers (live-found s k p found) in
           omega (arith, leb-true k s.last_process (and_parts (nat_le 1 k) (nat_le k s.last_process) number).1, whole.processes.last.1)
 
   pub good-getpid : Leads (IsEffect s) (getpid s pid me)

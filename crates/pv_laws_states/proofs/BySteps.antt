@@ -15,16 +15,10 @@ use Rattle.pv_model.specs.declared.instruction.Operand.{Operand}
 use Rattle.pv_model.specs.declared.instruction.Operand.TheVariants.{Number, Register}
 use Rattle.pv_model.specs.declared.instruction.Origin.{Origin}
 use Rattle.pv_model.specs.declared.instruction.Origin.TheVariants.{WorkingDirectory as HereOrigin, Descriptor as OfDescriptor}
-use Rattle.pv_model.specs.Answer.{answer, effect, at_next_line, with_front}
-use Rattle.pv_model.specs.Bytes.{Bytes}
-use Rattle.pv_model.specs.Held.{among, collect}
-use Rattle.pv_model.specs.Numbered.{at_number, keep}
-use Rattle.pv_model.specs.Program.{register, with_register, operand, clamp, start_of_origin, at_line, jump_if, Next, inside, calls_for, perform, next_by, next}
-use Rattle.pv_model.specs.State.{OpenFile, Program, Process, ProcessRecord, live, ended_record, State, first_process, first_state, process_at}
-use Rattle.pv_model.specs.Step.{step, step_of, step_by, run}
-use Rattle.pv_model.specs.Tree.{Tree}
+use Rattle.pv_model.specs.Machine.{answer, effect, at_next_line, with_front, Bytes, among, collect, at_number, keep, jump_if, Next, inside, calls_for, perform, next_by, next, OpenFile, Program, Process, ProcessRecord, live, ended_record, State, first_process, first_state, process_at, step, step_of, step_by, run, Tree}
+use Rattle.pv_model.specs.Program.{register, with_register, operand, clamp, start_of_origin, at_line}
 use Rattle.pv_laws_states.specs.Held.{used}
-use Rattle.pv_laws_states.specs.States.{is_word, is_byte, are_bytes, is_text, is_text_byte, is_text_or_none, is_operand, is_origin, is_target_line, is_instruction, is_program, EncodesPrograms, is_start, is_call, IsRunning, IsPlaced, IsValid, IsFirstTree}
+use Rattle.pv_laws_states.specs.States.{is_word, is_byte, are_bytes, is_text, is_text_byte, is_text_or_none, is_operand, is_origin, is_target_line, is_instruction, is_program_in_bounds, EncodesPrograms, is_start, is_call, IsRunning, IsPlaced, IsValid, IsFirstTree}
 use Rattle.pv_laws_states.proofs.Attempts.{Leads}
 use Rattle.pv_laws_states.proofs.ByFile.{good-lseek, good-read, good-getdents}
 use Rattle.pv_laws_states.proofs.ByOpen.{good-open, good-open_at}
@@ -35,9 +29,9 @@ use Rattle.pv_laws_states.proofs.Members.{find_number_cases, live-found}
 use Rattle.pv_laws_trees.proofs.Numbered.{keep-all}
 use Rattle.pv_laws_trees.proofs.Places.{list_all-weaker}
 use Rattle.pv_laws_states.proofs.Replies.{IsEffect, whole-answer}
-use Rattle.pv_laws_states.proofs.Running.{running-front, running-next, list_all-set, list_all-replicate, SameHolds, whole-inside}
-use Rattle.pv_laws_states.proofs.Present.{text-bytes}
-use Rattle.pv_laws_trees.proofs.Keeping.{preserved_all}
+use Rattle.pv_laws_states.proofs.ProcessInsides.{running-front, running-next, list_all-set, list_all-replicate, SameHolds, whole-inside}
+use Rattle.pv_laws_states.proofs.ChangedStates.{text-bytes}
+use Rattle.pv_laws_trees.proofs.Collection.{preserved_all}
 use Rattle.pv_laws_states.proofs.Collect.{held_after}
 
 -- ---- calls
@@ -235,7 +229,7 @@ first_at t program k r is = find_number_cases ((k ≡ 1) × (r ≡ live (first_p
 first_process_at : (t : Tree) (program : Program) (k : ℕ) (p : Process) → process_at (first_state t program) k ≡ Some p → p ≡ first_process program
 first_process_at t program k p is = let found = first_at t program k (live p) (live-found (first_state t program) k p is) in cc (found.1)
 
-pub first-whole : (t : Tree) (program : Program) → IsFirstTree t → is_program program ≡ true → IsValid (first_state t program)
+pub first-whole : (t : Tree) (program : Program) → IsFirstTree t → is_program_in_bounds program ≡ true → IsValid (first_state t program)
 unfolding collect
 first-whole t program first good =
     let s : State = first_state t program in

@@ -5,14 +5,10 @@ use Rattle.std.specs.FinMap.Entries.{find, put, is_sorted, below_all, length-put
 use Rattle.std.proofs.lemmas.Bool.{and_parts, and_from, or_parts, leb-true, leb-false, le-leb, ltb-false, ne_eqb}
 use Rattle.std.proofs.lemmas.Cmp.{nat_cmp_total}
 use Rattle.pv_model.specs.declared.errno.Errno.TheVariants.{EAGAIN, ECHILD}
-use Rattle.pv_model.specs.Attempt.{refuse_if}
-use Rattle.pv_model.specs.Bytes.{is_empty}
-use Rattle.pv_model.specs.Calls.Processes.{parent_of, statuses, child, fork, children, reap, wait}
-use Rattle.pv_model.specs.Effect.{answers}
-use Rattle.pv_model.specs.State.{Process, ProcessRecord, live, ended_record, State, process_at, with_process}
-use Rattle.pv_laws_states.specs.States.{IsRunning, IsPlaced, is_number, IsValid}
+use Rattle.pv_model.specs.Machine.{refuse_if, is_empty, parent_of, statuses, child, fork, children, reap, wait, answers, Process, ProcessRecord, live, ended_record, State, process_at, with_process}
+use Rattle.pv_laws_states.specs.States.{IsRunning, IsPlaced, is_process_number, IsValid}
 use Rattle.pv_laws_states.proofs.Attempts.{Leads, leads-then, leads-refuse_if}
-use Rattle.pv_laws_states.proofs.Ending.{sorted-filtered, found-filtered, filtered-found, running-parent}
+use Rattle.pv_laws_states.proofs.ValidEnds.{sorted-filtered, found-filtered, filtered-found, running-parent}
 use Rattle.pv_laws_trees.proofs.Entries.{report, list_all-filter}
 use Rattle.pv_laws_states.proofs.Members.{find_number_after, find_number-list_all, live-found, found-live}
 use Rattle.pv_laws_trees.proofs.Places.{list_all-weaker}
@@ -20,9 +16,9 @@ use Rattle.pv_laws_trees.proofs.Generic.{filter-fewer}
 use Rattle.pv_laws_trees.proofs.ImageBytes.{length-little_endian}
 use Rattle.pv_laws_states.proofs.Processes.{number-itself}
 use Rattle.pv_laws_states.proofs.Replies.{IsEffect}
-use Rattle.pv_laws_states.proofs.Running.{IsReady, running-result, bytes-little_endian}
-use Rattle.pv_laws_states.proofs.Present.{my-running, my-placed}
-use Rattle.pv_laws_states.proofs.Whole.{has_room, list_all-put_number, sorted-put_number, put-cases, with_process-cases, still-live}
+use Rattle.pv_laws_states.proofs.ProcessInsides.{IsReady, running-result, bytes-little_endian}
+use Rattle.pv_laws_states.proofs.ChangedStates.{my-running, my-placed}
+use Rattle.pv_laws_states.proofs.ValidStates.{has_room, list_all-put_number, sorted-put_number, put-cases, with_process-cases, still-live}
 
 -- the first ended child is a child
 pub first-ended : (ps : List (ℕ × ProcessRecord)) (mine : ℕ × ProcessRecord → Bool) → is_sorted nat_cmp ps ≡ true → (k status : ℕ) (rs : List (ℕ × ℕ)) → statuses (filter mine ps) ≡ (k, status) ∷ rs
@@ -71,9 +67,9 @@ module _ (s : State) (pid : ℕ) (me : Process) (whole : IsValid s) (at : proces
       files = whole.files;
       processes = record {
         ascending = sorted-put_number number (live (child s pid me)) s.processes whole.processes.ascending;
-        numbers = list_all-put_number (is_number number) number (live (child s pid me)) s.processes
+        numbers = list_all-put_number (is_process_number number) number (live (child s pid me)) s.processes
             (and_from _ _ (le-leb 1 number (omega arith)) (le-leb number number (omega arith)))
-            (list_all-weaker (λ (r : ℕ × ProcessRecord). is_number s.last_process r.0) (λ r. is_number number r.0)
+            (list_all-weaker (λ (r : ℕ × ProcessRecord). is_process_number s.last_process r.0) (λ r. is_process_number number r.0)
             (λ r is. let parts = and_parts (nat_le 1 r.0) (nat_le r.0 s.last_process) is in and_from _ _ parts.0 (le-leb r.0 number (omega (arith, leb-true r.0 s.last_process parts.1)))) s.processes whole.processes.numbers);
         count = omega (arith, longer-put);
         last = (omega arith, low);
@@ -116,7 +112,7 @@ module _ (s : State) (pid : ℕ) (me : Process) (whole : IsValid s) (at : proces
       files = whole.files;
       processes = record {
         ascending = sorted-filtered (spared k) s.processes whole.processes.ascending;
-        numbers = list_all-filter (λ (r : ℕ × ProcessRecord). is_number s.last_process r.0) (spared k) s.processes whole.processes.numbers;
+        numbers = list_all-filter (λ (r : ℕ × ProcessRecord). is_process_number s.last_process r.0) (spared k) s.processes whole.processes.numbers;
         count = omega (arith, filter-fewer (spared k) s.processes, whole.processes.count);
         last = whole.processes.last;
         running = λ j r is. whole.processes.running j r (was j r is);
@@ -146,7 +142,7 @@ module _ (s : State) (pid : ℕ) (me : Process) (whole : IsValid s) (at : proces
   good-reap [] is = tt
   good-reap ((k, status) ∷ rs) is =
       let ended = first-ended s.processes (λ r. parent_of r.1 == pid) whole.processes.ascending k status rs is in
-      let number = find_number-list_all (is_number s.last_process) k (ended_record ended.0 status) s.processes whole.processes.numbers ended.1 in (
+      let number = find_number-list_all (is_process_number s.last_process) k (ended_record ended.0 status) s.processes whole.processes.numbers ended.1 in (
         ready-reaped k ended.0 status ended.1,
         omega (arith, leb-true k s.last_process (and_parts (nat_le 1 k) (nat_le k s.last_process) number).1, whole.processes.last.1),
         omega (arith, length-little_endian 4 status),

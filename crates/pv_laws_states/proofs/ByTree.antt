@@ -1,42 +1,30 @@
 -- The calls that change the tree preserve validity.
 use Rattle.std.proofs.Common.{◌≡◌, ◌≢◌, ℕ, zero, suc, ◌+◌, ◌-◌, ◌<◌, ◌≤◌, min, ℤ, true, false, not, ◌&&◌, ◌||◌, if◌then◌else◌, nat_lt, List, [], ◌∷◌, ◌++◌, length, take, drop, replicate, Option, None, Some, is_some, refl, ap, sym, subst, ◌∙◌, arith}
-use Rattle.std.specs.List.{list_all}
 use Rattle.std.proofs.Math.ListN.{length-take}
-use Rattle.std.proofs.lemmas.Bool.{and_parts, and_from, ltb-false, eq-eqb, cases_eq, cases_Bool, not-false}
+use Rattle.std.proofs.lemmas.Bool.{and_parts, and_from, ltb-false, eq-eqb}
 use Rattle.pv_model.specs.declared.errno.Errno.TheVariants.{EFBIG, EPERM, EBADF, ENOENT, EBUSY, EEXIST, ENOTDIR, EISDIR, EINVAL, ENAMETOOLONG, ENOTEMPTY}
 use Rattle.pv_model.specs.declared.follow.Follow.{Follow}
 use Rattle.pv_model.specs.declared.follow.Follow.TheVariants.{Last, Keep, KeepTrimmed}
 use Rattle.pv_model.specs.declared.place.Place.{Place}
 use Rattle.pv_model.specs.declared.place.Place.TheVariants.{At, Node as Unnamed}
-use Rattle.pv_model.specs.Attempt.{Attempt, ◌>>=◌, ◌>>◌, refuse_if, demand}
-use Rattle.pv_model.specs.Bytes.{Bytes, is_empty}
-use Rattle.pv_model.specs.Calls.Descriptors.{within, natural, is_past_greatest, with_content, open_file_for, write_place, write_end, after_write, write, ftruncate}
-use Rattle.pv_model.specs.Calls.Paths.{same_node, contains_directory, is_directory_there, entries_there, ends_in_dot, make, mkdir, symlink, link, unlink, rmdir, move_entry, rename}
-use Rattle.pv_model.specs.Effect.{Effect, answers, judge_for, walk_from, with_room, node_of, name_of, open_file, with_file, bytes_of, overwrite, resize}
-use Rattle.pv_model.specs.Held.{collect}
-use Rattle.pv_model.specs.Numbered.{with_number}
-use Rattle.pv_model.specs.Perms.{permission_r, permission_c}
-use Rattle.pv_model.specs.Room.{greatest_length, fits, is_too_long}
-use Rattle.pv_model.specs.State.{OpenFile, Process, State, writes, process_at, with_tree}
-use Rattle.pv_model.specs.Tree.{Node, directory_node, file_node, link_node, Tree, node_at, entries_of, entries_at, is_directory, is_directory_at, is_removed, find_entry, new_number, with_node, with_new_node, with_entry, without_entry, is_name, is_node}
-use Rattle.pv_model.specs.Walk.{resolve}
+use Rattle.pv_model.specs.Machine.{Attempt, ◌>>=◌, ◌>>◌, refuse_if, demand, Bytes, is_empty, within, natural, is_past_greatest, with_content, open_file_for, write_place, write_end, after_write, write, ftruncate, same_node, contains_directory, is_directory_there, entries_there, ends_in_dot, symlink, link, unlink, rmdir, move_entry, rename, Effect, answers, judge_for, walk_from, with_room, node_of, name_of, open_file, with_file, bytes_of, overwrite, resize, collect, with_number, permission_r, permission_c, greatest_length, fits, is_too_long, OpenFile, Process, State, writes, process_at, with_tree, Node, directory_node, file_node, link_node, Tree, node_at, entries_of, entries_at, is_directory, is_directory_at, is_removed, find_entry, new_number, with_node, with_new_node, with_entry, without_entry, is_name, is_node, resolve, from_here}
+use Rattle.pv_model.specs.Calls.Paths.{make, mkdir}
 use Rattle.pv_laws_states.specs.States.{is_byte, are_bytes, has_bytes, is_text, is_text_byte, IsTree, AreFiles, IsValid}
 use Rattle.pv_laws_states.proofs.Attempts.{Leads, leads-then, leads-refuse_if, leads-demand, leads-place, leads-room}
 use Rattle.pv_laws_states.proofs.ByFile.{open_file_for-at, file-bytes, files-with, files-stay}
 use Rattle.pv_laws_states.proofs.ByProcess.{within-limit}
 use Rattle.pv_laws_trees.proofs.Changes.{directory-below, node_at-other, directory_is_some}
 use Rattle.pv_laws_trees.proofs.Edits.{stays-new_node, stays-with_entry, stays-without_entry, stays-renamed, new_number-free}
-use Rattle.pv_laws_states.proofs.Grown.{bytes-with_node, bytes-with_entry, bytes-without_entry, carries-with_node, carries-entries, tree-content, carries-content, ready-tree, ready-smaller, new-below}
+use Rattle.pv_laws_states.proofs.GrownTrees.{bytes-with_node, bytes-with_entry, bytes-without_entry, carries-with_node, carries-entries, tree-content, carries-content, ready-tree, ready-smaller, new-below}
 use Rattle.pv_laws_trees.proofs.Changes.{still-there}
 use Rattle.pv_laws_trees.proofs.Rooms.{no_larger-without, greatest-low}
 use Rattle.pv_laws_trees.proofs.Places.{list_all-weaker, not_zero}
 use Rattle.pv_laws_trees.proofs.Generic.{not-there}
 use Rattle.pv_laws_states.proofs.Replies.{IsEffect}
-use Rattle.pv_laws_states.proofs.Running.{IsReady, list_all-take, list_all-drop, list_all-both, list_all-replicate}
-use Rattle.pv_laws_states.proofs.Present.{IsFinePlace, resolve-fine, text-bytes, ready, my-running, my-placed, Carries, carries-along, file-carried, solid-present}
+use Rattle.pv_laws_states.proofs.ProcessInsides.{IsReady, list_all-take, list_all-drop, list_all-both, list_all-replicate}
+use Rattle.pv_laws_states.proofs.ChangedStates.{IsFinePlace, resolve-fine, text-bytes, ready, my-running, my-placed, Carries, carries-along, file-carried, solid-present}
 use Rattle.pv_laws_states.proofs.Collect.{held_after, tree-collect}
-use Rattle.pv_laws_states.proofs.Whole.{HasRoom, solid}
-use Rattle.pv_model.specs.Walks.{from_here}
+use Rattle.pv_laws_states.proofs.ValidStates.{HasRoom, solid}
 
 -- ---- places with names
 

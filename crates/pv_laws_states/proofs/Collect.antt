@@ -1,14 +1,12 @@
 -- The state after collection.
 use Rattle.std.proofs.Common.{◌≡◌, ℕ, Bool, true, false, ◌&&◌, List, refl, ap, ◌∙◌}
-use Rattle.pv_model.specs.Held.{among, held_nodes, collect_nodes, collect_files, collect}
-use Rattle.pv_model.specs.Numbered.{keep}
-use Rattle.pv_model.specs.State.{State}
-use Rattle.pv_model.specs.Tree.{Tree, IsWellFormed}
-use Rattle.pv_laws_trees.specs.Preserved.{EachIsNamed, wanted, preserved}
+use Rattle.pv_model.specs.Machine.{among, collect, keep, State, Tree, IsWellFormed}
+use Rattle.pv_model.specs.Held.{held_nodes, collect_nodes, collect_files}
+use Rattle.pv_laws_trees.specs.Preserved.{EachIsNamed, numbers_wanted, preserved}
 use Rattle.pv_laws_states.specs.Held.{used, IsCollected}
 use Rattle.pv_laws_trees.proofs.Numbered.{keep-keep, keep-agree, keep-passes, keep-fails}
 use Rattle.pv_laws_trees.proofs.Trees.{sound, well_formed}
-use Rattle.pv_laws_trees.proofs.Keeping.{preserved_all, wanted-is, wanted-covers, only-sound, preserved_in_turn}
+use Rattle.pv_laws_trees.proofs.Collection.{preserved_all, wanted-is, wanted-covers, only-sound, preserved_in_turn}
 
 pub collect_nodes_all : (s : State) → EachIsNamed s.tree → collect_nodes s ≡ s
 collect_nodes_all s each = ap (λ t. record s { tree = t }) (preserved_all s.tree (held_nodes s) each)
@@ -38,8 +36,8 @@ unfolding collect
 is_collected s = record {
   used_files_stay = λ k is. keep-passes (among (used s)) s.files k is;
   other_files_go = λ k no. keep-fails (among (used s)) s.files k no;
-  wanted_nodes_stay = λ n is. keep-passes (among (wanted s.tree (held_after s))) s.tree.nodes n (wanted-is s.tree (held_after s) n ∙ is);
-  other_nodes_go = λ n no. keep-fails (among (wanted s.tree (held_after s))) s.tree.nodes n (wanted-is s.tree (held_after s) n ∙ no);
+  wanted_nodes_stay = λ n is. keep-passes (among (numbers_wanted s.tree (held_after s))) s.tree.nodes n (wanted-is s.tree (held_after s) n ∙ is);
+  other_nodes_go = λ n no. keep-fails (among (numbers_wanted s.tree (held_after s))) s.tree.nodes n (wanted-is s.tree (held_after s) n ∙ no);
   processes_stay = refl;
   last_process_stays = refl;
 }
@@ -47,7 +45,7 @@ is_collected s = record {
 pub collect-well_formed : (s : State) → IsWellFormed s.tree → IsWellFormed (collect s).tree
 unfolding collect
 collect-well_formed s w =
-    well_formed (preserved s.tree (held_after s)) (only-sound s.tree (wanted s.tree (held_after s)) (sound s.tree w) (wanted-covers s.tree (held_after s)))
+    well_formed (preserved s.tree (held_after s)) (only-sound s.tree (numbers_wanted s.tree (held_after s)) (sound s.tree w) (wanted-covers s.tree (held_after s)))
 
 self : (b : Bool) → (b && b) ≡ b
 self true = refl

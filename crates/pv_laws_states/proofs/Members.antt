@@ -7,9 +7,7 @@ use Rattle.std.specs.FinMap.Entries.{find, is_sorted, below_all}
 use Rattle.std.specs.declared.cmp.Ordering.TheVariants.{Less, Equal, Greater}
 use Rattle.std.proofs.lemmas.Bool.{and_parts, or_cases, or_left, or_right, eqb-true, eq-eqb, ne_eqb}
 use Rattle.std.proofs.lemmas.List.Folds.{list_any-append}
-use Rattle.pv_model.specs.Held.{among, live_processes, used_files, held_by_process}
-use Rattle.pv_model.specs.Numbered.{Numbered, at_number, present, keep}
-use Rattle.pv_model.specs.State.{OpenFile, Descriptor, Process, ProcessRecord, live, ended_record, State, live_process, process_at}
+use Rattle.pv_model.specs.Machine.{among, live_processes, used_files, held_by_process, Numbered, at_number, present, keep, OpenFile, Descriptor, Process, ProcessRecord, live, ended_record, State, live_process, process_at}
 use Rattle.pv_laws_states.specs.Held.{used}
 use Rattle.pv_laws_trees.proofs.Numbered.{keep-passes, keep-some}
 use Rattle.pv_laws_states.proofs.Collect.{held_after}

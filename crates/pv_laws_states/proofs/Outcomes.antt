@@ -14,26 +14,13 @@ use Rattle.pv_model.specs.declared.outcome.Cause.TheVariants.{Promise as ByPromi
 use Rattle.pv_model.specs.declared.outcome.Outcome.TheVariants.{Value, Failed, Killed, Blocked, Gone}
 use Rattle.pv_model.specs.declared.promise.Promise.{Promise}
 use Rattle.pv_model.specs.declared.promise.Promise.TheVariants.{Stdio, Rpath, Wpath, Cpath, Proc, Exec as ExecPromise, Unveil as UnveilPromise}
-use Rattle.pv_model.specs.Answer.{Answered, answer, answer_of, answer_where, answer_by_attempt, at_next_line, effect}
-use Rattle.pv_model.specs.Attempt.{Attempt, done, refused, ◌>>◌, refuse_if}
-use Rattle.pv_model.specs.Bytes.{Bytes}
-use Rattle.pv_model.specs.Calls.Processes.{with_result, end_process, child, fork}
-use Rattle.pv_model.specs.Effect.{Effect, answers, returns, returns_bytes, ends, waits}
-use Rattle.pv_model.specs.Errno.{errno_number}
-use Rattle.pv_model.specs.Held.{collect}
-use Rattle.pv_model.specs.Needs.{needs, needs_of_mode}
-use Rattle.pv_model.specs.Promises.{Need, missing_promise, is_lenient}
-use Rattle.pv_model.specs.State.{Program, Process, State, process_at, with_process}
+use Rattle.pv_model.specs.Machine.{Answered, answer, answer_of, answer_where, answer_by_attempt, at_next_line, effect, Attempt, done, refused, ◌>>◌, refuse_if, Bytes, with_result, end_process, child, fork, Effect, answers, returns, returns_bytes, ends, waits, errno_number, collect, needs, needs_of_mode, Need, missing_promise, is_lenient, Program, Process, State, process_at, with_process}
 use Rattle.pv_laws_states.specs.Calls.{reported_error, OnlyReports, SameRights, IsUnharmed, OfNobody, needs_nothing, IsNewNumber}
 use Rattle.pv_laws_states.proofs.Processes.{find-put_other, process_at-same, update-with, last_process-update}
 
 -- the caller at its next line
 abbrev pub at_call : State → ℕ → Process → State
 at_call s pid me = with_process s pid (at_next_line me)
-
-by_choice : (P : Answered → Type 0) (b : Bool) (x y : Answered) → P x → P y → P (cond b x y)
-by_choice P true x y px py = px
-by_choice P false x y px py = py
 
 -- a property of every answer
 pub by_answer : (P : Answered → Type 0) (program_of : Bytes → Option Program) (s : State) (pid : ℕ) (call : Call)

@@ -7,8 +7,7 @@ use Rattle.std.specs.declared.cmp.Ordering.{Ordering}
 use Rattle.std.specs.declared.cmp.Ordering.TheVariants.{Less, Equal, Greater}
 use Rattle.std.proofs.lemmas.Bool.{ne_eqb}
 use Rattle.std.proofs.lemmas.Cmp.{nat_cmp_total}
-use Rattle.pv_model.specs.Answer.{update_live, update}
-use Rattle.pv_model.specs.State.{Process, live, State, live_process, process_at, with_process}
+use Rattle.pv_model.specs.Machine.{update_live, update, Process, live, State, live_process, process_at, with_process}
 
 pub number-itself : (k : ℕ) → nat_cmp k k ≡ Equal
 number-itself k = tied_itself nat_cmp_total k

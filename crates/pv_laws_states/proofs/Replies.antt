@@ -3,23 +3,15 @@ use Rattle.std.proofs.Common.{◌≡◌, ℕ, ◌≤◌, ℤ, pos, negsuc, true,
 use Rattle.pv_model.specs.declared.call.Call.{Call}
 use Rattle.pv_model.specs.declared.errno.Errno.TheVariants.{ENOSYS}
 use Rattle.pv_model.specs.declared.outcome.Cause.TheVariants.{Promise as ByPromise}
-use Rattle.pv_model.specs.Answer.{answer, answer_by_attempt, at_next_line, with_front, update, effect}
-use Rattle.pv_model.specs.Attempt.{Attempt, done, refused}
-use Rattle.pv_model.specs.Bytes.{Bytes}
-use Rattle.pv_model.specs.Calls.Processes.{with_result, end_process}
-use Rattle.pv_model.specs.Effect.{Effect, returns, returns_bytes, ends, waits}
-use Rattle.pv_model.specs.Errno.{errno_number}
-use Rattle.pv_model.specs.Held.{collect}
-use Rattle.pv_model.specs.Room.{fits, is_too_long}
-use Rattle.pv_model.specs.State.{Program, Process, State, process_at}
+use Rattle.pv_model.specs.Machine.{answer, answer_by_attempt, at_next_line, with_front, update, effect, Attempt, done, refused, Bytes, with_result, end_process, Effect, returns, returns_bytes, ends, waits, errno_number, collect, fits, is_too_long, Program, Process, State, process_at}
 use Rattle.pv_laws_states.specs.Calls.{reported_error}
 use Rattle.pv_laws_states.specs.States.{are_bytes, IsValid}
 use Rattle.pv_laws_states.proofs.Attempts.{Leads}
-use Rattle.pv_laws_states.proofs.Ending.{solid-end, tree-end}
+use Rattle.pv_laws_states.proofs.ValidEnds.{solid-end, tree-end}
 use Rattle.pv_laws_states.proofs.Outcomes.{at_call, by_answer}
 use Rattle.pv_laws_states.proofs.Processes.{update-with, process_at-same}
-use Rattle.pv_laws_states.proofs.Running.{word, errno-word, running-result, running-front, running-next, SameHolds, whole-inside, IsReady, ready-update}
-use Rattle.pv_laws_states.proofs.Whole.{has_room, collect-whole, solid}
+use Rattle.pv_laws_states.proofs.ProcessInsides.{word, errno-word, running-result, running-front, running-next, SameHolds, whole-inside, IsReady, ready-update}
+use Rattle.pv_laws_states.proofs.ValidStates.{has_room, collect-whole, solid}
 
 -- a valid effect in a state
 abbrev pub IsEffect : State → Effect → Type 0

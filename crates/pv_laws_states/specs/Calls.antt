@@ -9,18 +9,7 @@ use Rattle.pv_model.specs.declared.errno.Errno.{Errno}
 use Rattle.pv_model.specs.declared.outcome.Cause.{Cause}
 use Rattle.pv_model.specs.declared.outcome.Outcome.TheVariants.{Value, Failed, Killed, Blocked, Gone}
 use Rattle.pv_model.specs.declared.promise.Promise.{Promise}
-use Rattle.pv_model.specs.Answer.{Answered, answer, at_next_line}
-use Rattle.pv_model.specs.Bytes.{Bytes}
-use Rattle.pv_model.specs.Calls.Processes.{with_result}
-use Rattle.pv_model.specs.Errno.{errno_number}
-use Rattle.pv_model.specs.Needs.{needs}
-use Rattle.pv_model.specs.Promises.{Promises, missing_promise}
-use Rattle.pv_model.specs.State.{Program, Process, State, process_at, with_process}
-use Rattle.pv_model.specs.Calls.Descriptors.{with_content, is_past_greatest}
-use Rattle.pv_model.specs.Held.{among}
-use Rattle.pv_model.specs.Room.{is_too_long}
-use Rattle.pv_model.specs.Sealed.{is_file}
-use Rattle.pv_model.specs.Tree.{Tree, node_at}
+use Rattle.pv_model.specs.Machine.{Answered, answer, at_next_line, Bytes, with_result, errno_number, needs, Promises, missing_promise, Program, Process, State, process_at, with_process, with_content, is_past_greatest, among, is_too_long, is_file, Tree, node_at}
 use Rattle.pv_laws_trees.specs.Preserved.{preserved}
 
 -- a process after a refused call: at its next line, with the error in r0 and r1

@@ -10,18 +10,8 @@ use Rattle.pv_model.specs.declared.outcome.Cause.TheVariants.{Unveil as ByUnveil
 use Rattle.pv_model.specs.declared.outcome.Outcome.TheVariants.{Failed}
 use Rattle.pv_model.specs.declared.perms.Perms.{Perms}
 use Rattle.pv_model.specs.declared.place.Place.{Place}
-use Rattle.pv_model.specs.Answer.{answer, effect}
-use Rattle.pv_model.specs.Attempt.{Attempt, done, refused, ◌>>=◌, ◌>>◌, give}
-use Rattle.pv_model.specs.Bytes.{Bytes}
-use Rattle.pv_model.specs.Calls.Restraints.{entries_of_table}
-use Rattle.pv_model.specs.Effect.{Effect, walk, judge, end_of}
-use Rattle.pv_model.specs.Needs.{needs}
-use Rattle.pv_model.specs.Perms.{covers, read_permissions}
-use Rattle.pv_model.specs.Promises.{missing_promise}
-use Rattle.pv_model.specs.State.{Program, Process, State, process_at}
+use Rattle.pv_model.specs.Machine.{answer, effect, Attempt, done, refused, ◌>>=◌, ◌>>◌, give, Bytes, entries_of_table, Effect, walk, judge, end_of, needs, covers, read_permissions, missing_promise, Program, Process, State, process_at, judgement, entry_for, permissions_at, target_of, Walk, walks_of, walk_number, is_unveil}
 use Rattle.pv_model.specs.Trace.{asked_permissions}
-use Rattle.pv_model.specs.Unveil.{judgement, entry_for, permissions_at, target_of}
-use Rattle.pv_model.specs.Walks.{Walk, walks_of, walk_number}
 
 -- a cause that is a decision of the table: an entry, the lack of one, or the lock
 abbrev pub is_of_table : Cause → Bool
@@ -29,14 +19,10 @@ is_of_table (ByUnveil entry) = true
 is_of_table Locked = true
 is_of_table cause = false
 
-abbrev pub is_unveil : Call → Bool
-is_unveil (Unveil path permissions) = true
-is_unveil call = false
-
 -- walks in sequence, each judged at its end
-abbrev pub along : State → Process → List Walk → Attempt (Unit {0})
-along s me [] = give tt
-along s me (w ∷ ws) = walk s me w >>= (λ place. judge s me w place >> along s me ws)
+abbrev pub walks_in_sequence : State → Process → List Walk → Attempt (Unit {0})
+walks_in_sequence s me [] = give tt
+walks_in_sequence s me (w ∷ ws) = walk s me w >>= (λ place. judge s me w place >> walks_in_sequence s me ws)
 
 -- n walks were begun, and the table refuses nothing
 abbrev pub IsAfter : {A : Type 0} → ℕ → Attempt A → Type 0
@@ -44,11 +30,11 @@ IsAfter n (done walks value) = walks ≡ n
 IsAfter n (refused walks errno cause) = (walks ≡ n) × IsFalse (is_of_table cause)
 
 -- refused before any walk, and not by the table
-abbrev pub IsStopped : {A : Type 0} → Attempt A → Type 0
-IsStopped (done walks value) = ⊥
-IsStopped (refused walks errno cause) = (walks ≡ 0) × IsFalse (is_of_table cause)
+abbrev pub IsStoppedEarly : {A : Type 0} → Attempt A → Type 0
+IsStoppedEarly (done walks value) = ⊥
+IsStoppedEarly (refused walks errno cause) = (walks ≡ 0) × IsFalse (is_of_table cause)
 
--- if a walk is refused, so is the call; otherwise the table refuses nothing after the walks
+-- if a walk is refused, the call is refused; otherwise the table refuses nothing after the walks
 abbrev pub GoesAlong : Attempt (Unit {0}) → Attempt Effect → Type 0
 GoesAlong (done walks value) a = IsAfter walks a
 GoesAlong (refused walks errno cause) a = a ≡ refused walks errno cause
@@ -57,7 +43,7 @@ GoesAlong (refused walks errno cause) a = a ≡ refused walks errno cause
 abbrev pub CallsGoAlong : Type 0
 CallsGoAlong =
     (program_of : Bytes → Option Program) (s : State) (pid : ℕ) (me : Process) (call : Call) → IsFalse (is_unveil call)
-    → IsStopped (effect program_of s pid me call) ⊎ GoesAlong (along s me (walks_of call)) (effect program_of s pid me call)
+    → IsStoppedEarly (effect program_of s pid me call) ⊎ GoesAlong (walks_in_sequence s me (walks_of call)) (effect program_of s pid me call)
 
 -- no entry governs the place, or the entry that governs it lacks a permission
 abbrev pub IsRefusedAt : State → Process → Place → Perms → Option ℕ → Type 0

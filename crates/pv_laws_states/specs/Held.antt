@@ -1,9 +1,7 @@
 -- Laws of references, and of the collection of unreferenced nodes and open files.
 use Rattle.std.specs.Prelude.{◌≡◌, ℕ, Bool, ◌||◌, ◌==◌, IsTrue, IsFalse, List, flat_map, None}
-use Rattle.pv_model.specs.Held.{among, live_processes, used_files, held_nodes, collect_files, collect_nodes, collect}
-use Rattle.pv_model.specs.Numbered.{at_number}
-use Rattle.pv_model.specs.State.{State}
-use Rattle.pv_model.specs.Tree.{root, node_at, named_numbers, IsWellFormed}
+use Rattle.pv_model.specs.Machine.{among, live_processes, used_files, collect, at_number, State, root, node_at, named_numbers, IsWellFormed}
+use Rattle.pv_model.specs.Held.{held_nodes, collect_files, collect_nodes}
 use Rattle.pv_laws_trees.specs.Preserved.{EachIsNamed}
 
 -- if each node other than the root has a name, no node is collected

@@ -17,19 +17,9 @@ use Rattle.pv_model.specs.declared.instruction.Origin.TheVariants.{WorkingDirect
 use Rattle.pv_model.specs.declared.place.Place.{Place}
 use Rattle.pv_model.specs.declared.place.Place.TheVariants.{At, Node as Unnamed}
 use Rattle.pv_model.specs.declared.version.Version.{Version}
-use Rattle.pv_model.specs.Answer.{answer}
-use Rattle.pv_model.specs.Bytes.{Bytes}
-use Rattle.pv_model.specs.Calls.Processes.{parent_of}
-use Rattle.pv_model.specs.Held.{collect}
-use Rattle.pv_model.specs.Numbered.{Numbered, at_number}
-use Rattle.pv_model.specs.Room.{fits, is_too_long}
-use Rattle.pv_model.specs.Sealed.{is_file}
-use Rattle.pv_model.specs.State.{OpenFile, Descriptor, Program, Process, ProcessRecord, ended_record, State, writes, first_state, process_at}
-use Rattle.pv_model.specs.Step.{step, run}
-use Rattle.pv_model.specs.Tree.{Tree, node_at, is_directory_at, is_name, is_removed, find_entry, IsWellFormed}
+use Rattle.pv_model.specs.Machine.{answer, Bytes, parent_of, collect, Numbered, at_number, fits, is_too_long, is_file, OpenFile, Descriptor, Program, Process, ProcessRecord, ended_record, State, writes, first_state, process_at, step, run, Tree, node_at, is_directory_at, is_name, is_removed, find_entry, IsWellFormed, Table}
 use Rattle.pv_model.specs.declared.target.Target.{Target}
 use Rattle.pv_model.specs.declared.target.Target.TheVariants.{Directory as of_directory, Name as of_name}
-use Rattle.pv_model.specs.Unveil.{Table}
 use Rattle.pv_laws_trees.specs.Preserved.{EachIsNamed}
 pub use Rattle.pv_laws_trees.specs.Encoded.{is_byte, are_bytes, has_bytes, AllBytes}
 
@@ -106,12 +96,12 @@ is_instruction lines (Line.Link path new) = is_text path && is_text new
 is_instruction lines (Line.Symlink text path) = is_text text && is_text path
 
 -- a valid program: at most 256 valid instructions
-abbrev pub is_program : Program → Bool
-is_program lines = nat_le (length lines) LINES && list_all (is_instruction (length lines)) lines
+abbrev pub is_program_in_bounds : Program → Bool
+is_program_in_bounds lines = nat_le (length lines) LINES && list_all (is_instruction (length lines)) lines
 
 -- every program that `program_of` returns is valid
 pub record EncodesPrograms (program_of : Bytes → Option Program) : Type 0 where
-  pub encodes : (bytes : Bytes) (program : Program) → program_of bytes ≡ Some program → IsTrue (is_program program)
+  pub encodes : (bytes : Bytes) (program : Program) → program_of bytes ≡ Some program → IsTrue (is_program_in_bounds program)
 
 abbrev pub is_start : Start → Bool
 is_start WorkingDirectory = true
@@ -156,16 +146,16 @@ pub record IsTree (t : Tree) : Type 0 where
   pub well_formed : IsWellFormed t
   pub bytes : AllBytes t
 
-abbrev pub is_listed : Version → Option Bytes → Bool
-is_listed v None = true
-is_listed v (Some name) = is_name v name && are_bytes name
+abbrev pub is_listed_name : Version → Option Bytes → Bool
+is_listed_name v None = true
+is_listed_name v (Some name) = is_name v name && are_bytes name
 
 -- an open file is on an existing file or directory, and a directory is open only for reading
 pub record IsOpenFile (t : Tree) (f : OpenFile) : Type 0 where
   pub node : IsTrue (is_file (node_at t f.node) || is_directory_at t f.node)
   pub directory : IsTrue (is_directory_at t f.node) → IsFalse (writes f.mode)
   pub offset : f.offset ≤ OFFSET
-  pub listed : IsTrue (is_listed t.version f.listed)
+  pub listed : IsTrue (is_listed_name t.version f.listed)
 
 pub record AreFiles (t : Tree) (files : Numbered OpenFile) : Type 0 where
   pub count : length files ≡ OPEN_FILES
@@ -189,7 +179,7 @@ is_table t (Some table) = nat_le (length table) UNVEILS && list_all (λ e. is_ta
 
 -- the private part of a process: its program and line, registers and buffer
 pub record IsRunning (p : Process) : Type 0 where
-  pub program : IsTrue (is_program p.program)
+  pub program : IsTrue (is_program_in_bounds p.program)
   pub line : (1 ≤ p.line) × (p.line ≤ suc (length p.program))
   pub registers : (length p.registers ≡ REGISTERS) × IsTrue (list_all is_word p.registers)
   pub buffer : (length p.buffer ≡ BUFFER) × IsTrue (are_bytes p.buffer)
@@ -201,13 +191,13 @@ pub record IsPlaced (t : Tree) (files : Numbered OpenFile) (p : Process) : Type 
   pub opens : (d : ℕ) (descriptor : Descriptor) → at_number p.descriptors d ≡ Some descriptor → IsTrue (is_some (at_number files descriptor.file))
   pub table : IsTrue (is_table t p.table)
 
-abbrev pub is_number : ℕ → ℕ → Bool
-is_number last pid = nat_le 1 pid && nat_le pid last
+abbrev pub is_process_number : ℕ → ℕ → Bool
+is_process_number last pid = nat_le 1 pid && nat_le pid last
 
 -- the process table: at most 32 records in ascending order, and each child has a live parent or parent 0
 pub record AreProcesses (s : State) : Type 0 where
   pub ascending : IsTrue (is_sorted nat_cmp s.processes)
-  pub numbers : IsTrue (list_all (λ r. is_number s.last_process r.0) s.processes)
+  pub numbers : IsTrue (list_all (λ r. is_process_number s.last_process r.0) s.processes)
   pub count : length s.processes ≤ PROCESSES
   pub last : (1 ≤ s.last_process) × (s.last_process ≤ LAST_PROCESS)
   pub running : (pid : ℕ) (p : Process) → process_at s pid ≡ Some p → IsRunning p
@@ -241,7 +231,7 @@ pub record IsFirstTree (t : Tree) : Type 0 where
   pub not_too_long : IsFalse (is_too_long t)
 
 abbrev pub FirstIsValid : Type 0
-FirstIsValid = (t : Tree) (program : Program) → IsFirstTree t → IsTrue (is_program program) → IsValid (first_state t program)
+FirstIsValid = (t : Tree) (program : Program) → IsFirstTree t → IsTrue (is_program_in_bounds program) → IsValid (first_state t program)
 
 abbrev pub CallPreservesValidity : Type 0
 CallPreservesValidity =

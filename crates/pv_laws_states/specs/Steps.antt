@@ -1,8 +1,7 @@
 -- Laws of steps and runs.
 use Rattle.std.specs.Prelude.{◌≡◌, ℕ, List, [], ◌∷◌, ◌++◌, Option}
-use Rattle.pv_model.specs.Bytes.{Bytes}
-use Rattle.pv_model.specs.State.{Program, ProcessRecord, live, ended_record, State}
-use Rattle.pv_model.specs.Step.{step, run, run_then}
+use Rattle.pv_model.specs.Machine.{Bytes, Program, ProcessRecord, live, ended_record, State, step, run}
+use Rattle.pv_model.specs.Step.{run_then}
 
 -- a run over a concatenation is the concatenation of runs
 abbrev pub RunsJoin : Type 0

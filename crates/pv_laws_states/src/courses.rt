@@ -2,10 +2,9 @@
 
 ghost use Rattle.pv_laws_states.specs.Courses.{CallsGoAlong, RefusalsNameTheEntry, RefusalsNameTheLock, LockRefusesUnveils};
 
-/// Each call other than unveil either is refused before its first walk by something other than the table, or makes the
-/// walks of the one table of walks in order, and each is judged at its end for the permissions that it needs.
-///
-/// If a walk is refused, the call is refused in the same way. After the walks, the table refuses nothing.
+/// Each call other than unveil is refused before its first walk, and not by the table, or makes the walks of the one
+/// table of walks in order, each judged at its end for the permissions that it needs. If a walk is refused, so is the
+/// call; after the walks the table refuses nothing.
 pub fn calls_go_along()
     ensures { CallsGoAlong }
 {}

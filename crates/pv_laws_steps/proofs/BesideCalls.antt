@@ -7,20 +7,10 @@ use Rattle.pv_model.specs.declared.call.Call.TheVariants as TheCall
 use Rattle.pv_model.specs.declared.errno.Errno.{Errno}
 use Rattle.pv_model.specs.declared.errno.Errno.TheVariants.{EAGAIN, ECHILD}
 use Rattle.pv_model.specs.declared.outcome.Cause.{Cause}
-use Rattle.pv_model.specs.Answer.{effect}
-use Rattle.pv_model.specs.Attempt.{Attempt, done, refused, after_walks, ◌>>=◌, ◌>>◌, refuse_if}
-use Rattle.pv_model.specs.Bytes.{Bytes, is_empty}
-use Rattle.pv_model.specs.Calls.Descriptors.{list_name}
-use Rattle.pv_model.specs.Calls.Processes.{child, fork, children, statuses, reap, wait}
-use Rattle.pv_model.specs.Calls.Restraints.{unveil}
-use Rattle.pv_model.specs.Effect.{Effect, Reply, returns, answers, with_room}
-use Rattle.pv_model.specs.Held.{collect}
-use Rattle.pv_model.specs.Numbered.{Numbered}
-use Rattle.pv_model.specs.State.{OpenFile, Program, Process, live, State, with_process}
-use Rattle.pv_model.specs.Tree.{Tree}
+use Rattle.pv_model.specs.Machine.{effect, Attempt, done, refused, after_walks, ◌>>=◌, ◌>>◌, refuse_if, Bytes, is_empty, list_name, child, fork, children, statuses, reap, wait, unveil, Effect, Reply, returns, answers, with_room, collect, Numbered, OpenFile, Program, Process, live, State, with_process, Tree}
 use Rattle.pv_laws_steps.specs.Beside.{with_change}
-use Rattle.pv_laws_steps.proofs.Alongside.{IsBeside, Beside, after-beside, bind-beside, then-beside, done-beside, refused-beside, same-room, room-beside}
-use Rattle.pv_laws_steps.proofs.Exchange.{KeepsParent, changed, Fits, put-other, length-changed, where-changed, children-changed, collect-changed}
+use Rattle.pv_laws_steps.proofs.ChangedPairs.{IsBeside, Beside, after-beside, bind-beside, then-beside, done-beside, refused-beside, same-room, room-beside}
+use Rattle.pv_laws_steps.proofs.ChangedProcess.{KeepsParent, changed, Fits, put-other, length-changed, where-changed, children-changed, collect-changed}
 
 -- the change of a process, and the states to which it applies
 abbrev pub changes : ℕ → (Process → Process) → State → State

@@ -3,12 +3,7 @@ use Rattle.std.proofs.Common.{◌≡◌, ◌≢◌, ℕ, suc, true, cond, List, 
 use Rattle.std.proofs.lemmas.Bool.{and_parts}
 use Rattle.std.specs.FinMap.Entries.{find, put, is_sorted, below_all}
 use Rattle.std.specs.Ordering.{nat_cmp, is_eq}
-use Rattle.pv_model.specs.Answer.{at_next_line}
-use Rattle.pv_model.specs.Bytes.{Bytes}
-use Rattle.pv_model.specs.Calls.Processes.{child}
-use Rattle.pv_model.specs.Numbered.{with_number, least_free}
-use Rattle.pv_model.specs.State.{Program, Process, ProcessRecord, live, ended_record, State, process_at}
-use Rattle.pv_model.specs.Step.{step}
+use Rattle.pv_model.specs.Machine.{at_next_line, Bytes, child, with_number, least_free, Program, Process, ProcessRecord, live, ended_record, State, process_at, step}
 use Rattle.pv_laws_states.specs.States.{IsValid}
 use Rattle.pv_laws_states.proofs.BySteps.{IsGoodNext, good-next}
 use Rattle.pv_laws_states.proofs.Members.{find_number_after, found-live}
@@ -17,9 +12,9 @@ use Rattle.pv_laws_states.proofs.Processes.{number-itself, process_at-same}
 use Rattle.pv_laws_states.proofs.Replies.{whole-at_call}
 use Rattle.pv_laws_access.proofs.Ends.{whole-in_order, not_next}
 use Rattle.pv_laws_steps.specs.Beside.{AppearsAlike, with_change, become, StepsBeside}
-use Rattle.pv_laws_steps.proofs.Alongside.{SteppedBeside, IsApart, step-beside}
+use Rattle.pv_laws_steps.proofs.ChangedPairs.{SteppedBeside, IsApart, step-beside}
 use Rattle.pv_laws_steps.proofs.BesideCalls.{changes, AreFit, room-changed}
-use Rattle.pv_laws_steps.proofs.Exchange.{KeepsParent, Fits, put-other, collect-changed, fits-put, fits-filter, process-changed, with-changed, end-changed, fits-end}
+use Rattle.pv_laws_steps.proofs.ChangedProcess.{KeepsParent, Fits, put-other, collect-changed, fits-put, fits-filter, process-changed, with-changed, end-changed, fits-end}
 use Rattle.pv_laws_steps.proofs.RoomCalls.{CallsFit, calls-fit}
 
 -- in a sorted table, the change applies to the process that is found

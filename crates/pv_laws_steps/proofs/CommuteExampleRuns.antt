@@ -4,28 +4,17 @@ use Rattle.std.specs.Prelude.{codes}
 use Rattle.pv_model.specs.declared.call.Call.{Call}
 use Rattle.pv_model.specs.declared.call.Call.TheVariants as TheCall
 use Rattle.pv_model.specs.declared.open_flags.Mode.TheVariants.{Read as Reading, ReadWrite}
-use Rattle.pv_model.specs.Calls.Descriptors.{within, write_end}
-use Rattle.pv_model.specs.Effect.{open_file}
-use Rattle.pv_model.specs.OnLiterals.{machine_on_literals}
-use Rattle.pv_model.specs.Program.{calls_for, next}
-use Rattle.pv_model.specs.State.{OpenFile, Process, first_process, process_at}
-use Rattle.pv_model.specs.Step.{step}
-use Rattle.pv_model.specs.Touch.{file_bytes, descriptor_of}
-use Rattle.pv_model.specs.Tree.{file_node, node_at}
-use Rattle.pv_laws_steps.specs.CommuteExamples.{no_programs, state_after, apart, unlinking, asking_size, OrderExamples, OffsetExamples, WriteExamples}
+use Rattle.pv_model.specs.Machine.{within, write_end, open_file, machine_on_literals, calls_for, next, OpenFile, Process, process_at, step, file_bytes, descriptor_of, file_node, node_at, Numbered, directory_node, Tree, is_directory_at}
+use Rattle.pv_laws_steps.specs.CommuteExamples.{apart, unlinking, asking_size, OrderExamples, OffsetExamples, WriteExamples}
 use Rattle.std.specs.Prelude.{replicate}
-use Rattle.pv_model.specs.Numbered.{Numbered}
 use Rattle.pv_laws_steps.specs.CommuteExamples.{closing_both, entering_open, DescriptorExamples, DirectoryExamples}
 use Rattle.std.specs.Prelude.{true}
-use Rattle.pv_model.specs.Tree.{directory_node, Tree, is_directory_at}
 use Rattle.pv_model.specs.declared.version.Version.TheVariants.{V1}
+use Rattle.pv_laws_states.specs.ExampleStates.{no_programs, state_after}
+use Rattle.pv_laws_states.proofs.ExampleStates.{or_first}
 use Rattle.pv_laws_steps.specs.Offsets.{GoesBy}
 use Rattle.pv_laws_steps.specs.Writes.{LeavesBytes}
 use Rattle.pv_laws_steps.proofs.NextCalls.{goes-by_none, leaves-bytes}
-
-abbrev pub or_first : Option Process → Process
-or_first None = first_process []
-or_first (Some p) = p
 
 pub order-happens : OrderExamples
 unfolding machine_on_literals

@@ -1,26 +1,18 @@
 -- Other bytes of similar length in a file, stored before and after a step of another process that does not depend on
 -- them.
 use Rattle.std.proofs.Common.{◌≡◌, ◌≢◌, ℕ, true, length, Option, Some, ap, sym, ◌∙◌}
-use Rattle.pv_model.specs.Bytes.{Bytes}
-use Rattle.pv_model.specs.Effect.{bytes_of}
-use Rattle.pv_model.specs.Held.{collect}
-use Rattle.pv_model.specs.Room.{is_too_long, fits}
-use Rattle.pv_model.specs.Sealed.{is_file}
-use Rattle.pv_model.specs.State.{Program, Process, State, process_at}
-use Rattle.pv_model.specs.Step.{step}
-use Rattle.pv_model.specs.Touch.{file_bytes, with_bytes}
-use Rattle.pv_model.specs.Tree.{Tree, node_at}
+use Rattle.pv_model.specs.Machine.{Bytes, bytes_of, collect, is_too_long, fits, is_file, Program, Process, State, process_at, step, file_bytes, with_bytes, Tree, node_at}
 use Rattle.pv_laws_states.specs.States.{are_bytes, EncodesPrograms, IsValid}
-use Rattle.pv_laws_states.proofs.Running.{SameHolds}
-use Rattle.pv_laws_access.specs.Justice.{HasEffectNext}
-use Rattle.pv_laws_access.proofs.Near.{GoesByLength, IsExact, IsFine}
+use Rattle.pv_laws_states.proofs.ProcessInsides.{SameHolds}
+use Rattle.pv_laws_runs.specs.OfLawsAccess.Justice.{HasEffectNext}
+use Rattle.pv_laws_runs.proofs.OfLawsAccess.SimilarTrees.{GoesByLength, IsExact, IsFine}
 use Rattle.pv_laws_steps.specs.Beside.{with_change, become}
 use Rattle.pv_laws_steps.specs.Writes.{LeavesBytes}
-use Rattle.pv_laws_steps.proofs.Alongside.{SteppedBeside}
+use Rattle.pv_laws_steps.proofs.ChangedPairs.{SteppedBeside}
 use Rattle.pv_laws_steps.proofs.BesideSteps.{others-alter-nothing}
-use Rattle.pv_laws_steps.proofs.Inward.{alike-held}
+use Rattle.pv_laws_steps.proofs.InwardSteps.{alike-held}
 use Rattle.pv_laws_steps.proofs.OtherBytes.{fits-bytes, long-bytes, settled-bytes, whole-bytes, goes-along}
-use Rattle.pv_laws_steps.proofs.Twice.{after_k}
+use Rattle.pv_laws_steps.proofs.ExchangedSteps.{after_k}
 
 module _ (size : ℕ → ℕ) (fine : IsFine size) where
   -- bytes for a file that exists in both states, and that process k does not use; nor does it use their number if that

@@ -6,39 +6,24 @@ use Rattle.pv_model.specs.declared.open_flags.Mode.{Mode}
 use Rattle.pv_model.specs.declared.outcome.Cause.TheVariants.{Plain}
 use Rattle.pv_model.specs.declared.outcome.Outcome.TheVariants.{Killed}
 use Rattle.pv_model.specs.declared.promise.Promise.{Promise}
-use Rattle.pv_model.specs.Answer.{at_next_line, update_live, update, effect}
-use Rattle.pv_model.specs.Attempt.{Attempt, after_walks, ◌>>=◌, ◌>>◌, refuse_if, demand}
-use Rattle.pv_model.specs.Bytes.{Bytes}
-use Rattle.pv_model.specs.Calls.Descriptors.{natural, is_past_greatest, with_content}
-use Rattle.pv_model.specs.Effect.{Effect, answers, with_room, open_file, bytes_of, resize}
-use Rattle.pv_model.specs.Held.{collect}
-use Rattle.pv_model.specs.Needs.{needs}
-use Rattle.pv_model.specs.Numbered.{at_number}
-use Rattle.pv_model.specs.Program.{calls_for, next}
-use Rattle.pv_model.specs.Promises.{missing_promise}
-use Rattle.pv_model.specs.Room.{is_too_long, fits}
-use Rattle.pv_model.specs.Sealed.{is_file}
-use Rattle.pv_model.specs.State.{OpenFile, Program, Process, State, writes, process_at, with_process, with_tree}
-use Rattle.pv_model.specs.Step.{step}
-use Rattle.pv_model.specs.Touch.{file_bytes}
-use Rattle.pv_model.specs.Tree.{node_at}
+use Rattle.pv_model.specs.Machine.{at_next_line, update_live, update, effect, Attempt, after_walks, ◌>>=◌, ◌>>◌, refuse_if, demand, Bytes, natural, is_past_greatest, with_content, Effect, answers, with_room, open_file, bytes_of, resize, collect, needs, at_number, calls_for, next, missing_promise, is_too_long, fits, is_file, OpenFile, Program, Process, State, writes, process_at, with_process, with_tree, step, file_bytes, node_at}
 use Rattle.pv_laws_states.specs.States.{is_byte, EncodesPrograms, IsValid}
 use Rattle.pv_laws_states.proofs.ByFile.{open_file-at, file-bytes}
 use Rattle.pv_laws_states.proofs.Processes.{update-with}
-use Rattle.pv_laws_states.proofs.Running.{SameHolds, list_all-take, list_all-replicate, list_all-both}
-use Rattle.pv_laws_access.specs.Growth.{IsSameFile}
-use Rattle.pv_laws_access.proofs.Near.{blocks, blocks-fine}
-use Rattle.pv_laws_access.proofs.NearCalls.{size-length}
+use Rattle.pv_laws_states.proofs.ProcessInsides.{SameHolds, list_all-take, list_all-replicate, list_all-both}
+use Rattle.pv_laws_runs.specs.OfLawsAccess.Growth.{IsSameFile}
+use Rattle.pv_laws_runs.proofs.OfLawsAccess.SimilarTrees.{blocks, blocks-fine}
+use Rattle.pv_laws_runs.proofs.OfLawsAccess.SimilarCalls.{size-length}
 use Rattle.pv_laws_steps.specs.Beside.{with_change, become}
 use Rattle.pv_laws_steps.specs.Commuting.{Commute}
 use Rattle.pv_laws_steps.specs.Growing.{KeepsBlocks, LeavesCut}
-use Rattle.pv_laws_steps.proofs.Alongside.{SteppedBeside}
+use Rattle.pv_laws_steps.proofs.ChangedPairs.{SteppedBeside}
 use Rattle.pv_laws_steps.proofs.ContentSteps.{Content, put_content, settled-content, settled-content_u, short-content, short-content_u, fit-content, fit-content_u, passes-content}
-use Rattle.pv_laws_steps.proofs.LeftFiles.{OpenAlike, alike-open}
-use Rattle.pv_laws_steps.proofs.Lone.{commute-where}
+use Rattle.pv_laws_steps.proofs.LeftOpenFiles.{OpenAlike, alike-open}
+use Rattle.pv_laws_steps.proofs.LoneSteps.{commute-where}
 use Rattle.pv_laws_steps.proofs.Orphans.{orphan}
 use Rattle.pv_laws_steps.proofs.OtherBytes.{bytes-left, not_by-length, may-be_long}
-use Rattle.pv_laws_steps.proofs.Twice.{acts, Two, two-after, two-refused, two-demand, after_k, whole-following, heir, quiet, quiet-following, passes-by, commute-steps, call-twice}
+use Rattle.pv_laws_steps.proofs.ExchangedSteps.{acts, Two, two-after, two-refused, two-demand, after_k, whole-following, heir, quiet, quiet-following, passes-by, commute-steps, call-twice}
 use Rattle.pv_laws_steps.proofs.WriteSteps.{roomy, written-file}
 
 module _ (program_of : Bytes → Option Program) (encodes : EncodesPrograms program_of) (s : State) (j k : ℕ) (p : Process) (whole : IsValid s) (apart : j ≢ k) (at : process_at s j ≡ Some p) where

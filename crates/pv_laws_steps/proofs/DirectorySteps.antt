@@ -5,31 +5,19 @@ use Rattle.pv_model.specs.declared.call.Call.TheVariants as TheCall
 use Rattle.pv_model.specs.declared.errno.Errno.TheVariants.{EBADF, ENOTDIR}
 use Rattle.pv_model.specs.declared.outcome.Outcome.TheVariants.{Killed}
 use Rattle.pv_model.specs.declared.promise.Promise.{Promise}
-use Rattle.pv_model.specs.Answer.{at_next_line, effect}
-use Rattle.pv_model.specs.Attempt.{Attempt, done, after_walks, ◌>>=◌, ◌>>◌, give, refuse_if, demand}
-use Rattle.pv_model.specs.Bytes.{Bytes}
-use Rattle.pv_model.specs.Calls.Descriptors.{directory_of}
-use Rattle.pv_model.specs.Calls.Processes.{with_result}
-use Rattle.pv_model.specs.Effect.{Effect, returns, answers, open_file_of, open_file}
-use Rattle.pv_model.specs.Needs.{needs}
-use Rattle.pv_model.specs.Numbered.{at_number}
-use Rattle.pv_model.specs.Program.{calls_for, next}
-use Rattle.pv_model.specs.Promises.{missing_promise}
-use Rattle.pv_model.specs.State.{OpenFile, Descriptor, Program, Process, State, process_at, with_process, with_tree}
-use Rattle.pv_model.specs.Step.{step}
-use Rattle.pv_model.specs.Tree.{Tree, is_directory_at}
+use Rattle.pv_model.specs.Machine.{at_next_line, effect, Attempt, done, after_walks, ◌>>=◌, ◌>>◌, give, refuse_if, demand, Bytes, directory_of, with_result, Effect, returns, answers, open_file_of, open_file, needs, at_number, calls_for, next, missing_promise, OpenFile, Descriptor, Program, Process, State, process_at, with_process, with_tree, step, Tree, is_directory_at}
 use Rattle.pv_laws_states.specs.States.{EncodesPrograms, IsValid}
 use Rattle.pv_laws_states.proofs.Outcomes.{at_call}
-use Rattle.pv_laws_access.proofs.Ends.{whole-in_order}
-use Rattle.pv_laws_access.proofs.Frames.{others-files}
+use Rattle.pv_laws_runs.proofs.OfLawsAccess.Ends.{whole-in_order}
+use Rattle.pv_laws_runs.proofs.OfLawsAccess.OtherOpenFiles.{others-files}
 use Rattle.pv_laws_steps.specs.Commuting.{Commute}
 use Rattle.pv_laws_steps.specs.Holding.{changes_directory, LeavesTree, LeavesWay}
-use Rattle.pv_laws_steps.proofs.Exchange.{KeepsParent}
-use Rattle.pv_laws_steps.proofs.HeldApart.{UsesNoMore}
-use Rattle.pv_laws_steps.proofs.Lone.{commute-where}
+use Rattle.pv_laws_steps.proofs.ChangedProcess.{KeepsParent}
+use Rattle.pv_laws_steps.proofs.OtherReferences.{UsesNoMore}
+use Rattle.pv_laws_steps.proofs.LoneSteps.{commute-where}
 use Rattle.pv_laws_steps.proofs.Orphans.{orphan}
 use Rattle.pv_laws_steps.proofs.OwnSteps.{Becomes, becomes-bind, becomes-then, becomes, becomes-there, become-commute, used-same, files-stay, own-commute}
-use Rattle.pv_laws_steps.proofs.Twice.{after_k, heir}
+use Rattle.pv_laws_steps.proofs.ExchangedSteps.{after_k, heir}
 
 -- ---- the effect of such a call
 

@@ -4,20 +4,15 @@ use Rattle.pv_model.specs.declared.call.Call.{Call}
 use Rattle.pv_model.specs.declared.call.Call.TheVariants as TheCall
 use Rattle.pv_model.specs.declared.outcome.Outcome.TheVariants.{Killed}
 use Rattle.pv_model.specs.declared.promise.Promise.{Promise}
-use Rattle.pv_model.specs.Bytes.{Bytes}
-use Rattle.pv_model.specs.Effect.{open_file}
-use Rattle.pv_model.specs.Program.{calls_for, next}
-use Rattle.pv_model.specs.State.{Program, Process, State, process_at}
-use Rattle.pv_model.specs.Step.{step}
-use Rattle.pv_model.specs.Touch.{descriptor_of}
+use Rattle.pv_model.specs.Machine.{Bytes, open_file, calls_for, next, Program, Process, State, process_at, step, descriptor_of}
 use Rattle.pv_laws_states.specs.States.{EncodesPrograms, IsValid}
-use Rattle.pv_laws_access.specs.Justice.{reads_bytes, changes_bytes, asks_size}
+use Rattle.pv_laws_runs.specs.OfLawsAccess.Justice.{reads_bytes, changes_bytes, asks_size}
 use Rattle.pv_laws_steps.specs.Asking.{LeavesNode}
 use Rattle.pv_laws_steps.specs.Commuting.{Commute}
-use Rattle.pv_laws_steps.specs.Entries.{changes_entries, AreApart}
+use Rattle.pv_laws_steps.specs.Entries.{changes_entries, IsIndependent}
 use Rattle.pv_laws_steps.specs.Growing.{LeavesContent}
 use Rattle.pv_laws_steps.specs.Offsets.{GoesBy, moves_offset}
-use Rattle.pv_laws_steps.proofs.AskSteps.{fstats-commute}
+use Rattle.pv_laws_steps.proofs.QuerySteps.{fstats-commute}
 use Rattle.pv_laws_steps.proofs.CutSteps.{cuts-commute}
 use Rattle.pv_laws_steps.proofs.NextCalls.{goes-by_none, leaves-content}
 use Rattle.pv_laws_steps.proofs.OffsetSteps.{offsets-commute}
@@ -56,7 +51,7 @@ module _ (program_of : Bytes → Option Program) (encodes : EncodesPrograms prog
       offsets-commute program_of encodes s k j q call whole apart at_k next_is is alive
       (λ e m file has opened. let both : Some d ≡ Some e = sym own ∙ has in let same : e ≡ d = cc both in (away m, leaves m file (ap (open_file s q) (sym same) ∙ opened)))
 
-  by-call : (call : Call) → next q ≡ calls_for call → AreApart program_of s j k q call → Commute program_of s k j
+  by-call : (call : Call) → next q ≡ calls_for call → IsIndependent program_of s j k q call → Commute program_of s k j
   by-call (TheCall.Read d n) next_is appears = moves (TheCall.Read d n) d refl refl next_is appears
   by-call (TheCall.Lseek d by whence) next_is appears = moves (TheCall.Lseek d by whence) d refl refl next_is appears
   by-call (TheCall.Getdents d) next_is appears = moves (TheCall.Getdents d) d refl refl next_is appears
@@ -67,6 +62,6 @@ module _ (program_of : Bytes → Option Program) (encodes : EncodesPrograms prog
 
 pub entries-commute : (program_of : Bytes → Option Program) → EncodesPrograms program_of → (s : State) (j k : ℕ) (p q : Process) (entries call : Call) → IsValid s → j ≢ k
     → process_at s j ≡ Some p → next p ≡ calls_for entries → changes_entries entries ≡ true
-    → process_at s k ≡ Some q → next q ≡ calls_for call → ((a : Promise) → (step program_of s k).outcome ≢ Killed a) → AreApart program_of s j k q call → Commute program_of s j k
+    → process_at s k ≡ Some q → next q ≡ calls_for call → ((a : Promise) → (step program_of s k).outcome ≢ Killed a) → IsIndependent program_of s j k q call → Commute program_of s j k
 entries-commute program_of encodes s j k p q entries call whole apart at comes changes at_k next_is alive appears =
     swapped program_of s j k (by-call program_of encodes s j k p q entries whole (λ same. apart (sym same)) at comes changes at_k alive call next_is appears)

@@ -4,27 +4,18 @@ use Rattle.pv_model.specs.declared.call.Call.{Call}
 use Rattle.pv_model.specs.declared.call.Call.TheVariants as TheCall
 use Rattle.pv_model.specs.declared.outcome.Outcome.TheVariants.{Killed}
 use Rattle.pv_model.specs.declared.promise.Promise.{Promise}
-use Rattle.pv_model.specs.Answer.{at_next_line, effect}
-use Rattle.pv_model.specs.Attempt.{Attempt, done, ◌>>=◌, ◌>>◌}
-use Rattle.pv_model.specs.Bytes.{Bytes}
-use Rattle.pv_model.specs.Calls.Processes.{with_result, with_program}
-use Rattle.pv_model.specs.Effect.{Effect, returns}
-use Rattle.pv_model.specs.Needs.{needs}
-use Rattle.pv_model.specs.Program.{calls_for, next}
-use Rattle.pv_model.specs.Promises.{missing_promise}
-use Rattle.pv_model.specs.State.{Program, Process, State, process_at, with_process, with_tree}
-use Rattle.pv_model.specs.Step.{step}
+use Rattle.pv_model.specs.Machine.{at_next_line, effect, Attempt, done, ◌>>=◌, ◌>>◌, Bytes, with_result, with_program, Effect, returns, needs, calls_for, next, missing_promise, Program, Process, State, process_at, with_process, with_tree, step}
 use Rattle.pv_laws_states.specs.States.{EncodesPrograms, IsValid}
 use Rattle.pv_laws_states.proofs.ByProcess.{preserved_descriptor}
 use Rattle.pv_laws_steps.specs.Beside.{become}
 use Rattle.pv_laws_steps.specs.Commuting.{Commute}
 use Rattle.pv_laws_steps.specs.Holding.{LeavesOpenFiles, LeavesTree}
-use Rattle.pv_laws_steps.proofs.Exchange.{KeepsParent}
-use Rattle.pv_laws_steps.proofs.HeldApart.{UsesNoMore}
-use Rattle.pv_laws_steps.proofs.Lone.{commute-where}
+use Rattle.pv_laws_steps.proofs.ChangedProcess.{KeepsParent}
+use Rattle.pv_laws_steps.proofs.OtherReferences.{UsesNoMore}
+use Rattle.pv_laws_steps.proofs.LoneSteps.{commute-where}
 use Rattle.pv_laws_steps.proofs.Orphans.{orphan}
 use Rattle.pv_laws_steps.proofs.OwnSteps.{Becomes, becomes-bind, becomes-then, becomes-there, become-commute, own-commute}
-use Rattle.pv_laws_steps.proofs.Twice.{after_k, heir}
+use Rattle.pv_laws_steps.proofs.ExchangedSteps.{after_k, heir}
 
 -- ---- the effect of the call
 

@@ -5,16 +5,12 @@ use Rattle.pv_model.specs.declared.call.Call.{Call}
 use Rattle.pv_model.specs.declared.call.Call.TheVariants as TheCall
 use Rattle.pv_model.specs.declared.call.Whence.TheVariants.{Current}
 use Rattle.pv_model.specs.declared.open_flags.Mode.TheVariants.{ReadWrite}
-use Rattle.pv_model.specs.Calls.Descriptors.{within, natural, write_end}
-use Rattle.pv_model.specs.Effect.{open_file}
-use Rattle.pv_model.specs.OnLiterals.{machine_on_literals}
-use Rattle.pv_model.specs.Program.{calls_for, next}
-use Rattle.pv_model.specs.Room.{rounded_up}
-use Rattle.pv_model.specs.State.{OpenFile, Process, process_at}
+use Rattle.pv_model.specs.Machine.{within, natural, write_end, open_file, machine_on_literals, calls_for, next, rounded_up, OpenFile, Process, process_at}
+use Rattle.pv_laws_states.proofs.ExampleStates.{or_first}
 use Rattle.pv_laws_steps.specs.Growing.{file_blocks, LeavesContent}
 use Rattle.pv_laws_steps.specs.GrowingExamples.{growing_unlinked, shrinking_beside, GrowingExamples, CutExamples}
 use Rattle.pv_laws_steps.specs.Offsets.{GoesBy}
-use Rattle.pv_laws_steps.proofs.CommuteExampleRuns.{or_first, or_none}
+use Rattle.pv_laws_steps.proofs.CommuteExampleRuns.{or_none}
 use Rattle.pv_laws_steps.proofs.NextCalls.{goes-by_none, leaves-content}
 
 abbrev unlink : Call

@@ -3,14 +3,11 @@ use Rattle.std.proofs.Common.{◌≡◌, true, false, [], ◌∷◌, None, Some,
 use Rattle.std.specs.Prelude.{codes, replicate}
 use Rattle.pv_model.specs.declared.open_flags.Mode.TheVariants.{Read as Reading}
 use Rattle.pv_model.specs.declared.version.Version.TheVariants.{V1}
-use Rattle.pv_model.specs.Numbered.{Numbered}
-use Rattle.pv_model.specs.OnLiterals.{machine_on_literals}
-use Rattle.pv_model.specs.State.{OpenFile, Process, process_at}
-use Rattle.pv_model.specs.Step.{step}
-use Rattle.pv_model.specs.Tree.{Tree, directory_node, file_node}
-use Rattle.pv_laws_steps.specs.CommuteExamples.{no_programs}
+use Rattle.pv_model.specs.Machine.{Numbered, machine_on_literals, OpenFile, Process, process_at, step, Tree, directory_node, file_node}
+use Rattle.pv_laws_states.specs.ExampleStates.{no_programs}
+use Rattle.pv_laws_states.proofs.ExampleStates.{or_first}
 use Rattle.pv_laws_steps.specs.HoldingExamples.{unveiling_open, executing_both, one_program, leaving_full, UnveilExamples, ExecveExamples, FullImageExamples}
-use Rattle.pv_laws_steps.proofs.CommuteExampleRuns.{or_first, entered_tree}
+use Rattle.pv_laws_steps.proofs.CommuteExampleRuns.{entered_tree}
 
 abbrev unveiler : Process
 unveiler = or_first (process_at unveiling_open 1)

@@ -6,7 +6,7 @@ use Rattle.std.specs.Ordering.{nat_cmp, is_eq, is_lt, eq_by_cmp}
 use Rattle.std.specs.declared.cmp.Ordering.{Ordering}
 use Rattle.std.specs.declared.cmp.Ordering.TheVariants.{Less, Equal, Greater}
 use Rattle.std.proofs.lemmas.Bool.{and_parts, eqb-true, ne_eqb}
-use Rattle.pv_model.specs.State.{Process, ProcessRecord, live, ended_record, State, live_process}
+use Rattle.pv_model.specs.Machine.{Process, ProcessRecord, live, ended_record, State, live_process}
 use Rattle.pv_laws_steps.specs.Beside.{change_live, change_at, with_change, become}
 use Rattle.pv_laws_steps.specs.Seen.{with_inside}
 

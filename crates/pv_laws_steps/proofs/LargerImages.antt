@@ -3,22 +3,15 @@ use Rattle.std.proofs.Common.{◌≡◌, true, Result, Ok, Err, refl, ap, sym, s
 use Rattle.pv_model.specs.declared.kernel_fault.BootFault.{BootFault}
 use Rattle.pv_model.specs.declared.fault.ScheduleFault.{ScheduleFault}
 use Rattle.pv_model.specs.declared.run_fault.RunFault.{RunFault}
-use Rattle.pv_model.specs.Bytes.{Bytes}
-use Rattle.pv_model.specs.Grammar.Lines.{lines_of}
-use Rattle.pv_model.specs.Grammar.Programs.{program_of}
-use Rattle.pv_model.specs.Grammar.Schedules.{schedule_of_lines}
-use Rattle.pv_model.specs.Mount.{mounted}
+use Rattle.pv_model.specs.Machine.{Bytes, lines_of, program_of, schedule_of_lines, mounted, and_then, booted, Started, started_on, image_started, Program, State, first_state, Schedule, steps_of, Tree}
 use Rattle.pv_model.specs.RunFault.{of_boot, of_image, of_schedule}
-use Rattle.pv_model.specs.Start.{and_then, program_in, init_of, booted, Started, started_on, image_started}
-use Rattle.pv_model.specs.State.{Program, State, first_state}
-use Rattle.pv_model.specs.Step.{Schedule, steps_of}
-use Rattle.pv_model.specs.Tree.{Tree}
+use Rattle.pv_model.specs.Start.{program_in, init_of}
 use Rattle.pv_laws_states.specs.States.{are_bytes, IsValid}
 use Rattle.pv_laws_runs.proofs.Ranges.{program_of-encodes}
-use Rattle.pv_laws_runs.proofs.Started.{image-start}
-use Rattle.pv_laws_runs.proofs.Starting.{reached-whole}
+use Rattle.pv_laws_runs.proofs.RunPremises.{image-start}
+use Rattle.pv_laws_runs.proofs.StartingStates.{reached-whole}
 use Rattle.pv_laws_steps.specs.Larger.{IsLarger, IsInLarger}
-use Rattle.pv_laws_steps.specs.Images.{StartsAlike}
+use Rattle.pv_laws_steps.specs.Images.{StartsOnLarger}
 use Rattle.pv_laws_steps.proofs.LargerRuns.{init-alike, larger-keeps_traces}
 
 module _ (old new : Tree) (larger : IsLarger old new) (started : Started) (whole : IsValid started.state) where
@@ -30,7 +23,7 @@ module _ (old new : Tree) (larger : IsLarger old new) (started : Started) (whole
 
   -- the start on the larger tree is the same
   parts-alike : (image schedule : Bytes) (turns : Result Schedule ScheduleFault) (program : Result Program BootFault) → from_parts old turns program ≡ Ok started
-      → image_started image schedule ≡ from_parts new turns program → StartsAlike started image schedule
+      → image_started image schedule ≡ from_parts new turns program → StartsOnLarger started image schedule
   parts-alike image schedule (Err fault) program is starts = cc is
   parts-alike image schedule (Ok turns) (Err fault) is starts = cc is
   parts-alike image schedule (Ok turns) (Ok program) is starts =
@@ -45,7 +38,7 @@ module _ (old new : Tree) (larger : IsLarger old new) (started : Started) (whole
         traces = larger-keeps_traces program_of program_of-encodes started.state other.state (steps_of started.schedule) whole beside;
       }
 
-  starts-alike : (image schedule : Bytes) → mounted image ≡ Ok new → started_on old (lines_of schedule) ≡ Ok started → StartsAlike started image schedule
+  starts-alike : (image schedule : Bytes) → mounted image ≡ Ok new → started_on old (lines_of schedule) ≡ Ok started → StartsOnLarger started image schedule
   unfolding image_started started_on booted
   starts-alike image schedule at is =
       parts-alike image schedule (schedule_of_lines (lines_of schedule)) (program_in (init_of old)) is
@@ -53,7 +46,7 @@ module _ (old new : Tree) (larger : IsLarger old new) (started : Started) (whole
       ∙ ap (λ o. from_parts new (schedule_of_lines (lines_of schedule)) (program_in o)) (init-alike old new larger))
 
 pub larger-images : (image larger schedule : Bytes) (old new : Tree) (started : Started) → are_bytes image ≡ true → mounted image ≡ Ok old → mounted larger ≡ Ok new → IsLarger old new
-    → image_started image schedule ≡ Ok started → StartsAlike started larger schedule
+    → image_started image schedule ≡ Ok started → StartsOnLarger started larger schedule
 unfolding image_started
 larger-images image larger schedule old new started all held other is_larger is =
     starts-alike old new is_larger started (reached-whole image started.state (image-start image schedule started all is)) larger schedule other

@@ -1,28 +1,22 @@
 -- Runs in a larger image.
 use Rattle.std.proofs.Common.{◌≡◌, ℕ, suc, true, false, Bool, List, [], ◌∷◌, ◌++◌, length, Option, None, Some, refl, ap, ap₂, sym, subst, ◌∙◌, option_map, option_and_then}
 use Rattle.std.specs.List.{list_all}
-use Rattle.std.specs.Prelude.{codes, IsTrue, IsFalse}
+use Rattle.std.specs.Prelude.{codes}
 use Rattle.std.specs.FinMap.Entries.{find}
 use Rattle.std.proofs.lemmas.Bool.{and_parts}
 use Rattle.std.proofs.lemmas.List.Folds.{list_all-append}
-use Rattle.pv_model.specs.Bytes.{Bytes}
-use Rattle.pv_model.specs.Held.{among, named_tree}
-use Rattle.pv_model.specs.Numbered.{keep_if}
-use Rattle.pv_model.specs.Room.{is_too_long, fits}
+use Rattle.pv_model.specs.Machine.{Bytes, among, named_tree, keep_if, is_too_long, fits, Program, State, with_tree, first_state, Stepped, step, run, boot, Line, trace_bytes, Node, directory_node, file_node, link_node, Tree, root, node_at, entries_of, find_entry, named_numbers}
 use Rattle.pv_model.specs.Start.{init_of}
-use Rattle.pv_model.specs.State.{Program, State, with_tree, first_state}
-use Rattle.pv_model.specs.Step.{Stepped, step, run, init_program, boot}
-use Rattle.pv_model.specs.Trace.{Line, trace_bytes}
-use Rattle.pv_model.specs.Tree.{Node, directory_node, file_node, link_node, Tree, root, node_at, entries_of, find_entry, named_numbers}
+use Rattle.pv_model.specs.Step.{init_program}
 use Rattle.pv_laws_states.specs.States.{EncodesPrograms, IsValid}
 use Rattle.pv_laws_states.proofs.BySteps.{step-keeps_whole}
 use Rattle.pv_laws_trees.proofs.Entries.{by_name}
 use Rattle.pv_laws_trees.proofs.Numbered.{same_numbered, at_number-keep}
-use Rattle.pv_laws_steps.specs.Larger.{IsLarger, ReportsNoLimit, is_limit_word, HasRoomAlso, IsInLarger, StepsAlike, RunsAlike, TracesAlike}
-use Rattle.pv_laws_steps.proofs.Enlarged.{enlarged, node-enlarged, named-enlarged}
-use Rattle.pv_laws_steps.proofs.Fine.{numbers-enlarged, fits-enlarged, short-enlarged}
-use Rattle.pv_laws_steps.proofs.Follows.{enlarge, IsWithin}
-use Rattle.pv_laws_steps.proofs.Steps.{within-step, step-alike}
+use Rattle.pv_laws_steps.specs.Larger.{IsLarger, ReportsNoLimit, is_limit_word, HasRoomAlso, IsInLarger, StepsDifferInSizes, RunsDifferInSizes, TracesAreEqual}
+use Rattle.pv_laws_steps.proofs.LargerTrees.{enlarged, node-enlarged, named-enlarged}
+use Rattle.pv_laws_steps.proofs.LargerTreeRoom.{numbers-enlarged, fits-enlarged, short-enlarged}
+use Rattle.pv_laws_steps.proofs.LargerAttempts.{enlarge, IsWithin}
+use Rattle.pv_laws_steps.proofs.LargerSteps.{within-step, step-alike}
 
 -- ---- the same nodes
 
@@ -66,7 +60,7 @@ larger-has_room old new larger numbers =
 
 module _ (program_of : Bytes → Option Program) (encodes : EncodesPrograms program_of) where
   steps_alike : (blocks inodes : ℕ) (s : State) (pid : ℕ) → IsValid s → IsWithin blocks inodes s.tree → ReportsNoLimit (step program_of s pid).lines
-      → StepsAlike (step program_of s pid) (step program_of (enlarge blocks inodes s) pid)
+      → StepsDifferInSizes (step program_of s pid) (step program_of (enlarge blocks inodes s) pid)
   steps_alike blocks inodes s pid whole sized none =
       let both = step-alike blocks inodes program_of encodes s pid whole sized none in
       let after : State = (step program_of s pid).after in
@@ -77,11 +71,11 @@ module _ (program_of : Bytes → Option Program) (encodes : EncodesPrograms prog
             (enlarge-in_larger blocks inodes after (step-keeps_whole program_of encodes s pid whole).tree.well_formed.numbers (within-step blocks inodes program_of encodes s pid whole sized));
       }
 
-  pub larger-keeps_steps : (s u : State) (pid : ℕ) → IsValid s → IsInLarger s u → ReportsNoLimit (step program_of s pid).lines → StepsAlike (step program_of s pid) (step program_of u pid)
+  pub larger-keeps_steps : (s u : State) (pid : ℕ) → IsValid s → IsInLarger s u → ReportsNoLimit (step program_of s pid).lines → StepsDifferInSizes (step program_of s pid) (step program_of u pid)
   larger-keeps_steps s u pid whole larger none =
-      in_larger (λ x y. ReportsNoLimit (step program_of x pid).lines → StepsAlike (step program_of x pid) (step program_of y pid)) (λ blocks inodes x is sized. steps_alike blocks inodes x pid is sized) s u whole larger none
+      in_larger (λ x y. ReportsNoLimit (step program_of x pid).lines → StepsDifferInSizes (step program_of x pid) (step program_of y pid)) (λ blocks inodes x is sized. steps_alike blocks inodes x pid is sized) s u whole larger none
 
-  pub larger-keeps_runs : (pids : List ℕ) (s u : State) → IsValid s → IsInLarger s u → ReportsNoLimit (run program_of pids s).lines → RunsAlike (run program_of pids s) (run program_of pids u)
+  pub larger-keeps_runs : (pids : List ℕ) (s u : State) → IsValid s → IsInLarger s u → ReportsNoLimit (run program_of pids s).lines → RunsDifferInSizes (run program_of pids s) (run program_of pids u)
   larger-keeps_runs [] s u whole larger none = record { lines = refl; final = larger }
   larger-keeps_runs (pid ∷ pids) s u whole larger none =
       let now : Stepped = step program_of s pid in
@@ -101,7 +95,7 @@ module _ (program_of : Bytes → Option Program) (encodes : EncodesPrograms prog
       ∙ ap₂ (λ (ms : List ℕ) (o : Option Node). keep_if (among (root ∷ ms) n) o) (named-enlarged blocks inodes t) (node-enlarged blocks inodes t n)
       ∙ sym (at_number-keep (among ns) t.nodes n))
 
-  pub larger-keeps_traces : (s u : State) (pids : List ℕ) → IsValid s → IsInLarger s u → ReportsNoLimit (run program_of pids s).lines → TracesAlike program_of pids s u
+  pub larger-keeps_traces : (s u : State) (pids : List ℕ) → IsValid s → IsInLarger s u → ReportsNoLimit (run program_of pids s).lines → TracesAreEqual program_of pids s u
   larger-keeps_traces s u pids whole larger none =
       let both = larger-keeps_runs pids s u whole larger none in
       record {

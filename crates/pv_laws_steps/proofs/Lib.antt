@@ -1,38 +1,41 @@
 -- Lemmas about single steps.
--- - Dependence: Insides (lists of processes that differ inside), Alike (states that agree in what a step depends on),
---   Wholes (validity when insides are replaced), SeenSteps (steps in such states).
--- - Two states at once: Alongside (attempts, answers and steps, for any relation of states), Reported (the lines of a
---   call), Exchange, BesideCalls, RoomCalls and BesideSteps (another process differs), Relabelled (the caller differs),
---   Shifts and ShiftCalls (an open file differs), OtherBytes and ContentSteps (the bytes of a file differ), HeldApart
---   and RoomApart (references differ), NextCalls and LeftFiles (the effects of the next call).
--- - Commuting steps: Commuted, Inward, Reordered, Twice, Orphans; and for kinds of calls Lone, AskSteps, OffsetSteps,
---   WriteSteps, CutSteps, EntrySteps, Given and OwnSteps (references change), DescriptorSteps, DirectorySteps,
---   UnveilSteps, ExecveSteps.
--- - Larger images: Padded, Needs, Enlarged, Fine, Changed, Walked, Follows, Calls, Steps, LargerRuns, LargerImages.
--- - Examples by computation: ExampleRuns, CommuteExampleRuns, HoldingExamples, GrowingExamples, EntryExamples, Least.
+-- - Dependence: Insides (lists of processes that differ inside), AgreeingStates (states that agree in what a step depends on),
+--   ValidInsides (validity when insides are replaced), SeenSteps (steps in such states).
+-- - Two states at once: ChangedPairs (attempts, answers and steps, for any relation of states), ReportedParts (the
+--   lines of a call), ChangedProcess, BesideCalls, RoomCalls and BesideSteps (another process differs), RelabelledCalls
+--   (the caller differs), Shifts and ShiftCalls (an open file differs), OtherBytes and ContentSteps (the bytes of a
+--   file differ), OtherReferences and RoomApart (references differ), NextCalls and LeftOpenFiles (the effects of the
+--   next call).
+-- - Commuting steps: CommutingSteps, InwardSteps, ReorderedRuns, ExchangedSteps, Orphans; and for kinds of calls
+--   LoneSteps, QuerySteps, OffsetSteps, WriteSteps, CutSteps, EntrySteps, ReferenceSteps and OwnSteps (references
+--   change), DescriptorSteps, DirectorySteps, UnveilSteps, ExecveSteps.
+-- - Larger images: PaddedMaps, LargerNeeds, LargerTrees, LargerTreeRoom, LargerChanges, LargerWalks, LargerAttempts,
+--   LargerCalls, LargerSteps, LargerRuns, LargerImages.
+-- - Examples by computation: ExampleRuns, CommuteExampleRuns, HoldingExamples, GrowingExamples, EntryExamples,
+--   FullImageExampleRuns.
 pub mod Insides
-pub mod Alike
-pub mod Wholes
+pub mod AgreeingStates
+pub mod ValidInsides
 pub mod SeenSteps
 pub mod ExampleRuns
 -- ---- commuting steps
-pub mod Alongside
-pub mod Exchange
+pub mod ChangedPairs
+pub mod ChangedProcess
 pub mod BesideCalls
 pub mod RoomCalls
 pub mod BesideSteps
 pub mod Shifts
 pub mod ShiftCalls
-pub mod Commuted
-pub mod HeldApart
-pub mod Inward
+pub mod CommutingSteps
+pub mod OtherReferences
+pub mod InwardSteps
 pub mod Orphans
-pub mod Reported
-pub mod Twice
-pub mod Lone
-pub mod LeftFiles
-pub mod AskSteps
-pub mod Given
+pub mod ReportedParts
+pub mod ExchangedSteps
+pub mod LoneSteps
+pub mod LeftOpenFiles
+pub mod QuerySteps
+pub mod ReferenceSteps
 pub mod OwnSteps
 pub mod DescriptorSteps
 pub mod OffsetSteps
@@ -44,24 +47,26 @@ pub mod DirectorySteps
 pub mod UnveilSteps
 pub mod ExecveSteps
 pub mod CutSteps
-pub mod Relabelled
+pub mod RelabelledCalls
 pub mod NextCalls
 pub mod EntrySteps
 pub mod CommuteExampleRuns
 pub mod HoldingExamples
 pub mod GrowingExamples
 pub mod EntryExamples
-pub mod Reordered
+pub mod ReorderedRuns
 -- ---- larger images
-pub mod Padded
-pub mod Needs
-pub mod Enlarged
-pub mod Walked
-pub mod Fine
-pub mod Follows
-pub mod Changed
-pub mod Calls
-pub mod Steps
+pub mod PaddedMaps
+pub mod LargerNeeds
+pub mod LargerTrees
+pub mod LargerWalks
+pub mod LargerTreeRoom
+pub mod LargerAttempts
+pub mod LargerChanges
+pub mod LargerCalls
+pub mod LargerSteps
 pub mod LargerRuns
 pub mod LargerImages
-pub mod Least
+pub mod FullImageExampleRuns
+pub use Rattle.pv_laws_runs.proofs.OfLawsAnswers
+pub use Rattle.pv_laws_runs.proofs as OfLawsRuns

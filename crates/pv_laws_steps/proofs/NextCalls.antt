@@ -1,10 +1,8 @@
 -- The open files and the bytes that a step uses, by the next call of its process.
 use Rattle.std.proofs.Common.{◌≡◌, ℕ, false, None, Some, ap, sym, ◌∙◌}
 use Rattle.pv_model.specs.declared.call.Call.{Call}
-use Rattle.pv_model.specs.Program.{calls_for, next}
-use Rattle.pv_model.specs.State.{Process, State, process_at}
-use Rattle.pv_model.specs.Touch.{descriptor_of}
-use Rattle.pv_laws_access.specs.Justice.{reads_bytes, changes_bytes, asks_size}
+use Rattle.pv_model.specs.Machine.{calls_for, next, Process, State, process_at, descriptor_of}
+use Rattle.pv_laws_runs.specs.OfLawsAccess.Justice.{reads_bytes, changes_bytes, asks_size}
 use Rattle.pv_laws_steps.specs.Growing.{LeavesContent}
 use Rattle.pv_laws_steps.specs.Offsets.{GoesBy}
 use Rattle.pv_laws_steps.specs.Writes.{LeavesBytes}

@@ -8,38 +8,27 @@ use Rattle.pv_model.specs.declared.errno.Errno.TheVariants.{EBADF, EINVAL, EISDI
 use Rattle.pv_model.specs.declared.open_flags.Mode.{Mode}
 use Rattle.pv_model.specs.declared.outcome.Outcome.TheVariants.{Killed}
 use Rattle.pv_model.specs.declared.promise.Promise.{Promise}
-use Rattle.pv_model.specs.Answer.{at_next_line, update, effect}
-use Rattle.pv_model.specs.Attempt.{Attempt, ◌>>=◌, ◌>>◌, refuse_if, demand}
-use Rattle.pv_model.specs.Bytes.{Bytes}
-use Rattle.pv_model.specs.Calls.Descriptors.{if_mode, within, seek_base, next_name, list_name}
-use Rattle.pv_model.specs.Effect.{Effect, answers, answers_bytes, open_file_of, open_file, with_file, bytes_of}
-use Rattle.pv_model.specs.Held.{collect}
-use Rattle.pv_model.specs.Needs.{needs}
-use Rattle.pv_model.specs.Numbered.{at_number}
-use Rattle.pv_model.specs.Program.{calls_for, next}
-use Rattle.pv_model.specs.Promises.{missing_promise}
-use Rattle.pv_model.specs.State.{OpenFile, Descriptor, Program, Process, State, reads, process_at, with_process}
-use Rattle.pv_model.specs.Step.{step}
-use Rattle.pv_model.specs.Tree.{Node, node_at, is_directory, entries_of}
+use Rattle.pv_model.specs.Machine.{at_next_line, update, effect, Attempt, ◌>>=◌, ◌>>◌, refuse_if, demand, Bytes, within, seek_base, next_name, list_name, Effect, answers, answers_bytes, open_file_of, open_file, with_file, bytes_of, collect, needs, at_number, calls_for, next, missing_promise, OpenFile, Descriptor, Program, Process, State, reads, process_at, with_process, step, Node, node_at, is_directory, entries_of}
+use Rattle.pv_model.specs.Calls.Descriptors.{if_mode}
 use Rattle.pv_laws_states.specs.States.{EncodesPrograms, IsValid}
 use Rattle.pv_laws_states.proofs.ByFile.{open_file-at}
 use Rattle.pv_laws_states.proofs.Processes.{update-with}
-use Rattle.pv_laws_states.proofs.Rests
-use Rattle.pv_laws_states.proofs.Running.{SameHolds}
-use Rattle.pv_laws_access.specs.Growth.{IsSameFile}
-use Rattle.pv_laws_access.proofs.HasEffect.{open_file_for-is}
-use Rattle.pv_laws_access.proofs.Ends.{whole-in_order}
-use Rattle.pv_laws_access.proofs.Frames.{others-files}
+use Rattle.pv_laws_states.proofs.CallRests
+use Rattle.pv_laws_states.proofs.ProcessInsides.{SameHolds}
+use Rattle.pv_laws_runs.specs.OfLawsAccess.Growth.{IsSameFile}
+use Rattle.pv_laws_runs.proofs.OfLawsAccess.CallEffects.{open_file_for-is}
+use Rattle.pv_laws_runs.proofs.OfLawsAccess.Ends.{whole-in_order}
+use Rattle.pv_laws_runs.proofs.OfLawsAccess.OtherOpenFiles.{others-files}
 use Rattle.pv_laws_steps.specs.Beside.{with_change, become}
 use Rattle.pv_laws_steps.specs.Commuting.{Commute}
 use Rattle.pv_laws_steps.specs.Offsets.{with_file_change, GoesBy, moves_offset, LeavesOpenFile}
-use Rattle.pv_laws_steps.proofs.Alongside.{SteppedBeside, collected-update}
-use Rattle.pv_laws_steps.proofs.Exchange.{process-changed}
-use Rattle.pv_laws_steps.proofs.Lone.{commute-where}
+use Rattle.pv_laws_steps.proofs.ChangedPairs.{SteppedBeside, collected-update}
+use Rattle.pv_laws_steps.proofs.ChangedProcess.{process-changed}
+use Rattle.pv_laws_steps.proofs.LoneSteps.{commute-where}
 use Rattle.pv_laws_steps.proofs.Orphans.{orphan}
 use Rattle.pv_laws_steps.proofs.ShiftCalls.{shifts, HasFile, step-shifted}
 use Rattle.pv_laws_steps.proofs.Shifts.{shifted-itself, shift-apart, change-nothing, put-is_change}
-use Rattle.pv_laws_steps.proofs.Twice.{acts, Two, two-bind, two-then, two-demand, after_k, heir, quiet, quiet-following, passes-by, commute-steps, call-twice}
+use Rattle.pv_laws_steps.proofs.ExchangedSteps.{acts, Two, two-bind, two-then, two-demand, after_k, heir, quiet, quiet-following, passes-by, commute-steps, call-twice}
 
 -- ---- a step and an open file that it does not use
 
@@ -168,14 +157,14 @@ module _ (program_of : Bytes → Option Program) (encodes : EncodesPrograms prog
     abbrev read_by : Option Node → State → ℕ → Attempt Effect
     read_by w z count = refuse_if EISDIR (is_directory w) >> answers_bytes (with_file z m (record file { offset = file.offset + length (taken w count) })) (length (taken w count)) (taken w count)
 
-    read-counted : (count : ℕ) → T (Rests.read_2 x j now m file count) (Rests.read_2 y j (orphan n now) m file count)
+    read-counted : (count : ℕ) → T (CallRests.read_2 x j now m file count) (CallRests.read_2 y j (orphan n now) m file count)
     read-counted count =
         subst (λ w. T (read_by (node_at s.tree file.node) x count) (read_by w y count)) (sym same)
         (two-then A (shift s u k) s u j n now (refuse_if EISDIR (is_directory (node_at s.tree file.node))) _ _
         (two-bytes (file.offset + length (taken (node_at s.tree file.node) count)) file.listed (length (taken (node_at s.tree file.node) count)) (taken (node_at s.tree file.node) count)))
 
-    read-rest : (c : ℤ) → T (Rests.read_1 x j now c (m, file)) (Rests.read_1 y j (orphan n now) c (m, file))
-    read-rest c = two-bind A (shift s u k) s u j n now (demand EINVAL (within 4096 c)) (Rests.read_2 x j now m file) (Rests.read_2 y j (orphan n now) m file) read-counted
+    read-rest : (c : ℤ) → T (CallRests.read_1 x j now c (m, file)) (CallRests.read_1 y j (orphan n now) c (m, file))
+    read-rest c = two-bind A (shift s u k) s u j n now (demand EINVAL (within 4096 c)) (CallRests.read_2 x j now m file) (CallRests.read_2 y j (orphan n now) m file) read-counted
 
     -- lseek(2)
     abbrev seek_by : Bool → ℕ → State → ℤ → Attempt Effect
@@ -186,7 +175,7 @@ module _ (program_of : Bytes → Option Program) (encodes : EncodesPrograms prog
     base-same Current = refl
     base-same End = ap (λ w. length (bytes_of w)) same
 
-    lseek-rest : (by : ℤ) (whence : Whence) → T (Rests.lseek_1 x j now by whence (m, file)) (Rests.lseek_1 y j (orphan n now) by whence (m, file))
+    lseek-rest : (by : ℤ) (whence : Whence) → T (CallRests.lseek_1 x j now by whence (m, file)) (CallRests.lseek_1 y j (orphan n now) by whence (m, file))
     lseek-rest by whence =
         let dir : Bool = is_directory (node_at s.tree file.node) in
         let base : ℕ = seek_base x j now file whence in
@@ -203,7 +192,7 @@ module _ (program_of : Bytes → Option Program) (encodes : EncodesPrograms prog
     abbrev list_by : Option Node → State → Process → Attempt Effect
     list_by w z me = refuse_if EINVAL (not (is_directory w)) >> list_name z j me m file (next_name file.listed (entries_of w))
 
-    getdents-rest : T (Rests.getdents_1 x j now (m, file)) (Rests.getdents_1 y j (orphan n now) (m, file))
+    getdents-rest : T (CallRests.getdents_1 x j now (m, file)) (CallRests.getdents_1 y j (orphan n now) (m, file))
     getdents-rest =
         subst (λ w. T (list_by (node_at s.tree file.node) x now) (list_by w y (orphan n now))) (sym same)
         (two-then A (shift s u k) s u j n now (refuse_if EINVAL (not (is_directory (node_at s.tree file.node)))) _ _ (listed-two (next_name file.listed (entries_of (node_at s.tree file.node)))))
@@ -236,10 +225,10 @@ module _ (program_of : Bytes → Option Program) (encodes : EncodesPrograms prog
 
   moves-two : (call : Call) → moves_offset call ≡ true → LeavesOpenFile program_of s p call k → T (effect program_of x j now call) (effect program_of y j (orphan n now) call)
   unfolding effect
-  moves-two (TheCall.Read d c) moves leaves = by-file d (λ m file own. leaves d m file refl own) reads (Rests.read_1 x j now c) (Rests.read_1 y j (orphan n now) c) (λ m file there following away same. read-rest m file there following away same c)
+  moves-two (TheCall.Read d c) moves leaves = by-file d (λ m file own. leaves d m file refl own) reads (CallRests.read_1 x j now c) (CallRests.read_1 y j (orphan n now) c) (λ m file there following away same. read-rest m file there following away same c)
   moves-two (TheCall.Lseek d by whence) moves leaves =
-      any-file d (λ m file own. leaves d m file refl own) (Rests.lseek_1 x j now by whence) (Rests.lseek_1 y j (orphan n now) by whence) (λ m file there following away same. lseek-rest m file there following away same by whence)
-  moves-two (TheCall.Getdents d) moves leaves = any-file d (λ m file own. leaves d m file refl own) (Rests.getdents_1 x j now) (Rests.getdents_1 y j (orphan n now)) (λ m file there following away same. getdents-rest m file there following away same)
+      any-file d (λ m file own. leaves d m file refl own) (CallRests.lseek_1 x j now by whence) (CallRests.lseek_1 y j (orphan n now) by whence) (λ m file there following away same. lseek-rest m file there following away same by whence)
+  moves-two (TheCall.Getdents d) moves leaves = any-file d (λ m file own. leaves d m file refl own) (CallRests.getdents_1 x j now) (CallRests.getdents_1 y j (orphan n now)) (λ m file there following away same. getdents-rest m file there following away same)
   moves-two call moves leaves = cc moves
 
   -- ---- the state after the change

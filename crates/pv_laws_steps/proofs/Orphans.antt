@@ -8,8 +8,8 @@ use Rattle.pv_model.specs.declared.instruction.Operand.{Operand}
 use Rattle.pv_model.specs.declared.instruction.Operand.TheVariants.{Number, Register}
 use Rattle.pv_model.specs.declared.instruction.Origin.{Origin}
 use Rattle.pv_model.specs.declared.instruction.Origin.TheVariants.{WorkingDirectory, Descriptor}
-use Rattle.pv_model.specs.Program.{Next, inside, calls_for, perform, next_by, next, jump_if, operand, start_of_origin}
-use Rattle.pv_model.specs.State.{Process}
+use Rattle.pv_model.specs.Machine.{Next, inside, calls_for, perform, next_by, next, jump_if, Process}
+use Rattle.pv_model.specs.Program.{operand, start_of_origin}
 
 module _ (n : ℕ) where
   abbrev pub orphan : Process → Process

@@ -5,29 +5,19 @@ use Rattle.std.proofs.lemmas.Bool.{le-ltb}
 use Rattle.pv_model.specs.declared.call.Call.{Call}
 use Rattle.pv_model.specs.declared.perms.Perms.{Perms}
 use Rattle.pv_model.specs.declared.place.Place.{Place}
-use Rattle.pv_model.specs.Bytes.{Bytes}
-use Rattle.pv_model.specs.Calls.Descriptors.{is_past_greatest, with_content_of, with_content}
-use Rattle.pv_model.specs.Effect.{bytes_of, start_directory}
-use Rattle.pv_model.specs.Held.{collect}
-use Rattle.pv_model.specs.Numbered.{Numbered}
-use Rattle.pv_model.specs.Room.{greatest_length, is_too_long, fits}
-use Rattle.pv_model.specs.Sealed.{is_file}
-use Rattle.pv_model.specs.State.{Program, Process, State, with_tree}
-use Rattle.pv_model.specs.Step.{step}
-use Rattle.pv_model.specs.Touch.{Touch, change_file, file_bytes, with_bytes, place_found, places, IsAllowed, Justifies, read_by_descriptor, read_by_execve, change_by_descriptor, change_by_open, entry_by_place, report_by_descriptor, report_by_place, gain_by_open}
-use Rattle.pv_model.specs.Tree.{Node, directory_node, file_node, link_node, node_at}
-use Rattle.pv_model.specs.Walks.{walks_of}
+use Rattle.pv_model.specs.Machine.{Bytes, is_past_greatest, with_content_of, with_content, bytes_of, start_directory, collect, Numbered, greatest_length, is_too_long, fits, is_file, Program, Process, State, with_tree, step, change_file, file_bytes, with_bytes, place_found, places, IsAllowed, Justifies, read_by_descriptor, read_by_execve, Node, directory_node, file_node, link_node, node_at, walks_of}
+use Rattle.pv_model.specs.Touch.{Touch, change_by_descriptor, change_by_open, entry_by_place, report_by_descriptor, report_by_place, gain_by_open}
 use Rattle.pv_laws_trees.proofs.Changes.{node_at-same, cases_name}
 use Rattle.pv_laws_trees.proofs.Numbered.{at_number-below}
 use Rattle.pv_laws_trees.proofs.Rooms.{length-within}
 use Rattle.pv_laws_states.specs.States.{are_bytes, IsValid}
-use Rattle.pv_laws_states.proofs.Grown.{tree-content, carries-content, ready-tree}
+use Rattle.pv_laws_states.proofs.GrownTrees.{tree-content, carries-content, ready-tree}
 use Rattle.pv_laws_states.proofs.Replies.{whole-collect}
-use Rattle.pv_laws_access.specs.Justice.{ChangesBytes, HasEffectNext}
-use Rattle.pv_laws_access.proofs.Changed.{file-collect}
-use Rattle.pv_laws_access.proofs.JustFiles.{files-changed}
-use Rattle.pv_laws_access.proofs.JustReads.{near-or_read}
-use Rattle.pv_laws_access.proofs.Near.{GoesByLength, IsExact, IsFine, blocks, blocks-fine, past-alike, near-view, AreNear, near-at, near_state, IsNear, near-collect, fits-near, too_long-near, near-bytes, same-but_file, resolve-near, judgement-near}
+use Rattle.pv_laws_runs.specs.OfLawsAccess.Justice.{ChangesBytes, HasEffectNext}
+use Rattle.pv_laws_runs.proofs.OfLawsAccess.ChangedTrees.{file-collect}
+use Rattle.pv_laws_runs.proofs.OfLawsAccess.JustifiedChanges.{files-changed}
+use Rattle.pv_laws_runs.proofs.OfLawsAccess.JustifiedReads.{near-or_read}
+use Rattle.pv_laws_runs.proofs.OfLawsAccess.SimilarTrees.{GoesByLength, IsExact, IsFine, blocks, blocks-fine, past-alike, near-view, AreNear, near-at, near_state, IsNear, near-collect, fits-near, too_long-near, near-bytes, same-but_file, resolve-near, judgement-near}
 use Rattle.pv_laws_steps.specs.Growing.{LeavesContent, ContentsAlterNothing}
 use Rattle.pv_laws_steps.specs.Writes.{LeavesBytes}
 
@@ -178,7 +168,7 @@ module _ (size : ℕ → ℕ) (fine : IsFine size) where
             near-view size is_file (node_at t.tree f) (node_at t'.tree f) (λ executable old new same. refl) (near-at size f t.tree.nodes t'.tree.nodes near.nodes f) ∙ there in
             ap (with_bytes t f) (bytes-left program_of k f s' (whole-bytes s f b long whole file good) file' there' (λ is. leaves.1 (changes-near s k f b long is)) ∙ bytes-there s f b file)
 
--- a step that leaves the content of a file alone follows a change of the bytes to any with as many blocks
+-- a step that leaves the content of a file alone follows a change of the bytes to any that need the same number of blocks
 pub contents-alter-nothing : ContentsAlterNothing
 contents-alter-nothing program_of s pid f bytes whole file good long leaves =
     let along = goes-along blocks blocks-fine program_of pid f s bytes whole file long good leaves.0 (λ by. absurd (not_by-length s pid f leaves by)) in

@@ -4,21 +4,9 @@ use Rattle.std.proofs.lemmas.Bool.{cases_eq}
 use Rattle.std.specs.FinMap.Entries.{find, is_sorted}
 use Rattle.std.specs.Ordering.{nat_cmp}
 use Rattle.pv_model.specs.declared.call.Call.{Call}
-use Rattle.pv_model.specs.Answer.{Answered, at_next_line, effect}
-use Rattle.pv_model.specs.Attempt.{Attempt, done, refused, after_walks, ◌>>=◌, ◌>>◌}
-use Rattle.pv_model.specs.Bytes.{Bytes}
-use Rattle.pv_model.specs.Calls.Processes.{with_result}
-use Rattle.pv_model.specs.Effect.{Effect, returns}
-use Rattle.pv_model.specs.Held.{among, used_files, held_by_process, collect}
-use Rattle.pv_model.specs.Needs.{needs}
-use Rattle.pv_model.specs.Numbered.{at_number, keep}
-use Rattle.pv_model.specs.Program.{calls_for, next}
-use Rattle.pv_model.specs.Promises.{missing_promise}
-use Rattle.pv_model.specs.State.{OpenFile, Program, Process, State, live_process, process_at, with_process, with_tree}
-use Rattle.pv_model.specs.Step.{Stepped, step}
-use Rattle.pv_model.specs.Tree.{Node, Tree, node_at, is_directory, is_directory_at}
-use Rattle.pv_laws_trees.specs.Preserved.{wanted}
-use Rattle.pv_laws_trees.proofs.Keeping.{wanted-held}
+use Rattle.pv_model.specs.Machine.{Answered, at_next_line, effect, Attempt, done, refused, after_walks, ◌>>=◌, ◌>>◌, Bytes, with_result, Effect, returns, among, used_files, held_by_process, collect, needs, at_number, keep, calls_for, next, missing_promise, OpenFile, Program, Process, State, live_process, process_at, with_process, with_tree, Stepped, step, Node, Tree, node_at, is_directory, is_directory_at}
+use Rattle.pv_laws_trees.specs.Preserved.{numbers_wanted}
+use Rattle.pv_laws_trees.proofs.Collection.{wanted-held}
 use Rattle.pv_laws_trees.proofs.Numbered.{keep-some}
 use Rattle.pv_laws_states.specs.Held.{used}
 use Rattle.pv_laws_states.specs.States.{EncodesPrograms, IsValid}
@@ -27,16 +15,16 @@ use Rattle.pv_laws_states.proofs.Members.{among-held_by, among-held_file, held_c
 use Rattle.pv_laws_states.proofs.Outcomes.{at_call}
 use Rattle.pv_laws_states.proofs.Processes.{process_at-same, with_process-twice}
 use Rattle.pv_laws_states.proofs.Collect.{held_after, tree-collect, files-collect}
-use Rattle.pv_laws_access.proofs.Ends.{whole-in_order, not_next, process_at-collect}
+use Rattle.pv_laws_runs.proofs.OfLawsAccess.Ends.{whole-in_order, not_next, process_at-collect}
 use Rattle.pv_laws_steps.specs.Beside.{with_change}
 use Rattle.pv_laws_steps.specs.Commuting.{Commute}
 use Rattle.pv_laws_steps.specs.Holding.{LeavesOpenFiles, LeavesTree}
-use Rattle.pv_laws_steps.proofs.Exchange.{KeepsParent, process-changed}
-use Rattle.pv_laws_steps.proofs.Given.{Gives, gives, refused-commute, given-commute}
-use Rattle.pv_laws_steps.proofs.HeldApart.{found-same, UsesNoMore, NoMore, all-changed, used-before, change-is, step-to_collect}
+use Rattle.pv_laws_steps.proofs.ChangedProcess.{KeepsParent, process-changed}
+use Rattle.pv_laws_steps.proofs.ReferenceSteps.{Gives, gives, refused-commute, given-commute}
+use Rattle.pv_laws_steps.proofs.OtherReferences.{found-same, UsesNoMore, NoMore, all-changed, used-before, change-is, step-to_collect}
 use Rattle.pv_laws_steps.proofs.Orphans.{orphan, orphaned, next-orphan}
 use Rattle.pv_laws_steps.proofs.RoomApart.{held-there, in-order, goes-along}
-use Rattle.pv_laws_steps.proofs.Twice.{after_k, whole-following, at-following, heir}
+use Rattle.pv_laws_steps.proofs.ExchangedSteps.{after_k, whole-following, at-following, heir}
 
 -- ---- the effect of such a call
 
@@ -161,13 +149,13 @@ module _ (program_of : Bytes → Option Program) (encodes : EncodesPrograms prog
           by : (o : Option Node) → node_at (collect u).tree m ≡ o → is_directory_at (collect u).tree m ≡ true → (node : Node) × (node_at t.tree m ≡ Some node)
           by None none is = let bad : false ≡ true = sym (ap is_directory none) ∙ is in cc bad
           by (Some node) some is =
-              (node, (keep-some (among (wanted t.tree (held_after u))) t.tree.nodes m node (ap (λ (v : Tree). node_at v m) (sym (tree-collect u)) ∙ some)).1)
+              (node, (keep-some (among (numbers_wanted t.tree (held_after u))) t.tree.nodes m node (ap (λ (v : Tree). node_at v m) (sym (tree-collect u)) ∙ some)).1)
 
     -- so only wanted nodes are referenced
     less : (z : State) → z.processes ≡ t.processes → collect z ≡ t → NoMore j f z
     less z same last = record {
       used = used-there;
-      held = λ m is. held_cases (among (wanted z.tree (held_after z)) m ≡ true) v sorted_v m is (by-process m) (by-file m);
+      held = λ m is. held_cases (among (numbers_wanted z.tree (held_after z)) m ≡ true) v sorted_v m is (by-process m) (by-file m);
     }
       where
         v : State
@@ -191,20 +179,20 @@ module _ (program_of : Bytes → Option Program) (encodes : EncodesPrograms prog
         used-there : (m : ℕ) → among (used v) m ≡ true → among (used z) m ≡ true
         used-there = used-before j f z sorted_z (orphan n p) at_z fewer_past
 
-        own : (m : ℕ) → among (held_by_process (f (orphan n p))) m ≡ true → among (wanted z.tree (held_after z)) m ≡ true
+        own : (m : ℕ) → among (held_by_process (f (orphan n p))) m ≡ true → among (numbers_wanted z.tree (held_after z)) m ≡ true
         own m is =
             let there = node-there m is in
-            (keep-some (among (wanted z.tree (held_after z))) z.tree.nodes m there.0
+            (keep-some (among (numbers_wanted z.tree (held_after z))) z.tree.nodes m there.0
             (ap (λ (x : Tree). node_at x m) (sym (tree-collect z)) ∙ ap (λ (x : State). node_at x.tree m) last ∙ there.1)).0
 
-        by-process : (m i : ℕ) (r : Process) → process_at v i ≡ Some r → among (held_by_process r) m ≡ true → among (wanted z.tree (held_after z)) m ≡ true
+        by-process : (m i : ℕ) (r : Process) → process_at v i ≡ Some r → among (held_by_process r) m ≡ true → among (numbers_wanted z.tree (held_after z)) m ≡ true
         by-process m i r at_i is =
             ⊎_elim
             (λ here. own m (ap (λ (x : Process). among (held_by_process x) m) (sym (found-same v i j r (f (orphan n p)) here at_i at_v)) ∙ is))
             (λ others. wanted-held z.tree (held_after z) m (among-held_by z i r m (sym (process-changed j f z i others) ∙ at_i) is))
             (cases_eq i j)
 
-        by-file : (m i : ℕ) (file : OpenFile) → at_number z.files i ≡ Some file → among (used v) i ≡ true → file.node ≡ m → among (wanted z.tree (held_after z)) m ≡ true
+        by-file : (m i : ℕ) (file : OpenFile) → at_number z.files i ≡ Some file → among (used v) i ≡ true → file.node ≡ m → among (numbers_wanted z.tree (held_after z)) m ≡ true
         by-file m i file at_i is node =
             wanted-held z.tree (held_after z) m (subst (λ x. among (held_after z) x ≡ true) node (among-held_file z i file at_i (used-there i is)))
 

@@ -5,35 +5,28 @@ use Rattle.std.specs.Ordering.{nat_cmp, is_lt}
 use Rattle.std.specs.Cmp.{both_ways}
 use Rattle.std.proofs.lemmas.Bool.{cases_eq, cases_Bool, eqb-true, or_cases, or_left}
 use Rattle.pv_model.specs.declared.call.Call.{Call}
-use Rattle.pv_model.specs.Answer.{at_next_line, effect}
-use Rattle.pv_model.specs.Bytes.{Bytes}
-use Rattle.pv_model.specs.Held.{among, held_by_process, collect}
-use Rattle.pv_model.specs.Numbered.{Numbered, with_number, least_free}
-use Rattle.pv_model.specs.Program.{calls_for, next}
-use Rattle.pv_model.specs.Room.{is_too_long, fits}
-use Rattle.pv_model.specs.State.{OpenFile, Descriptor, Program, Process, ProcessRecord, live, State, process_at, with_process}
-use Rattle.pv_model.specs.Tree.{Tree, root, node_at, named_numbers, is_directory_at}
-use Rattle.pv_laws_trees.specs.Preserved.{preserved, wanted}
+use Rattle.pv_model.specs.Machine.{at_next_line, effect, Bytes, among, held_by_process, collect, Numbered, with_number, least_free, calls_for, next, is_too_long, fits, OpenFile, Descriptor, Program, Process, ProcessRecord, live, State, process_at, with_process, Tree, root, node_at, named_numbers, is_directory_at}
+use Rattle.pv_laws_trees.specs.Preserved.{preserved, numbers_wanted}
 use Rattle.pv_laws_trees.specs.Room.{IsNoLarger}
-use Rattle.pv_laws_trees.proofs.Keeping.{wanted-is, wanted-named, wanted-held}
+use Rattle.pv_laws_trees.proofs.Collection.{wanted-is, wanted-named, wanted-held}
 use Rattle.pv_laws_trees.proofs.Numbered.{keep-agree}
 use Rattle.pv_laws_trees.proofs.Rooms.{smaller-fits, smaller-not_too_long, preserved-no_larger}
 use Rattle.pv_laws_states.specs.Held.{used}
 use Rattle.pv_laws_states.specs.States.{IsPlaced, IsValid}
 use Rattle.pv_laws_states.proofs.BySteps.{IsGoodNext, good-next}
-use Rattle.pv_laws_states.proofs.Grown.{there-wanted}
+use Rattle.pv_laws_states.proofs.GrownTrees.{there-wanted}
 use Rattle.pv_laws_states.proofs.Members.{among-used, used-among, among-held_by, among-held_file, held_cases}
 use Rattle.pv_laws_states.proofs.Outcomes.{at_call}
 use Rattle.pv_laws_states.proofs.Processes.{process_at-same, process_at-other}
 use Rattle.pv_laws_states.proofs.Replies.{whole-at_call}
-use Rattle.pv_laws_states.proofs.Present.{table-there}
+use Rattle.pv_laws_states.proofs.ChangedStates.{table-there}
 use Rattle.pv_laws_states.proofs.Collect.{held_after, tree-collect}
-use Rattle.pv_laws_states.proofs.Whole.{sorted-put_number}
+use Rattle.pv_laws_states.proofs.ValidStates.{sorted-put_number}
 use Rattle.pv_laws_steps.specs.Beside.{with_change}
-use Rattle.pv_laws_steps.proofs.Alongside.{HaveRoomAlike, same-room, Beside, moved, room-beside}
+use Rattle.pv_laws_steps.proofs.ChangedPairs.{HaveRoomAlike, same-room, Beside, moved, room-beside}
 use Rattle.pv_laws_steps.proofs.BesideCalls.{changes}
-use Rattle.pv_laws_steps.proofs.Exchange.{KeepsParent, changed, put-other, process-changed, with-changed}
-use Rattle.pv_laws_steps.proofs.HeldApart.{UsesNoMore, found-same, more-with_number}
+use Rattle.pv_laws_steps.proofs.ChangedProcess.{KeepsParent, changed, put-other, process-changed, with-changed}
+use Rattle.pv_laws_steps.proofs.OtherReferences.{UsesNoMore, found-same, more-with_number}
 use Rattle.pv_laws_steps.proofs.RoomCalls.{directory-there, GoesOn, RoomsKnown, calls-fit}
 
 -- the nodes that a process references exist
@@ -101,19 +94,19 @@ module _ (a x : State) (whole : IsValid a) (on : GoesFrom a x) where
 
 -- in two states with the same tree and the same processes and files, the same nodes are wanted
 module _ (a b : State) (whole_a : IsValid a) (whole_b : IsValid b) (tree : b.tree ≡ a.tree) (x y : State) (same : y.tree ≡ x.tree) (on_x : GoesFrom a x) (on_y : GoesFrom b y) where
-  there-on : (n : ℕ) → is_some (node_at a.tree n) ≡ true → among (wanted y.tree (held_after y)) n ≡ true
+  there-on : (n : ℕ) → is_some (node_at a.tree n) ≡ true → among (numbers_wanted y.tree (held_after y)) n ≡ true
   there-on n is =
       ⊎_elim (λ top. or_left (root == n) _ top)
       (λ rest. ⊎_elim (λ named. wanted-named y.tree (held_after y) n (on_y.goes.named n named)) (λ held. wanted-held y.tree (held_after y) n (held-on b y whole_b on_y n held))
       (or_cases (among (named_numbers b.tree) n) (among (held_after b) n) rest))
       (or_cases (root == n) _ (sym (wanted-is b.tree (held_after b) n) ∙ there-wanted b whole_b n (ap (λ t. is_some (node_at t n)) tree ∙ is)))
 
-  wanted-on : (n : ℕ) → among (wanted x.tree (held_after x)) n ≡ true → among (wanted y.tree (held_after y)) n ≡ true
+  wanted-on : (n : ℕ) → among (numbers_wanted x.tree (held_after x)) n ≡ true → among (numbers_wanted y.tree (held_after y)) n ≡ true
   wanted-on n is =
       ⊎_elim (λ top. or_left (root == n) _ top)
       (λ rest. ⊎_elim has_name
       (λ held.
-      held_cases (among (wanted y.tree (held_after y)) n ≡ true) x on_x.appears.ascending n held
+      held_cases (among (numbers_wanted y.tree (held_after y)) n ≡ true) x on_x.appears.ascending n held
       (λ i q at has.
       let there = on_x.appears.back i q at in
       there-on n (directory-there a.tree n (held-there a.tree a.files there.0 (whole_a.processes.placed i there.0 there.1) n (ap (λ ns. among ns n) (sym there.2) ∙ has))))
@@ -122,7 +115,7 @@ module _ (a b : State) (whole_a : IsValid a) (whole_b : IsValid b) (tree : b.tre
       (or_cases (among (named_numbers x.tree) n) (among (held_after x) n) rest))
       (or_cases (root == n) _ (sym (wanted-is x.tree (held_after x) n) ∙ is))
     where
-      has_name : among (named_numbers x.tree) n ≡ true → among (wanted y.tree (held_after y)) n ≡ true
+      has_name : among (named_numbers x.tree) n ≡ true → among (numbers_wanted y.tree (held_after y)) n ≡ true
       has_name named = wanted-named y.tree (held_after y) n (ap (λ t. among (named_numbers t) n) same ∙ named)
 
 -- so both trees are the same after collection
@@ -130,10 +123,10 @@ same-collected : (a b : State) → IsValid a → IsValid b → b.tree ≡ a.tree
 same-collected a b whole_a whole_b tree x y same on_x on_y =
     tree-collect y
     ∙ ap (λ nodes. record (y.tree) { nodes = nodes })
-    (keep-agree (among (wanted y.tree (held_after y))) (among (wanted y.tree (held_after x))) y.tree.nodes
-    (λ n. both_ways (among (wanted y.tree (held_after y)) n) (among (wanted x.tree (held_after x)) n)
+    (keep-agree (among (numbers_wanted y.tree (held_after y))) (among (numbers_wanted y.tree (held_after x))) y.tree.nodes
+    (λ n. both_ways (among (numbers_wanted y.tree (held_after y)) n) (among (numbers_wanted x.tree (held_after x)) n)
     (wanted-on b a whole_b whole_a (sym tree) y x (sym same) on_y on_x n) (wanted-on a b whole_a whole_b tree x y same on_x on_y n)
-    ∙ ap (λ t. among (wanted t (held_after x)) n) (sym same)))
+    ∙ ap (λ t. among (numbers_wanted t (held_after x)) n) (sym same)))
     ∙ ap (λ t. preserved t (held_after x)) same ∙ sym (tree-collect x)
 
 -- a tree that is not larger has room, whatever is collected

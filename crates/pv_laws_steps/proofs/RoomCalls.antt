@@ -1,6 +1,6 @@
 -- Each call, in two states that differ inside another process: calls that check for room, by the properties of the tree
 -- that they check.
-use Rattle.std.proofs.Common.{◌≡◌, ◌≢◌, ℕ, zero, suc, ◌≤◌, ℤ, Bool, true, false, cond, not, ◌&&◌, ◌||◌, if◌then◌else◌, nat_le, nat_lt, ◌+◌, List, [], length, take, drop, Option, None, Some, is_some, is_none, Result, Ok, Err, refl, ap, ap₂, sym, subst, ◌∙◌, inl, inr, ◌⊎◌, ⊎_elim, arith}
+use Rattle.std.proofs.Common.{◌≡◌, ◌≢◌, ℕ, zero, suc, ◌≤◌, ℤ, Bool, true, false, cond, not, ◌&&◌, ◌||◌, if◌then◌else◌, nat_le, nat_lt, ◌+◌, [], length, take, drop, Option, None, Some, is_some, is_none, Result, Ok, Err, refl, ap, ap₂, sym, subst, ◌∙◌, inl, inr, ◌⊎◌, ⊎_elim, arith}
 use Rattle.std.specs.FinMap.Entries.{find, put, is_sorted, length-put}
 use Rattle.std.proofs.lemmas.Bool.{and_parts, cases_eq, eq-eqb, or_right}
 use Rattle.std.proofs.lemmas.Cmp.{nat_list_cmp_total}
@@ -17,22 +17,8 @@ use Rattle.pv_model.specs.declared.open_flags.OpenFlags.{OpenFlags}
 use Rattle.pv_model.specs.declared.outcome.Cause.TheVariants.{Plain}
 use Rattle.pv_model.specs.declared.perms.Perms.{Perms}
 use Rattle.pv_model.specs.declared.place.Place.{Place}
-use Rattle.pv_model.specs.Answer.{effect}
-use Rattle.pv_model.specs.Attempt.{Attempt, done, refused, ◌>>=◌, ◌>>◌, refuse_if, demand}
-use Rattle.pv_model.specs.Bytes.{Bytes, is_empty}
-use Rattle.pv_model.specs.Calls.Descriptors.{with_descriptor, is_link, contradicts, within, natural, with_content, is_past_greatest, new_open_file, open_file_for, write_place, write_end, open_node, open_at, check_start, write, ftruncate}
-use Rattle.pv_model.specs.Calls.Paths.{same_node, contains_directory, is_directory_there, entries_there, ends_in_dot, make, link, move_entry, rename}
-use Rattle.pv_model.specs.Effect.{Effect, returns, answers, place_or_refusal, walk_from, judge_for, with_room, node_of, name_of, open_file, start_directory, bytes_of, overwrite, resize}
-use Rattle.pv_model.specs.Held.{among}
-use Rattle.pv_model.specs.Needs.{permissions_of_open}
-use Rattle.pv_model.specs.Numbered.{Numbered, at_number, with_number, least_free}
-use Rattle.pv_model.specs.Perms.{permission_r, permission_c}
-use Rattle.pv_model.specs.Room.{entry_length}
-use Rattle.pv_model.specs.Sealed.{is_file}
-use Rattle.pv_model.specs.State.{OpenFile, Program, Process, State, writes, process_at}
-use Rattle.pv_model.specs.Tree.{Entries, Node, directory_node, file_node, link_node, Tree, node_at, entries_of, entries_at, is_directory, is_directory_at, find_entry, named_numbers, new_number, with_new_node, with_entry, without_entry}
-use Rattle.pv_model.specs.Walk.{resolve}
-use Rattle.pv_model.specs.Walks.{follow_of, from_here}
+use Rattle.pv_model.specs.Machine.{effect, Attempt, done, refused, ◌>>=◌, ◌>>◌, refuse_if, demand, Bytes, is_empty, with_descriptor, is_link, contradicts, within, natural, with_content, is_past_greatest, new_open_file, open_file_for, write_place, write_end, open_node, open_at, check_start, write, ftruncate, same_node, contains_directory, is_directory_there, entries_there, ends_in_dot, link, move_entry, rename, Effect, returns, answers, place_or_refusal, walk_from, judge_for, with_room, node_of, name_of, open_file, start_directory, bytes_of, overwrite, resize, among, permissions_of_open, Numbered, at_number, with_number, least_free, permission_r, permission_c, entry_length, is_file, OpenFile, Program, Process, State, writes, process_at, Entries, Node, directory_node, file_node, link_node, Tree, node_at, entries_of, entries_at, is_directory, is_directory_at, find_entry, named_numbers, new_number, with_new_node, with_entry, without_entry, resolve, follow_of, from_here}
+use Rattle.pv_model.specs.Calls.Paths.{make}
 use Rattle.pv_laws_trees.specs.Room.{IsNoLonger, IsNoLarger}
 use Rattle.pv_laws_trees.proofs.Changes.{node_at-same, node_at-other, directory-below, entries-good, shape-without_entry, found-with, with_entry-stays, without_entry-stays, cases_name}
 use Rattle.pv_laws_trees.proofs.Entries.{by_name, report}
@@ -45,15 +31,15 @@ use Rattle.pv_laws_states.specs.States.{is_text, is_call, IsValid}
 use Rattle.pv_laws_states.proofs.Attempts.{Leads}
 use Rattle.pv_laws_states.proofs.ByFile.{open_file_for-at}
 use Rattle.pv_laws_states.proofs.ByTree.{FineName, named-place, place-there, fine-place}
-use Rattle.pv_laws_states.proofs.Grown.{carries-entries}
-use Rattle.pv_laws_states.proofs.Rests
-use Rattle.pv_laws_states.proofs.Present.{IsFinePlace, resolve-fine, my-placed, file_or_directory}
-use Rattle.pv_laws_states.proofs.Starts.{StartsWell, leads-start}
-use Rattle.pv_laws_access.proofs.Changed.{entries-content}
+use Rattle.pv_laws_states.proofs.GrownTrees.{carries-entries}
+use Rattle.pv_laws_states.proofs.CallRests
+use Rattle.pv_laws_states.proofs.ChangedStates.{IsFinePlace, resolve-fine, my-placed, file_or_directory}
+use Rattle.pv_laws_states.proofs.WalkStarts.{StartsWell, leads-start}
+use Rattle.pv_laws_access.proofs.ChangedTrees.{entries-content}
 use Rattle.pv_laws_steps.specs.Beside.{with_change}
-use Rattle.pv_laws_steps.proofs.Alongside.{IsBeside, Beside}
+use Rattle.pv_laws_steps.proofs.ChangedPairs.{IsBeside, Beside}
 use Rattle.pv_laws_steps.proofs.BesideCalls.{changes, asks_room, CallsAlong, calls-along, CallsLeave, leave-along}
-use Rattle.pv_laws_steps.proofs.Exchange.{KeepsParent}
+use Rattle.pv_laws_steps.proofs.ChangedProcess.{KeepsParent}
 
 -- ---- an entry for another node needs no more room
 
@@ -224,20 +210,20 @@ module _ (k : ℕ) (f : Process → Process) (s : State) (pid : ℕ) (me : Proce
 
   make-known : (follow : Follow) (node : Node) (path : Bytes) → is_text path ≡ true → entries_of (Some node) ≡ [] → R (make s pid me (from_here follow path permission_c) node) (make u pid me (from_here follow path permission_c) node)
   make-known follow node path text bare =
-      judged me.directory follow path permission_c (Rests.make_1 s pid me node) (Rests.make_1 u pid me node) (λ place found.
-      tested EEXIST (is_some (node_of place)) (Rests.make_2 s pid me node place) (Rests.make_2 u pid me node place) (λ free.
-      demanded EEXIST (name_of place) (Rests.make_3 s pid me node) (Rests.make_3 u pid me node) (λ p named.
+      judged me.directory follow path permission_c (CallRests.make_1 s pid me node) (CallRests.make_1 u pid me node) (λ place found.
+      tested EEXIST (is_some (node_of place)) (CallRests.make_2 s pid me node place) (CallRests.make_2 u pid me node place) (λ free.
+      demanded EEXIST (name_of place) (CallRests.make_3 s pid me node) (CallRests.make_3 u pid me node) (λ p named.
       let fine = free-name place p (fine-place s pid me whole at follow path place text found) named (not-there (node_of place) free) in
       rooms.room (with_new_node s.tree p.0 p.1 node) s.files 0 (goes-on (with_new_node s.tree p.0 p.1 node) (names-new p fine node bare)))))
 
   link-known : (path new : Bytes) → is_text new ≡ true → R (link s pid me path new) (link u pid me path new)
   link-known path new text =
-      judged me.directory Last path permission_r (Rests.link_1 s pid me new) (Rests.link_1 u pid me new) (λ old_place old_found.
-      judged me.directory Keep new permission_c (Rests.link_2 s pid me old_place) (Rests.link_2 u pid me old_place) (λ new_place new_found.
-      demanded ENOENT (node_of old_place) (Rests.link_3 s pid me new_place) (Rests.link_3 u pid me new_place) (λ n is.
-      tested EPERM (is_directory_at s.tree n) (Rests.link_4 s pid me new_place n) (Rests.link_4 u pid me new_place n) (λ plain.
-      tested EEXIST (is_some (node_of new_place)) (Rests.link_5 s pid me new_place n) (Rests.link_5 u pid me new_place n) (λ free.
-      demanded EEXIST (name_of new_place) (Rests.link_6 s pid me n) (Rests.link_6 u pid me n) (λ p named.
+      judged me.directory Last path permission_r (CallRests.link_1 s pid me new) (CallRests.link_1 u pid me new) (λ old_place old_found.
+      judged me.directory Keep new permission_c (CallRests.link_2 s pid me old_place) (CallRests.link_2 u pid me old_place) (λ new_place new_found.
+      demanded ENOENT (node_of old_place) (CallRests.link_3 s pid me new_place) (CallRests.link_3 u pid me new_place) (λ n is.
+      tested EPERM (is_directory_at s.tree n) (CallRests.link_4 s pid me new_place n) (CallRests.link_4 u pid me new_place n) (λ plain.
+      tested EEXIST (is_some (node_of new_place)) (CallRests.link_5 s pid me new_place n) (CallRests.link_5 u pid me new_place n) (λ free.
+      demanded EEXIST (name_of new_place) (CallRests.link_6 s pid me n) (CallRests.link_6 u pid me n) (λ p named.
       let fine = free-name new_place p (fine-place s pid me whole at Keep new new_place text new_found) named (not-there (node_of new_place) free) in
       rooms.room (with_entry s.tree p.0 p.1 n) s.files 0
       (goes-on (with_entry s.tree p.0 p.1 n) (λ e q x has. entry-among (with_entry s.tree p.0 p.1 n) e q x (entry-stays s.tree p.0 p.1 fine.directory fine.found n e q x has)))))))))
@@ -284,27 +270,27 @@ module _ (k : ℕ) (f : Process → Process) (s : State) (pid : ℕ) (me : Proce
         no_larger-along s.tree between renamed
         (no_larger-replaced between q.0 q.1 n m (between-directory q.0 into.directory) (entries-good between q.0 good.each_node).0 has) less
 
-    moved-by : (there : Option ℕ) → FineName s.tree q there → same_node there n ≡ false → R (Rests.move_5 s pid me n p.0 p.1 q.0 q.1) (Rests.move_5 u pid me n p.0 p.1 q.0 q.1)
+    moved-by : (there : Option ℕ) → FineName s.tree q there → same_node there n ≡ false → R (CallRests.move_5 s pid me n p.0 p.1 q.0 q.1) (CallRests.move_5 u pid me n p.0 p.1 q.0 q.1)
     moved-by None into other = rooms.room renamed s.files 0 (goes-on renamed (names-moved into))
     moved-by (Some m) into other = rooms.smaller renamed 0 (smaller-moved m into (λ same. let is = eq-eqb m n same in cc (sym is ∙ other)))
 
     move-known : (there : Option ℕ) → FineName s.tree q there → same_node there n ≡ false
         → R (move_entry s pid me n p.0 p.1 q.0 q.1 there) (move_entry u pid me n p.0 p.1 q.0 q.1 there)
     move-known there into other =
-        along.following (refuse_if EINVAL (contains_directory s.tree n q.0)) (Rests.move_2 s pid me n p.0 p.1 q.0 q.1 there) (Rests.move_2 u pid me n p.0 p.1 q.0 q.1 there)
-        (along.following (refuse_if EISDIR (is_directory_there s.tree there && not (is_directory_at s.tree n))) (Rests.move_3 s pid me n p.0 p.1 q.0 q.1 there) (Rests.move_3 u pid me n p.0 p.1 q.0 q.1 there)
-        (along.following (refuse_if ENOTDIR (is_directory_at s.tree n && is_some there && not (is_directory_there s.tree there))) (Rests.move_4 s pid me n p.0 p.1 q.0 q.1 there) (Rests.move_4 u pid me n p.0 p.1 q.0 q.1 there)
-        (along.following (refuse_if ENOTEMPTY (not (is_empty (entries_there s.tree there)))) (Rests.move_5 s pid me n p.0 p.1 q.0 q.1) (Rests.move_5 u pid me n p.0 p.1 q.0 q.1)
+        along.following (refuse_if EINVAL (contains_directory s.tree n q.0)) (CallRests.move_2 s pid me n p.0 p.1 q.0 q.1 there) (CallRests.move_2 u pid me n p.0 p.1 q.0 q.1 there)
+        (along.following (refuse_if EISDIR (is_directory_there s.tree there && not (is_directory_at s.tree n))) (CallRests.move_3 s pid me n p.0 p.1 q.0 q.1 there) (CallRests.move_3 u pid me n p.0 p.1 q.0 q.1 there)
+        (along.following (refuse_if ENOTDIR (is_directory_at s.tree n && is_some there && not (is_directory_there s.tree there))) (CallRests.move_4 s pid me n p.0 p.1 q.0 q.1 there) (CallRests.move_4 u pid me n p.0 p.1 q.0 q.1 there)
+        (along.following (refuse_if ENOTEMPTY (not (is_empty (entries_there s.tree there)))) (CallRests.move_5 s pid me n p.0 p.1 q.0 q.1) (CallRests.move_5 u pid me n p.0 p.1 q.0 q.1)
         (moved-by there into other))))
 
   rename-known : (path new : Bytes) → is_text path ≡ true → is_text new ≡ true → R (rename s pid me path new) (rename u pid me path new)
   rename-known path new text texts =
       along.following (refuse_if EINVAL (ends_in_dot path || ends_in_dot new)) _ _ (
-      judged me.directory Keep path permission_c (Rests.rename_1 s pid me new) (Rests.rename_1 u pid me new) (λ old_place old_found.
-      judged me.directory Keep new permission_c (Rests.rename_2 s pid me old_place) (Rests.rename_2 u pid me old_place) (λ new_place new_found.
-      demanded ENOENT (node_of old_place) (Rests.rename_3 s pid me old_place new_place) (Rests.rename_3 u pid me old_place new_place) (λ n is.
-      demanded EBUSY (name_of old_place) (Rests.rename_4 s pid me new_place n) (Rests.rename_4 u pid me new_place n) (λ p old_named.
-      demanded EBUSY (name_of new_place) (Rests.rename_5 s pid me new_place n p) (Rests.rename_5 u pid me new_place n p) (λ q new_named.
+      judged me.directory Keep path permission_c (CallRests.rename_1 s pid me new) (CallRests.rename_1 u pid me new) (λ old_place old_found.
+      judged me.directory Keep new permission_c (CallRests.rename_2 s pid me old_place) (CallRests.rename_2 u pid me old_place) (λ new_place new_found.
+      demanded ENOENT (node_of old_place) (CallRests.rename_3 s pid me old_place new_place) (CallRests.rename_3 u pid me old_place new_place) (λ n is.
+      demanded EBUSY (name_of old_place) (CallRests.rename_4 s pid me new_place n) (CallRests.rename_4 u pid me new_place n) (λ p old_named.
+      demanded EBUSY (name_of new_place) (CallRests.rename_5 s pid me new_place n p) (CallRests.rename_5 u pid me new_place n p) (λ q new_named.
       by n p q (node_of new_place)
       (subst (FineName s.tree p) is (named-place s.tree old_place p (fine-place s pid me whole at Keep path old_place text old_found) old_named))
       (named-place s.tree new_place q (fine-place s pid me whole at Keep new new_place texts new_found) new_named)
@@ -317,7 +303,7 @@ module _ (k : ℕ) (f : Process → Process) (s : State) (pid : ℕ) (me : Proce
 
   -- ---- bytes
 
-  written-known : (m : ℕ) (file : OpenFile) (count : ℕ) → at_number s.files m ≡ Some file → R (Rests.write_3 s pid me m file count) (Rests.write_3 u pid me m file count)
+  written-known : (m : ℕ) (file : OpenFile) (count : ℕ) → at_number s.files m ≡ Some file → R (CallRests.write_3 s pid me m file count) (CallRests.write_3 u pid me m file count)
   written-known m file zero is = rooms.room s.tree s.files 0 (goes-on s.tree names-same)
   written-known m file (suc n) is =
       let bytes : Bytes = take (suc n) me.buffer in
@@ -330,23 +316,23 @@ module _ (k : ℕ) (f : Process → Process) (s : State) (pid : ℕ) (me : Proce
 
   write-known : (d n : ℤ) → R (write s pid me d n) (write u pid me d n)
   write-known d n =
-      demanded EBADF (open_file_for s pid me writes d) (Rests.write_1 s pid me n) (Rests.write_1 u pid me n) (λ (m, file) is.
-      demanded EINVAL (within BUFFER n) (Rests.write_2 s pid me m file) (Rests.write_2 u pid me m file) (λ count low.
-      along.following (refuse_if EFBIG (is_past_greatest s.tree (write_end s pid me file count))) (Rests.write_3 s pid me m file count) (Rests.write_3 u pid me m file count)
+      demanded EBADF (open_file_for s pid me writes d) (CallRests.write_1 s pid me n) (CallRests.write_1 u pid me n) (λ (m, file) is.
+      demanded EINVAL (within BUFFER n) (CallRests.write_2 s pid me m file) (CallRests.write_2 u pid me m file) (λ count low.
+      along.following (refuse_if EFBIG (is_past_greatest s.tree (write_end s pid me file count))) (CallRests.write_3 s pid me m file count) (CallRests.write_3 u pid me m file count)
       (written-known m file count (open_file_for-at s pid me writes d m file is).0)))
 
   cut-known : (d n : ℤ) → R (ftruncate s pid me d n) (ftruncate u pid me d n)
   cut-known d n =
-      demanded EBADF (open_file s me d) (Rests.ftruncate_1 s pid me n) (Rests.ftruncate_1 u pid me n) (λ (m, file) is.
-      along.following (refuse_if EINVAL (not (writes file.mode))) (Rests.ftruncate_2 s pid me n file) (Rests.ftruncate_2 u pid me n file) (
-      demanded EINVAL (natural n) (Rests.ftruncate_3 s pid me file) (Rests.ftruncate_3 u pid me file) (λ size counted.
-      along.following (refuse_if EFBIG (is_past_greatest s.tree size)) (Rests.ftruncate_4 s pid me file size) (Rests.ftruncate_4 u pid me file size)
+      demanded EBADF (open_file s me d) (CallRests.ftruncate_1 s pid me n) (CallRests.ftruncate_1 u pid me n) (λ (m, file) is.
+      along.following (refuse_if EINVAL (not (writes file.mode))) (CallRests.ftruncate_2 s pid me n file) (CallRests.ftruncate_2 u pid me n file) (
+      demanded EINVAL (natural n) (CallRests.ftruncate_3 s pid me file) (CallRests.ftruncate_3 u pid me file) (λ size counted.
+      along.following (refuse_if EFBIG (is_past_greatest s.tree size)) (CallRests.ftruncate_4 s pid me file size) (CallRests.ftruncate_4 u pid me file size)
       (rooms.room (with_content s.tree file.node (resize (bytes_of (node_at s.tree file.node)) size)) s.files 0 (goes-on _ (names-content file.node _))))))
 
   -- ---- open
 
   node-known : (g : OpenFlags) (place : Place) → IsFinePlace s.tree place → (name : Option (ℕ × Bytes)) (node : Option ℕ) → name_of place ≡ name → node_of place ≡ node
-      → R (open_node s pid me g name node >>= Rests.open_7 s pid me) (open_node u pid me g name node >>= Rests.open_7 u pid me)
+      → R (open_node s pid me g name node >>= CallRests.open_7 s pid me) (open_node u pid me g name node >>= CallRests.open_7 u pid me)
   node-known g place fine name (Some n) named is =
       let t : Tree = if g.truncate then with_content s.tree n [] else s.tree in
       along.walked 0 _ _
@@ -363,16 +349,16 @@ module _ (k : ℕ) (f : Process → Process) (s : State) (pid : ℕ) (me : Proce
   open-known : (start : Start) (path : Bytes) (g : OpenFlags) → is_text path ≡ true → R (open_at s pid me start path g) (open_at u pid me start path g)
   open-known start path g text =
       let from : ℕ = start_directory s me start path in
-      along.following (refuse_if EINVAL (contradicts g)) (check_start s pid me start path >> Rests.open_a s pid me path g from) (check_start u pid me start path >> Rests.open_a u pid me path g from)
-      (following-known (StartsWell s pid me from) (check_start s pid me start path) (Rests.open_a s pid me path g from) (Rests.open_a u pid me path g from) (leads-start s pid me start path) (λ well.
-      along.following (refuse_if EMFILE (nat_le DESCRIPTORS (least_free me.descriptors))) (Rests.open_b s pid me path g from) (Rests.open_b u pid me path g from)
-      (along.following (refuse_if ENFILE (nat_le OPEN_FILES (least_free s.files))) (Rests.open_c s pid me path g from) (Rests.open_c u pid me path g from)
-      (judged from (follow_of g) path (permissions_of_open g) (Rests.open_1 s pid me g) (Rests.open_1 u pid me g) (λ place found.
-      along.following (refuse_if EEXIST (g.create && g.exclusive && is_some (Rests.node_there s pid me place))) (Rests.open_2 s pid me g place) (Rests.open_2 u pid me g place)
-      (along.following (refuse_if ENOENT (is_none (Rests.node_there s pid me place) && not g.create)) (Rests.open_3 s pid me g place) (Rests.open_3 u pid me g place)
-      (along.following (refuse_if ELOOP (is_link (Rests.node_there s pid me place))) (Rests.open_4 s pid me g place) (Rests.open_4 u pid me g place)
-      (along.following (refuse_if ENOTDIR (g.directory && not (is_directory (Rests.node_there s pid me place)))) (Rests.open_5 s pid me g place) (Rests.open_5 u pid me g place)
-      (along.following (refuse_if EISDIR (is_directory (Rests.node_there s pid me place) && writes g.mode)) (Rests.open_6 s pid me g place) (Rests.open_6 u pid me g place)
+      along.following (refuse_if EINVAL (contradicts g)) (check_start s pid me start path >> CallRests.open_a s pid me path g from) (check_start u pid me start path >> CallRests.open_a u pid me path g from)
+      (following-known (StartsWell s pid me from) (check_start s pid me start path) (CallRests.open_a s pid me path g from) (CallRests.open_a u pid me path g from) (leads-start s pid me start path) (λ well.
+      along.following (refuse_if EMFILE (nat_le DESCRIPTORS (least_free me.descriptors))) (CallRests.open_b s pid me path g from) (CallRests.open_b u pid me path g from)
+      (along.following (refuse_if ENFILE (nat_le OPEN_FILES (least_free s.files))) (CallRests.open_c s pid me path g from) (CallRests.open_c u pid me path g from)
+      (judged from (follow_of g) path (permissions_of_open g) (CallRests.open_1 s pid me g) (CallRests.open_1 u pid me g) (λ place found.
+      along.following (refuse_if EEXIST (g.create && g.exclusive && is_some (CallRests.node_there s pid me place))) (CallRests.open_2 s pid me g place) (CallRests.open_2 u pid me g place)
+      (along.following (refuse_if ENOENT (is_none (CallRests.node_there s pid me place) && not g.create)) (CallRests.open_3 s pid me g place) (CallRests.open_3 u pid me g place)
+      (along.following (refuse_if ELOOP (is_link (CallRests.node_there s pid me place))) (CallRests.open_4 s pid me g place) (CallRests.open_4 u pid me g place)
+      (along.following (refuse_if ENOTDIR (g.directory && not (is_directory (CallRests.node_there s pid me place)))) (CallRests.open_5 s pid me g place) (CallRests.open_5 u pid me g place)
+      (along.following (refuse_if EISDIR (is_directory (CallRests.node_there s pid me place) && writes g.mode)) (CallRests.open_6 s pid me g place) (CallRests.open_6 u pid me g place)
       (node-known g place (resolve-fine s.tree whole.tree (follow_of g) from path place (well (my-placed s pid me whole at).directory) text found) (name_of place) (node_of place) refl refl))))))))))
 
   -- each call that checks for room

@@ -3,18 +3,16 @@ use Rattle.std.proofs.Common.{◌≡◌, ◌≢◌, ℕ, true, cond, List, [], �
 use Rattle.std.specs.FinMap.Entries.{find, is_sorted, below_all}
 use Rattle.std.specs.Ordering.{nat_cmp, is_eq}
 use Rattle.std.proofs.lemmas.Bool.{and_parts, cases_eq}
-use Rattle.pv_model.specs.Bytes.{Bytes}
-use Rattle.pv_model.specs.State.{Program, Process, ProcessRecord, live, ended_record, State, process_at}
-use Rattle.pv_model.specs.Step.{Stepped, step}
+use Rattle.pv_model.specs.Machine.{Bytes, Program, Process, ProcessRecord, live, ended_record, State, process_at, Stepped, step}
 use Rattle.pv_laws_states.specs.States.{IsPlaced, IsValid}
 use Rattle.pv_laws_states.proofs.Members.{find_number_after, found-live}
 use Rattle.pv_laws_states.proofs.Processes.{number-itself}
 use Rattle.pv_laws_steps.specs.Beside.{with_change, become, StepsBeside}
 use Rattle.pv_laws_steps.proofs.BesideSteps.{become-keeps, fits-become, others-alter-nothing}
 use Rattle.pv_laws_steps.specs.Seen.{seen, StepsBesideAll}
-use Rattle.pv_laws_steps.proofs.Alike.{live-alike, AreIn, seen-changed, inside-whole}
+use Rattle.pv_laws_steps.proofs.AgreeingStates.{live-alike, AreIn, seen-changed, inside-whole}
 use Rattle.pv_laws_steps.proofs.Insides.{insides, inside-none, free-after, own-insides, ended-insides, live-insides}
-use Rattle.pv_laws_steps.proofs.Wholes.{whole-changed}
+use Rattle.pv_laws_steps.proofs.ValidInsides.{whole-changed}
 
 -- two steps of a process have the same outcome and lines, and the next states differ only in insides, which are from
 -- these processes

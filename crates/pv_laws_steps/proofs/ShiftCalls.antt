@@ -10,28 +10,15 @@ use Rattle.pv_model.specs.declared.errno.Errno.TheVariants.{EBADF, EINVAL, ENOTD
 use Rattle.pv_model.specs.declared.open_flags.Mode.{Mode}
 use Rattle.pv_model.specs.declared.open_flags.OpenFlags.{OpenFlags}
 use Rattle.pv_model.specs.declared.outcome.Cause.TheVariants.{Plain}
-use Rattle.pv_model.specs.Answer.{at_next_line, effect}
-use Rattle.pv_model.specs.Attempt.{Attempt, after_walks, ◌>>=◌, ◌>>◌, give, refuse_if, demand}
-use Rattle.pv_model.specs.Bytes.{Bytes}
-use Rattle.pv_model.specs.Calls.Descriptors.{contradicts, if_mode, check_start, open_node, open_at, after_write, list_name, fstat, ftruncate, fchdir, directory_of, with_open_file, with_descriptor, new_open_file, natural}
-use Rattle.pv_model.specs.Calls.Processes.{reap}
-use Rattle.pv_model.specs.Calls.Restraints.{unveil}
-use Rattle.pv_model.specs.Effect.{Effect, answers, answers_bytes, status, with_file, with_room, open_file_of, open_file, start_directory, descriptor_at, directory_of_file}
-use Rattle.pv_model.specs.Held.{collect}
-use Rattle.pv_model.specs.Numbered.{at_number, with_number, least_free}
-use Rattle.pv_model.specs.Program.{calls_for, next}
-use Rattle.pv_model.specs.State.{OpenFile, Descriptor, Program, Process, ProcessRecord, State, reads, writes, process_at, with_process, with_tree}
-use Rattle.pv_model.specs.Step.{step}
-use Rattle.pv_model.specs.Touch.{descriptor_of}
-use Rattle.pv_model.specs.Tree.{Tree, is_directory_at}
-use Rattle.pv_model.specs.Walk.{is_absolute}
+use Rattle.pv_model.specs.Machine.{at_next_line, effect, Attempt, after_walks, ◌>>=◌, ◌>>◌, give, refuse_if, demand, Bytes, contradicts, check_start, open_node, open_at, after_write, list_name, fstat, ftruncate, fchdir, directory_of, with_open_file, with_descriptor, new_open_file, natural, reap, unveil, Effect, answers, answers_bytes, status, with_file, with_room, open_file_of, open_file, start_directory, descriptor_at, directory_of_file, collect, at_number, with_number, least_free, calls_for, next, OpenFile, Descriptor, Program, Process, ProcessRecord, State, reads, writes, process_at, with_process, with_tree, step, descriptor_of, Tree, is_directory_at, is_absolute}
+use Rattle.pv_model.specs.Calls.Descriptors.{if_mode}
 use Rattle.pv_laws_trees.proofs.Numbered.{least_free-free}
 use Rattle.pv_laws_states.proofs.Outcomes.{at_call}
-use Rattle.pv_laws_states.proofs.Rests
-use Rattle.pv_laws_access.specs.Growth.{IsSameFile}
-use Rattle.pv_laws_access.proofs.HasEffect.{open_file_for-is}
+use Rattle.pv_laws_states.proofs.CallRests
+use Rattle.pv_laws_runs.specs.OfLawsAccess.Growth.{IsSameFile}
+use Rattle.pv_laws_runs.proofs.OfLawsAccess.CallEffects.{open_file_for-is}
 use Rattle.pv_laws_steps.specs.Offsets.{change_number, with_file_change, goes_by_offset, GoesBy, StepsBesideFile}
-use Rattle.pv_laws_steps.proofs.Alongside.{IsBeside, Beside, after-beside, bind-beside, then-beside, cond-beside, done-beside, refused-beside, cond-state, same-room, room-beside, SteppedBeside, step-beside}
+use Rattle.pv_laws_steps.proofs.ChangedPairs.{IsBeside, Beside, after-beside, bind-beside, then-beside, cond-beside, done-beside, refused-beside, cond-state, same-room, room-beside, SteppedBeside, step-beside}
 use Rattle.pv_laws_steps.proofs.Shifts.{shifted-itself, shifted-other, put-shifted, there-put, least-shifted, collect-shifted, shift-apart}
 
 -- the change of an open file, and the states that contain it
@@ -145,24 +132,24 @@ module _ (m : ℕ) (g : OpenFile → OpenFile) (same : (f : OpenFile) → IsSame
     put-here : (t : Tree) (f : OpenFile) → At (record s { tree = t; files = with_number s.files k f }) (record u { tree = t; files = with_number (change_number m g s.files) k f })
     put-here t f = file-put t s.processes k f other
 
-    read-rest : (n : ℤ) (file : OpenFile) → B (Rests.read_1 s pid me n (k, file)) (Rests.read_1 u pid me n (k, file))
+    read-rest : (n : ℤ) (file : OpenFile) → B (CallRests.read_1 s pid me n (k, file)) (CallRests.read_1 u pid me n (k, file))
     read-rest n file = search (parts, put-here) depth 20
 
-    lseek-rest : (by : ℤ) (whence : Whence) (file : OpenFile) → B (Rests.lseek_1 s pid me by whence (k, file)) (Rests.lseek_1 u pid me by whence (k, file))
+    lseek-rest : (by : ℤ) (whence : Whence) (file : OpenFile) → B (CallRests.lseek_1 s pid me by whence (k, file)) (CallRests.lseek_1 u pid me by whence (k, file))
     lseek-rest by whence file = search (parts, put-here) depth 20
 
     listed : (file : OpenFile) (o : Option Bytes) → B (list_name s pid me k file o) (list_name u pid me k file o)
     listed file None = search parts depth 20
     listed file (Some name) = search (parts, put-here) depth 20
 
-    getdents-rest : (file : OpenFile) → B (Rests.getdents_1 s pid me (k, file)) (Rests.getdents_1 u pid me (k, file))
+    getdents-rest : (file : OpenFile) → B (CallRests.getdents_1 s pid me (k, file)) (CallRests.getdents_1 u pid me (k, file))
     getdents-rest file = search (parts, listed) depth 20
 
     written : (file : OpenFile) (count : ℕ) → At (after_write s pid me k file count) (after_write u pid me k file count)
     written file zero = files-left s.tree s.processes s.last_process
     written file (suc n) = put-here _ _
 
-    write-rest : (n : ℤ) (file : OpenFile) → B (Rests.write_1 s pid me n (k, file)) (Rests.write_1 u pid me n (k, file))
+    write-rest : (n : ℤ) (file : OpenFile) → B (CallRests.write_1 s pid me n (k, file)) (CallRests.write_1 u pid me n (k, file))
     write-rest n file = search (bind-beside, then-beside, room-shifted, written) depth 20
 
   fstat-beside : (d : ℤ) → B (fstat s pid me d) (fstat u pid me d)
@@ -172,21 +159,21 @@ module _ (m : ℕ) (g : OpenFile → OpenFile) (same : (f : OpenFile) → IsSame
 
   ftruncate-beside : (d n : ℤ) → B (ftruncate s pid me d n) (ftruncate u pid me d n)
   ftruncate-beside d n =
-      by-view d (Rests.ftruncate_1 s pid me n) (Rests.ftruncate_1 u pid me n) (λ k f. alike f) (λ v. search parts depth 20)
+      by-view d (CallRests.ftruncate_1 s pid me n) (CallRests.ftruncate_1 u pid me n) (λ k f. alike f) (λ v. search parts depth 20)
     where
-      alike : (f : OpenFile) → Rests.ftruncate_1 u pid me n (m, g f) ≡ Rests.ftruncate_1 u pid me n (m, f)
+      alike : (f : OpenFile) → CallRests.ftruncate_1 u pid me n (m, g f) ≡ CallRests.ftruncate_1 u pid me n (m, f)
       alike f = λ i. cut ((same f).node i) ((same f).mode i)
         where
           cut : ℕ → Mode → Attempt Effect
           cut node mode =
-              refuse_if EINVAL (not (writes mode)) >> (demand EINVAL (natural n) >>= Rests.ftruncate_3 u pid me (record f { node = node; mode = mode }))
+              refuse_if EINVAL (not (writes mode)) >> (demand EINVAL (natural n) >>= CallRests.ftruncate_3 u pid me (record f { node = node; mode = mode }))
 
   abbrev entered : State → ℕ → Attempt Effect
   entered z n = answers (with_process z pid (record me { directory = n })) 0
 
   directory-same : (d : ℤ) → directory_of u pid me d ≡ directory_of s pid me d
   directory-same d =
-      view-same (λ o. demand EBADF o >>= Rests.directory_of_1 s pid me) (λ k f. ap (λ n. after_walks 0 (refuse_if ENOTDIR (not (is_directory_at s.tree n)) >> give n)) (node-same f)) d
+      view-same (λ o. demand EBADF o >>= CallRests.directory_of_1 s pid me) (λ k f. ap (λ n. after_walks 0 (refuse_if ENOTDIR (not (is_directory_at s.tree n)) >> give n)) (node-same f)) d
 
   fchdir-beside : (d : ℤ) → B (fchdir s pid me d) (fchdir u pid me d)
   fchdir-beside d =
@@ -215,18 +202,18 @@ module _ (m : ℕ) (g : OpenFile → OpenFile) (same : (f : OpenFile) → IsSame
           with_descriptor z pid me (with_file (with_tree z t) k (new_open_file flags n)) k flags.close_on_exec
 
   node-beside : (flags : OpenFlags) (name : Option (ℕ × Bytes)) (node : Option ℕ)
-      → B (open_node s pid me flags name node >>= Rests.open_7 s pid me) (open_node u pid me flags name node >>= Rests.open_7 u pid me)
+      → B (open_node s pid me flags name node >>= CallRests.open_7 s pid me) (open_node u pid me flags name node >>= CallRests.open_7 u pid me)
   node-beside flags name (Some n) = search (after-beside, room-shifted, opened) depth 20
   node-beside flags (Some p) None = search (after-beside, room-shifted, opened) depth 20
   node-beside flags None None = search parts depth 20
 
-  open-walked : (path : Bytes) (flags : OpenFlags) (directory : ℕ) → B (Rests.open_c s pid me path flags directory) (Rests.open_c u pid me path flags directory)
+  open-walked : (path : Bytes) (flags : OpenFlags) (directory : ℕ) → B (CallRests.open_c s pid me path flags directory) (CallRests.open_c u pid me path flags directory)
   open-walked path flags directory = search (bind-beside, then-beside, node-beside) depth 40
 
   open-beside : (start : Start) (path : Bytes) (flags : OpenFlags) → B (open_at s pid me start path flags) (open_at u pid me start path flags)
   open-beside start path flags =
       let c : Attempt (Unit {0}) = check_start s pid me start path in
-      let rest : State → ℕ → ℕ → Attempt Effect = λ z free directory. refuse_if EMFILE (nat_le 16 (least_free me.descriptors)) >> (refuse_if ENFILE (nat_le 128 free) >> Rests.open_c z pid me path flags directory) in
+      let rest : State → ℕ → ℕ → Attempt Effect = λ z free directory. refuse_if EMFILE (nat_le 16 (least_free me.descriptors)) >> (refuse_if ENFILE (nat_le 128 free) >> CallRests.open_c z pid me path flags directory) in
       then-beside (shifts m g) (HasFile m) (refuse_if EINVAL (contradicts flags)) (c >> rest s (least_free s.files) (start_directory s me start path))
       (check_start u pid me start path >> rest u (least_free u.files) (start_directory u me start path))
       (subst (λ a. B (c >> rest s (least_free s.files) (start_directory s me start path)) (a >> rest u (least_free u.files) (start_directory u me start path))) (sym (check-same start path))
@@ -265,12 +252,12 @@ module _ (m : ℕ) (g : OpenFile → OpenFile) (same : (f : OpenFile) → IsSame
   calls-shifted program_of (TheCall.Close d) by = search parts depth 20
   calls-shifted program_of (TheCall.Dup d) by = search parts depth 20
   calls-shifted program_of (TheCall.Dup2 d e) by = search parts depth 20
-  calls-shifted program_of (TheCall.Read d n) by = by-other d (by refl d refl) reads (Rests.read_1 s pid me n) (Rests.read_1 u pid me n) (λ v other. read-rest v.0 other n v.1)
-  calls-shifted program_of (TheCall.Write d n) by = by-other d (by refl d refl) writes (Rests.write_1 s pid me n) (Rests.write_1 u pid me n) (λ v other. write-rest v.0 other n v.1)
-  calls-shifted program_of (TheCall.Lseek d n whence) by = by-any d (by refl d refl) (Rests.lseek_1 s pid me n whence) (Rests.lseek_1 u pid me n whence) (λ v other. lseek-rest v.0 other n whence v.1)
+  calls-shifted program_of (TheCall.Read d n) by = by-other d (by refl d refl) reads (CallRests.read_1 s pid me n) (CallRests.read_1 u pid me n) (λ v other. read-rest v.0 other n v.1)
+  calls-shifted program_of (TheCall.Write d n) by = by-other d (by refl d refl) writes (CallRests.write_1 s pid me n) (CallRests.write_1 u pid me n) (λ v other. write-rest v.0 other n v.1)
+  calls-shifted program_of (TheCall.Lseek d n whence) by = by-any d (by refl d refl) (CallRests.lseek_1 s pid me n whence) (CallRests.lseek_1 u pid me n whence) (λ v other. lseek-rest v.0 other n whence v.1)
   calls-shifted program_of (TheCall.Fstat d) by = fstat-beside d
   calls-shifted program_of (TheCall.Ftruncate d n) by = ftruncate-beside d n
-  calls-shifted program_of (TheCall.Getdents d) by = by-any d (by refl d refl) (Rests.getdents_1 s pid me) (Rests.getdents_1 u pid me) (λ v other. getdents-rest v.0 other v.1)
+  calls-shifted program_of (TheCall.Getdents d) by = by-any d (by refl d refl) (CallRests.getdents_1 s pid me) (CallRests.getdents_1 u pid me) (λ v other. getdents-rest v.0 other v.1)
   calls-shifted program_of (TheCall.Fchdir d) by = fchdir-beside d
   calls-shifted program_of (TheCall.Chdir path) by = search parts depth 20
   calls-shifted program_of (TheCall.Stat path) by = search parts depth 20

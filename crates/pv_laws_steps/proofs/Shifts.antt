@@ -1,14 +1,12 @@
 -- Lists of open files in which one is changed, except for its node and mode, and operations on both.
 use Rattle.std.proofs.Common.{◌≡◌, ◌≢◌, ℕ, zero, suc, Bool, true, false, List, [], ◌∷◌, ◌++◌, map, Option, None, Some, is_some, option_map, refl, ap, ap₂, sym, ◌∙◌}
-use Rattle.pv_model.specs.Calls.Processes.{end_process}
-use Rattle.pv_model.specs.Held.{among, used_files, held_by_process, collect}
-use Rattle.pv_model.specs.Numbered.{Numbered, at_number, with_number, least_free, keep_if, keep_from, keep, present}
-use Rattle.pv_model.specs.State.{OpenFile, State}
+use Rattle.pv_model.specs.Machine.{end_process, among, used_files, held_by_process, collect, Numbered, at_number, with_number, least_free, keep_if, keep, present, OpenFile, State}
+use Rattle.pv_model.specs.Numbered.{keep_from}
 use Rattle.pv_laws_trees.specs.Preserved.{preserved}
 use Rattle.pv_laws_states.proofs.Members.{all_of}
-use Rattle.pv_laws_access.specs.Growth.{IsSameFile}
+use Rattle.pv_laws_runs.specs.OfLawsAccess.Growth.{IsSameFile}
 use Rattle.pv_laws_steps.specs.Offsets.{change_number, with_file_change}
-use Rattle.pv_laws_steps.proofs.Alongside.{IsApart}
+use Rattle.pv_laws_steps.proofs.ChangedPairs.{IsApart}
 
 module _ (g : OpenFile → OpenFile) where
   pub shifted-itself : (k : ℕ) (xs : Numbered OpenFile) → at_number (change_number k g xs) k ≡ option_map g (at_number xs k)

@@ -16,44 +16,29 @@ use Rattle.pv_model.specs.declared.outcome.Outcome.TheVariants.{Killed}
 use Rattle.pv_model.specs.declared.perms.Perms.{Perms}
 use Rattle.pv_model.specs.declared.promise.Promise.{Promise}
 use Rattle.pv_model.specs.declared.target.Target.{Target}
-use Rattle.pv_model.specs.Answer.{Answered, answer, answer_by_attempt, at_next_line, effect}
-use Rattle.pv_model.specs.Attempt.{Attempt, done, refused, ◌>>=◌, ◌>>◌, give, refuse}
-use Rattle.pv_model.specs.Bytes.{Bytes}
-use Rattle.pv_model.specs.Calls.Processes.{with_result}
-use Rattle.pv_model.specs.Calls.Restraints.{entries_of_table, add_entry, add_target}
-use Rattle.pv_model.specs.Effect.{Effect, returns, answers}
-use Rattle.pv_model.specs.Errno.{errno_number}
-use Rattle.pv_model.specs.Held.{among, held_by_process, held_by_table, collect}
-use Rattle.pv_model.specs.Needs.{needs}
-use Rattle.pv_model.specs.Numbered.{at_number}
-use Rattle.pv_model.specs.Perms.{covers}
-use Rattle.pv_model.specs.Program.{calls_for, next}
-use Rattle.pv_model.specs.Promises.{missing_promise}
-use Rattle.pv_model.specs.State.{OpenFile, Program, Process, State, process_at, with_process, with_tree}
-use Rattle.pv_model.specs.Step.{Stepped, step, step_by}
-use Rattle.pv_model.specs.Tree.{Tree, root, named_numbers, node_at}
-use Rattle.pv_model.specs.Unveil.{Table, same_target, entry_for, permissions_at, with_permissions, target_directory}
-use Rattle.pv_laws_trees.specs.Preserved.{wanted}
-use Rattle.pv_laws_trees.proofs.Keeping.{only_nodes_all, wanted-is}
+use Rattle.pv_model.specs.Machine.{Answered, answer, answer_by_attempt, at_next_line, effect, Attempt, done, refused, ◌>>=◌, ◌>>◌, give, refuse, Bytes, with_result, entries_of_table, add_target, Effect, returns, answers, errno_number, among, held_by_process, held_by_table, collect, needs, at_number, covers, calls_for, next, missing_promise, OpenFile, Program, Process, State, process_at, with_process, with_tree, Stepped, step, step_by, Tree, root, named_numbers, node_at, Table, same_target, entry_for, permissions_at, with_permissions, target_directory}
+use Rattle.pv_model.specs.Calls.Restraints.{add_entry}
+use Rattle.pv_laws_trees.specs.Preserved.{numbers_wanted}
+use Rattle.pv_laws_trees.proofs.Collection.{only_nodes_all, wanted-is}
 use Rattle.pv_laws_trees.proofs.Numbered.{keep-some}
 use Rattle.pv_laws_states.specs.Held.{used}
 use Rattle.pv_laws_states.specs.States.{EncodesPrograms, IsValid}
 use Rattle.pv_laws_states.proofs.Members.{among-held_by, among-held_file, held_cases}
 use Rattle.pv_laws_states.proofs.Outcomes.{at_call}
 use Rattle.pv_laws_states.proofs.Processes.{process_at-same, tree-update}
-use Rattle.pv_laws_states.proofs.Present.{same-directory}
+use Rattle.pv_laws_states.proofs.ChangedStates.{same-directory}
 use Rattle.pv_laws_states.proofs.Collect.{held_after, tree-collect}
-use Rattle.pv_laws_access.proofs.Ends.{step-is}
+use Rattle.pv_laws_runs.proofs.OfLawsAccess.Ends.{step-is}
 use Rattle.pv_laws_steps.specs.Beside.{with_change}
 use Rattle.pv_laws_steps.specs.Commuting.{Commute}
 use Rattle.pv_laws_steps.specs.Holding.{LeavesTree}
-use Rattle.pv_laws_steps.proofs.Exchange.{KeepsParent, process-changed}
-use Rattle.pv_laws_steps.proofs.Given.{gives}
-use Rattle.pv_laws_steps.proofs.HeldApart.{found-same, UsesNoMore, change-is}
-use Rattle.pv_laws_steps.proofs.Lone.{by-promise, commute-where}
+use Rattle.pv_laws_steps.proofs.ChangedProcess.{KeepsParent, process-changed}
+use Rattle.pv_laws_steps.proofs.ReferenceSteps.{gives}
+use Rattle.pv_laws_steps.proofs.OtherReferences.{found-same, UsesNoMore, change-is}
+use Rattle.pv_laws_steps.proofs.LoneSteps.{by-promise, commute-where}
 use Rattle.pv_laws_steps.proofs.Orphans.{orphan}
 use Rattle.pv_laws_steps.proofs.OwnSteps.{Becomes, becomes-bind, becomes-then, becomes-there, become-commute, used-same, files-stay, own-commute}
-use Rattle.pv_laws_steps.proofs.Twice.{answer-held, answer-lacking, after_k, heir}
+use Rattle.pv_laws_steps.proofs.ExchangedSteps.{answer-held, answer-lacking, after_k, heir}
 
 -- ---- the references of a table
 
@@ -180,7 +165,7 @@ module _ (s : State) (j : ℕ) (p : Process) (whole : IsValid s) (at : process_a
       by-file : (i : ℕ) (file : OpenFile) → at_number s.files i ≡ Some file → among (used s) i ≡ true → file.node ≡ m → among (held_after u) m ≡ true
       by-file i file at_i is node = subst (λ v. among (held_after u) v ≡ true) node (among-held_file u i file at_i (ap (λ us. among us i) (used-same j f (λ r. refl) s) ∙ is))
 
-  wanted-still : (m : ℕ) → among (wanted s.tree (held_after s)) m ≡ true → among (wanted s.tree (held_after u)) m ≡ true
+  wanted-still : (m : ℕ) → among (numbers_wanted s.tree (held_after s)) m ≡ true → among (numbers_wanted s.tree (held_after u)) m ≡ true
   wanted-still m is =
       wanted-is s.tree (held_after u) m
       ∙ by (root == m) (among (named_numbers s.tree) m) (among (held_after s) m) (among (held_after u) m) (held-still m) (sym (wanted-is s.tree (held_after s) m) ∙ is)
@@ -193,8 +178,8 @@ module _ (s : State) (j : ℕ) (p : Process) (whole : IsValid s) (at : process_a
   pub tree-stays : (collect u).tree ≡ s.tree
   tree-stays =
       tree-collect u
-      ∙ only_nodes_all s.tree (wanted s.tree (held_after u))
-      (λ m node is. wanted-still m (keep-some (among (wanted s.tree (held_after s))) s.tree.nodes m node (ap (λ (t : Tree). node_at t m) (sym (tree-collect s) ∙ ap (λ (z : State). z.tree) whole.collected) ∙ is)).0)
+      ∙ only_nodes_all s.tree (numbers_wanted s.tree (held_after u))
+      (λ m node is. wanted-still m (keep-some (among (numbers_wanted s.tree (held_after s))) s.tree.nodes m node (ap (λ (t : Tree). node_at t m) (sym (tree-collect s) ∙ ap (λ (z : State). z.tree) whole.collected) ∙ is)).0)
 
 -- ---- the step
 

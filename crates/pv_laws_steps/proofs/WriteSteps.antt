@@ -6,48 +6,34 @@ use Rattle.pv_model.specs.declared.call.Call.TheVariants as TheCall
 use Rattle.pv_model.specs.declared.errno.Errno.TheVariants.{EFBIG, ENOSPC, EBADF, EINVAL}
 use Rattle.pv_model.specs.declared.outcome.Outcome.TheVariants.{Killed}
 use Rattle.pv_model.specs.declared.promise.Promise.{Promise}
-use Rattle.pv_model.specs.Answer.{at_next_line, update_live, update, effect}
-use Rattle.pv_model.specs.Attempt.{Attempt, after_walks, ◌>>=◌, ◌>>◌, give, refuse_if, demand}
-use Rattle.pv_model.specs.Bytes.{Bytes}
-use Rattle.pv_model.specs.Calls.Descriptors.{if_mode, within, is_past_greatest, with_content, write_end, after_write, write}
-use Rattle.pv_model.specs.Effect.{Effect, answers, with_room, open_file, with_file, overwrite}
-use Rattle.pv_model.specs.Held.{collect}
-use Rattle.pv_model.specs.Needs.{needs}
-use Rattle.pv_model.specs.Numbered.{at_number}
-use Rattle.pv_model.specs.Program.{calls_for, next}
-use Rattle.pv_model.specs.Promises.{missing_promise}
-use Rattle.pv_model.specs.Room.{rounded_up, greatest_length, is_too_long, fits}
-use Rattle.pv_model.specs.Sealed.{is_file}
-use Rattle.pv_model.specs.State.{OpenFile, Program, Process, State, writes, process_at, with_process, with_tree}
-use Rattle.pv_model.specs.Step.{step}
-use Rattle.pv_model.specs.Touch.{file_bytes, with_bytes}
-use Rattle.pv_model.specs.Tree.{node_at, is_directory_at}
+use Rattle.pv_model.specs.Machine.{at_next_line, update_live, update, effect, Attempt, after_walks, ◌>>=◌, ◌>>◌, give, refuse_if, demand, Bytes, within, is_past_greatest, with_content, write_end, after_write, write, Effect, answers, with_room, open_file, with_file, overwrite, collect, needs, at_number, calls_for, next, missing_promise, rounded_up, greatest_length, is_too_long, fits, is_file, OpenFile, Program, Process, State, writes, process_at, with_process, with_tree, step, file_bytes, with_bytes, node_at, is_directory_at}
+use Rattle.pv_model.specs.Calls.Descriptors.{if_mode}
 use Rattle.pv_laws_states.specs.States.{is_byte, EncodesPrograms, IsOpenFile, IsValid}
 use Rattle.pv_laws_states.proofs.ByFile.{open_file-at, file-bytes}
 use Rattle.pv_laws_states.proofs.ByProcess.{within-limit}
 use Rattle.pv_laws_states.proofs.ByTree.{all-overwrite}
 use Rattle.pv_laws_states.proofs.Processes.{update-with}
-use Rattle.pv_laws_states.proofs.Rests
-use Rattle.pv_laws_states.proofs.Running.{SameHolds, list_all-take}
-use Rattle.pv_laws_states.proofs.Present.{my-running}
-use Rattle.pv_laws_access.specs.Growth.{IsSameFile}
-use Rattle.pv_laws_access.specs.Justice.{HasEffectNext}
-use Rattle.pv_laws_access.proofs.HasEffect.{open_file_for-is}
-use Rattle.pv_laws_access.proofs.Near.{GoesByLength, IsExact, IsFine, as_is, as_is-fine, blocks, blocks-fine}
+use Rattle.pv_laws_states.proofs.CallRests
+use Rattle.pv_laws_states.proofs.ProcessInsides.{SameHolds, list_all-take}
+use Rattle.pv_laws_states.proofs.ChangedStates.{my-running}
+use Rattle.pv_laws_runs.specs.OfLawsAccess.Growth.{IsSameFile}
+use Rattle.pv_laws_runs.specs.OfLawsAccess.Justice.{HasEffectNext}
+use Rattle.pv_laws_runs.proofs.OfLawsAccess.CallEffects.{open_file_for-is}
+use Rattle.pv_laws_runs.proofs.OfLawsAccess.SimilarTrees.{GoesByLength, IsExact, IsFine, as_is, as_is-fine, blocks, blocks-fine}
 use Rattle.pv_laws_steps.specs.Beside.{with_change, become}
 use Rattle.pv_laws_steps.specs.Commuting.{Commute}
 use Rattle.pv_laws_steps.specs.Offsets.{with_file_change, GoesBy}
 use Rattle.pv_laws_steps.specs.Growing.{EndsInBlocks, LeavesGrowing}
 use Rattle.pv_laws_steps.specs.Writes.{LeavesWrite, StaysWithin}
-use Rattle.pv_laws_steps.proofs.Alongside.{SteppedBeside}
+use Rattle.pv_laws_steps.proofs.ChangedPairs.{SteppedBeside}
 use Rattle.pv_laws_steps.proofs.ContentSteps.{Content, put_content, settled-content, settled-content_u, short-content, short-content_u, fit-content, fit-content_u, passes-content}
-use Rattle.pv_laws_steps.proofs.Lone.{commute-where}
+use Rattle.pv_laws_steps.proofs.LoneSteps.{commute-where}
 use Rattle.pv_laws_steps.proofs.OffsetSteps.{same-open, goes-as_before}
 use Rattle.pv_laws_steps.proofs.Orphans.{orphan}
 use Rattle.pv_laws_steps.proofs.OtherBytes.{bytes-left, not_by-length, may-be_long}
 use Rattle.pv_laws_steps.proofs.ShiftCalls.{HasFile, step-shifted}
 use Rattle.pv_laws_steps.proofs.Shifts.{put-is_change, collect-shifted}
-use Rattle.pv_laws_steps.proofs.Twice.{acts, Two, two-demand, after_k, whole-following, heir, quiet, quiet-following, passes-by, commute-steps, call-twice}
+use Rattle.pv_laws_steps.proofs.ExchangedSteps.{acts, Two, two-demand, after_k, whole-following, heir, quiet, quiet-following, passes-by, commute-steps, call-twice}
 
 -- ---- overwritten bytes
 
@@ -269,9 +255,9 @@ module _ (size : ℕ → ℕ) (fine : IsFine size) (program_of : Bytes → Optio
 
       -- a write with room that ends within the limits
       does : (z : State) (me : Process) (count : ℕ) → is_past_greatest z.tree (write_end z j me file count) ≡ false → is_too_long (collect (after_write z j me m file count)).tree ≡ false
-          → fits (collect (after_write z j me m file count)).tree ≡ true → Rests.write_2 z j me m file count ≡ answers (after_write z j me m file count) count
+          → fits (collect (after_write z j me m file count)).tree ≡ true → CallRests.write_2 z j me m file count ≡ answers (after_write z j me m file count) count
       does z me count near short fit =
-          ap (λ b. refuse_if EFBIG b >> Rests.write_3 z j me m file count) near ∙ ap (after_walks 0) (roomy (after_write z j me m file count) count short fit)
+          ap (λ b. refuse_if EFBIG b >> CallRests.write_3 z j me m file count) near ∙ ap (after_walks 0) (roomy (after_write z j me m file count) count short fit)
 
       end-same : (count : ℕ) → write_end u j p file count ≡ write_end s j p file count
       end-same zero = refl
@@ -297,30 +283,30 @@ module _ (size : ℕ → ℕ) (fine : IsFine size) (program_of : Bytes → Optio
       settled-y : collect y ≡ y
       settled-y = quiet-following program_of encodes s j k p whole apart at (orphan n now) (next-holds (orphan n p))
 
-      counted : (count : ℕ) → Ends count → T (Rests.write_2 x j now m file count) (Rests.write_2 y j (orphan n now) m file count)
+      counted : (count : ℕ) → Ends count → T (CallRests.write_2 x j now m file count) (CallRests.write_2 y j (orphan n now) m file count)
       counted zero ends =
-          subst (λ a. T a (Rests.write_2 y j (orphan n now) m file 0)) (sym (does x now 0 (low-s 0 ends) (ap (λ (z : State). is_too_long z.tree) settled-x ∙ whole.not_too_long) (ap (λ (z : State). fits z.tree) settled-x ∙ whole.fits)))
+          subst (λ a. T a (CallRests.write_2 y j (orphan n now) m file 0)) (sym (does x now 0 (low-s 0 ends) (ap (λ (z : State). is_too_long z.tree) settled-x ∙ whole.not_too_long) (ap (λ (z : State). fits z.tree) settled-x ∙ whole.fits)))
           (subst (λ b. T (answers x 0) b) (sym (does y (orphan n now) 0 (low-u 0 ends) (ap (λ (z : State). is_too_long z.tree) settled-y ∙ whole_u.not_too_long) (ap (λ (z : State). fits z.tree) settled-y ∙ whole_u.fits)))
           (record { both = (refl, refl, tt, (None, now, itself now, refl, refl)) }))
       counted (suc i) ends =
           let a : A = act-of i ends in
           let one : collect (written x old (suc i)) ≡ writing size fine s u k a x = ap collect (put-s i ends) ∙ settled-act a x refl settled-x in
           let two : collect (written y (file_bytes u file.node) (suc i)) ≡ writing size fine s u k a y = ap collect (put-u i ends) ∙ settled-act_u a y refl settled-y in
-          subst (λ b. T b (Rests.write_2 y j (orphan n now) m file (suc i)))
+          subst (λ b. T b (CallRests.write_2 y j (orphan n now) m file (suc i)))
           (sym (does x now (suc i) (low-s (suc i) ends) (ap (λ (z : State). is_too_long z.tree) one ∙ short-content size fine s u k a.content ∙ whole.not_too_long) (ap (λ (z : State). fits z.tree) one ∙ fit-content size fine s u k a.content ∙ whole.fits)))
           (subst (λ b. T (answers (written x old (suc i)) (suc i)) b)
           (sym (does y (orphan n now) (suc i) (low-u (suc i) ends) (ap (λ (z : State). is_too_long z.tree) two ∙ short-content_u size fine s u k a.content ∙ whole_u.not_too_long) (ap (λ (z : State). fits z.tree) two ∙ fit-content_u size fine s u k a.content ∙ whole_u.fits)))
           (record { both = (refl, refl, tt, (Some a, now, itself now, put-s i ends, put-u i ends)) }))
 
-      rest : T (Rests.write_1 x j now c (m, file)) (Rests.write_1 y j (orphan n now) c (m, file))
+      rest : T (CallRests.write_1 x j now c (m, file)) (CallRests.write_1 y j (orphan n now) c (m, file))
       rest =
-          two-demand A (writing size fine s u k) s u j n now EINVAL (within 4096 c) (Rests.write_2 x j now m file) (Rests.write_2 y j (orphan n now) m file) (λ count some.
+          two-demand A (writing size fine s u k) s u j n now EINVAL (within 4096 c) (CallRests.write_2 x j now m file) (CallRests.write_2 y j (orphan n now) m file) (λ count some.
           counted count (within-limit 4096 c count some, stays m file count own some))
 
     performed : T (write x j now d c) (write y j (orphan n now) d c)
     performed =
-        subst (λ o. T (demand EBADF (if_mode writes (open_file s p d)) >>= Rests.write_1 x j now c) (demand EBADF (if_mode writes o) >>= Rests.write_1 y j (orphan n now) c)) (sym opened)
-        (two-demand A (writing size fine s u k) s u j n now EBADF (if_mode writes (open_file s p d)) (Rests.write_1 x j now c) (Rests.write_1 y j (orphan n now) c) (λ v own.
+        subst (λ o. T (demand EBADF (if_mode writes (open_file s p d)) >>= CallRests.write_1 x j now c) (demand EBADF (if_mode writes o) >>= CallRests.write_1 y j (orphan n now) c)) (sym opened)
+        (two-demand A (writing size fine s u k) s u j n now EBADF (if_mode writes (open_file s p d)) (CallRests.write_1 x j now c) (CallRests.write_1 y j (orphan n now) c) (λ v own.
         let both = open_file_for-is s j p writes d v.0 v.1 own in
         rest v.0 v.1 both.0 both.1))
 

@@ -5,12 +5,7 @@ use Rattle.pv_model.specs.declared.call.Call.{Call}
 use Rattle.pv_model.specs.declared.call.Call.TheVariants.{GetPpid, Stat, Lstat, Readlink, Fstat}
 use Rattle.pv_model.specs.declared.outcome.Outcome.TheVariants.{Killed}
 use Rattle.pv_model.specs.declared.promise.Promise.{Promise}
-use Rattle.pv_model.specs.Bytes.{Bytes}
-use Rattle.pv_model.specs.Program.{calls_for, next}
-use Rattle.pv_model.specs.Effect.{open_file}
-use Rattle.pv_model.specs.State.{OpenFile, Program, Process, State, process_at}
-use Rattle.pv_model.specs.Tree.{node_at}
-use Rattle.pv_model.specs.Step.{step}
+use Rattle.pv_model.specs.Machine.{Bytes, calls_for, next, open_file, OpenFile, Program, Process, State, process_at, node_at, step}
 use Rattle.pv_laws_states.specs.States.{EncodesPrograms, IsValid}
 use Rattle.pv_laws_steps.specs.Commuting.{Commute}
 

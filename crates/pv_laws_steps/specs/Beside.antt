@@ -1,9 +1,6 @@
 -- Two states that differ only inside one process, and the steps from them.
 use Rattle.std.specs.Prelude.{◌≡◌, ◌≢◌, ℕ, if◌then◌else◌, ◌==◌, map, Option, Some}
-use Rattle.pv_model.specs.Bytes.{Bytes}
-use Rattle.pv_model.specs.Held.{held_by_table}
-use Rattle.pv_model.specs.State.{Program, Process, ProcessRecord, live, ended_record, State, process_at}
-use Rattle.pv_model.specs.Step.{Stepped, step}
+use Rattle.pv_model.specs.Machine.{Bytes, held_by_table, Program, Process, ProcessRecord, live, ended_record, State, process_at, Stepped, step}
 use Rattle.pv_laws_states.specs.States.{IsValid}
 
 abbrev pub change_live : (Process → Process) → ProcessRecord → ProcessRecord

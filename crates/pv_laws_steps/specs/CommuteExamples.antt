@@ -1,51 +1,30 @@
 -- Processes whose next steps commute, and processes whose next steps do not, one for each clause of a law. They show
 -- that the laws are not vacuous and that their premises matter.
-use Rattle.std.specs.Prelude.{◌≡◌, ℕ, Bool, true, false, IsTrue, List, [], ◌∷◌, ◌++◌, replicate, codes, pos, Option, None, Some, is_some}
+use Rattle.std.specs.Prelude.{◌≡◌, true, false, IsTrue, List, [], ◌∷◌, ◌++◌, replicate, codes, pos, None, Some, is_some}
 use Rattle.pv_model.specs.declared.call.Call.TheVariants as TheCall
 use Rattle.pv_model.specs.declared.call.Whence.TheVariants.{Set, Current, End}
 use Rattle.pv_model.specs.declared.instruction.Instruction.TheVariants.{Put, JumpIfZero, Fork, GetPid, Exit, Open, Read, Write, Lseek, Getdents, Stat, Mkdir, Unlink}
 use Rattle.pv_model.specs.declared.instruction.Instruction.{Instruction}
 use Rattle.pv_model.specs.declared.instruction.Operand.TheVariants.{Number}
-use Rattle.pv_model.specs.declared.open_flags.Mode.{Mode}
 use Rattle.pv_model.specs.declared.open_flags.Mode.TheVariants.{Read as Reading, Write as Writing, ReadWrite}
-use Rattle.pv_model.specs.declared.open_flags.OpenFlags.{OpenFlags}
 use Rattle.pv_model.specs.declared.outcome.Outcome.TheVariants.{Value, Text}
-use Rattle.pv_model.specs.Bytes.{Bytes}
-use Rattle.pv_model.specs.Manifest.{manifest_tree}
-use Rattle.pv_model.specs.Program.{calls_for, next}
-use Rattle.pv_model.specs.State.{Program, Process, State, first_state, process_at}
-use Rattle.pv_model.specs.Step.{step, run}
-use Rattle.pv_model.specs.Touch.{file_bytes}
+use Rattle.pv_model.specs.Machine.{calls_for, next, Program, Process, State, process_at, step, run, file_bytes, at_number, root, find_entry}
 use Rattle.pv_laws_steps.specs.Commuting.{IsAlone}
 use Rattle.pv_model.specs.declared.instruction.Instruction.TheVariants.{Close}
-use Rattle.pv_model.specs.Numbered.{at_number}
 use Rattle.pv_model.specs.declared.errno.Errno.TheVariants.{ENOENT}
 use Rattle.pv_model.specs.declared.instruction.Instruction.TheVariants.{Chdir, Fchdir, Rmdir}
 use Rattle.pv_model.specs.declared.outcome.Cause.TheVariants.{Plain}
 use Rattle.pv_model.specs.declared.outcome.Outcome.TheVariants.{Failed}
-use Rattle.pv_model.specs.Tree.{root, find_entry}
+use Rattle.pv_laws_states.specs.ExampleStates.{no_programs, state_after, flags, making}
 use Rattle.pv_laws_steps.specs.Holding.{LeavesOpenFiles, LeavesTree, LeavesWay}
 use Rattle.pv_laws_steps.specs.Offsets.{LeavesOpenFile}
 use Rattle.pv_laws_steps.specs.Writes.{LeavesWrite, StaysWithin}
-
--- no file parses as a program
-abbrev pub no_programs : Bytes → Option Program
-no_programs bytes = None
-
-abbrev pub state_after : Program → List ℕ → State
-state_after program pids = (run no_programs pids (first_state (manifest_tree 14 16 []) program)).final
 
 -- a process forks, and both processes call getpid
 abbrev pub apart : Program
 apart = Fork ∷ GetPid ∷ []
 
 -- a process creates and opens a file and forks, and both processes seek one byte forward in the shared open file
-abbrev pub flags : Mode → Bool → OpenFlags
-flags mode create = record { mode = mode; append = false; create = create; truncate = false; exclusive = false; no_follow = false; directory = false; close_on_exec = false }
-
-abbrev pub making : OpenFlags
-making = flags Reading true
-
 abbrev pub sharing : Program
 sharing = Open (codes "/x") making ∷ Fork ∷ Lseek (Number (pos 0)) (Number (pos 1)) Current ∷ []
 
@@ -100,8 +79,8 @@ abbrev pub closing_both : State
 closing_both = state_after (closing_beside (Close (Number (pos 0)) ∷ [])) (replicate 3 1 ++ 2 ∷ [])
 
 -- after a fork, a process closes the only descriptor for an open file, and its child opens another file
-abbrev pub ending : Program
-ending = Fork ∷ JumpIfZero 0 6 ∷ Open (codes "/x") making ∷ Close (Number (pos 0)) ∷ Exit (Number (pos 0)) ∷ Open (codes "/y") making ∷ []
+abbrev pub closing_and_opening : Program
+closing_and_opening = Fork ∷ JumpIfZero 0 6 ∷ Open (codes "/x") making ∷ Close (Number (pos 0)) ∷ Exit (Number (pos 0)) ∷ Open (codes "/y") making ∷ []
 
 pub record DescriptorExamples : Type 0 where
   -- two closes of one open file satisfy the premises of the law, and remove the open file
@@ -112,8 +91,8 @@ pub record DescriptorExamples : Type 0 where
   pub closes : (step no_programs closing_both 2).outcome ≡ Value 0
   pub ended : at_number (run no_programs (1 ∷ 2 ∷ []) closing_both).final.files 0 ≡ None
   -- an open after a close that removes an open file reuses its number
-  pub reused : is_some (at_number (state_after ending (replicate 3 1 ++ 2 ∷ 1 ∷ 2 ∷ [])).files 0) ≡ true
-  pub not_reused : at_number (state_after ending (replicate 3 1 ++ 2 ∷ 2 ∷ 1 ∷ [])).files 0 ≡ None
+  pub reused : is_some (at_number (state_after closing_and_opening (replicate 3 1 ++ 2 ∷ 1 ∷ 2 ∷ [])).files 0) ≡ true
+  pub not_reused : at_number (state_after closing_and_opening (replicate 3 1 ++ 2 ∷ 2 ∷ 1 ∷ [])).files 0 ≡ None
 
 -- ---- directories
 

@@ -6,13 +6,7 @@ use Rattle.pv_model.specs.declared.errno.Errno.{Errno}
 use Rattle.pv_model.specs.declared.outcome.Cause.{Cause}
 use Rattle.pv_model.specs.declared.outcome.Outcome.TheVariants.{Failed, Killed, Blocked}
 use Rattle.pv_model.specs.declared.promise.Promise.{Promise}
-use Rattle.pv_model.specs.Bytes.{Bytes}
-use Rattle.pv_model.specs.Needs.{needs}
-use Rattle.pv_model.specs.Program.{Next, inside, calls_for, next}
-use Rattle.pv_model.specs.Promises.{is_lenient, missing_promise}
-use Rattle.pv_model.specs.State.{Program, Process, State, process_at, with_process}
-use Rattle.pv_model.specs.Step.{Stepped, step, run}
-use Rattle.pv_model.specs.Trace.{Line}
+use Rattle.pv_model.specs.Machine.{Bytes, needs, Next, inside, calls_for, next, is_lenient, missing_promise, Program, Process, State, process_at, with_process, Stepped, step, run, Line}
 use Rattle.pv_laws_states.specs.States.{EncodesPrograms, IsValid}
 use Rattle.pv_laws_steps.specs.Beside.{AppearsAlike}
 
@@ -93,7 +87,7 @@ LoneStepsCommute =
 
 -- two runs that differ in the order of their first two steps: the lines of these steps change places, and everything
 -- else is the same
-pub record RunsAlike (program_of : Bytes → Option Program) (s : State) (j k : ℕ) (pids : List ℕ) : Type 0 where
+pub record RunsDifferInOrder (program_of : Bytes → Option Program) (s : State) (j k : ℕ) (pids : List ℕ) : Type 0 where
   pub rest : List Line
   pub one : (run program_of (j ∷ k ∷ pids) s).lines ≡ (step program_of s j).lines ++ ((step program_of s k).lines ++ rest)
   pub other : (run program_of (k ∷ j ∷ pids) s).lines ≡ (step program_of s k).lines ++ ((step program_of s j).lines ++ rest)
@@ -101,4 +95,4 @@ pub record RunsAlike (program_of : Bytes → Option Program) (s : State) (j k : 
 
 -- if two steps commute, the runs in which they change places are such runs
 abbrev pub RunsReorder : Type 0
-RunsReorder = (program_of : Bytes → Option Program) (s : State) (j k : ℕ) (pids : List ℕ) → Commute program_of s j k → RunsAlike program_of s j k pids
+RunsReorder = (program_of : Bytes → Option Program) (s : State) (j k : ℕ) (pids : List ℕ) → Commute program_of s j k → RunsDifferInOrder program_of s j k pids

@@ -5,10 +5,7 @@ use Rattle.pv_model.specs.declared.call.Call.{Call}
 use Rattle.pv_model.specs.declared.call.Call.TheVariants.{Read, Write, Lseek, Fstat, Ftruncate, Getdents, Mkdir, Symlink, Link, Unlink, Rmdir, Rename}
 use Rattle.pv_model.specs.declared.outcome.Outcome.TheVariants.{Killed}
 use Rattle.pv_model.specs.declared.promise.Promise.{Promise}
-use Rattle.pv_model.specs.Bytes.{Bytes}
-use Rattle.pv_model.specs.Program.{calls_for, next}
-use Rattle.pv_model.specs.State.{Program, Process, State, process_at}
-use Rattle.pv_model.specs.Step.{step}
+use Rattle.pv_model.specs.Machine.{Bytes, calls_for, next, Program, Process, State, process_at, step}
 use Rattle.pv_laws_states.specs.States.{EncodesPrograms, IsValid}
 use Rattle.pv_laws_steps.specs.Asking.{LeavesNode}
 use Rattle.pv_laws_steps.specs.Commuting.{Commute}
@@ -26,19 +23,19 @@ changes_entries call = false
 -- a call of process k by a descriptor is independent of the step of process j: a write or an ftruncate keeps the number
 -- of blocks of its file, and any other call has its descriptor on a node that the step leaves unchanged, so not on a
 -- directory of which it changes an entry
-abbrev pub AreApart : (Bytes → Option Program) → State → ℕ → ℕ → Process → Call → Type 0
-AreApart program_of s j k p (Write d c) = EndsInBlocks s k p d c
-AreApart program_of s j k p (Ftruncate d n) = KeepsBlocks s p d n
-AreApart program_of s j k p (Read d n) = LeavesNode program_of s p d j
-AreApart program_of s j k p (Lseek d by whence) = LeavesNode program_of s p d j
-AreApart program_of s j k p (Fstat d) = LeavesNode program_of s p d j
-AreApart program_of s j k p (Getdents d) = LeavesNode program_of s p d j
-AreApart program_of s j k p call = ⊥
+abbrev pub IsIndependent : (Bytes → Option Program) → State → ℕ → ℕ → Process → Call → Type 0
+IsIndependent program_of s j k p (Write d c) = EndsInBlocks s k p d c
+IsIndependent program_of s j k p (Ftruncate d n) = KeepsBlocks s p d n
+IsIndependent program_of s j k p (Read d n) = LeavesNode program_of s p d j
+IsIndependent program_of s j k p (Lseek d by whence) = LeavesNode program_of s p d j
+IsIndependent program_of s j k p (Fstat d) = LeavesNode program_of s p d j
+IsIndependent program_of s j k p (Getdents d) = LeavesNode program_of s p d j
+IsIndependent program_of s j k p call = ⊥
 
 -- a call that changes entries commutes with an independent call of another process that does not kill
 abbrev pub EntriesCommute : Type 0
 EntriesCommute =
     (program_of : Bytes → Option Program) → EncodesPrograms program_of → (s : State) (j k : ℕ) (p q : Process) (entries call : Call) → IsValid s → j ≢ k
     → process_at s j ≡ Some p → next p ≡ calls_for entries → IsTrue (changes_entries entries)
-    → process_at s k ≡ Some q → next q ≡ calls_for call → ((a : Promise) → (step program_of s k).outcome ≢ Killed a) → AreApart program_of s j k q call
+    → process_at s k ≡ Some q → next q ≡ calls_for call → ((a : Promise) → (step program_of s k).outcome ≢ Killed a) → IsIndependent program_of s j k q call
     → Commute program_of s j k

@@ -5,18 +5,9 @@ use Rattle.pv_model.specs.declared.call.Call.TheVariants.{Write, Ftruncate}
 use Rattle.pv_model.specs.declared.limits.TheConstants.{BLOCK, BUFFER}
 use Rattle.pv_model.specs.declared.outcome.Outcome.TheVariants.{Killed}
 use Rattle.pv_model.specs.declared.promise.Promise.{Promise}
-use Rattle.pv_model.specs.Bytes.{Bytes}
-use Rattle.pv_model.specs.Calls.Descriptors.{within, natural, write_end}
-use Rattle.pv_model.specs.Effect.{open_file}
-use Rattle.pv_model.specs.Program.{calls_for, next}
-use Rattle.pv_model.specs.Room.{rounded_up}
-use Rattle.pv_model.specs.Sealed.{is_file}
-use Rattle.pv_model.specs.State.{OpenFile, Program, Process, State, process_at}
-use Rattle.pv_model.specs.Step.{Stepped, step}
-use Rattle.pv_model.specs.Touch.{file_bytes, with_bytes}
-use Rattle.pv_model.specs.Tree.{node_at}
+use Rattle.pv_model.specs.Machine.{Bytes, within, natural, write_end, open_file, calls_for, next, rounded_up, is_file, OpenFile, Program, Process, State, process_at, Stepped, step, file_bytes, with_bytes, node_at}
 use Rattle.pv_laws_states.specs.States.{are_bytes, EncodesPrograms, IsValid}
-use Rattle.pv_laws_access.specs.Justice.{AsksSize, HasEffectNext}
+use Rattle.pv_laws_runs.specs.OfLawsAccess.Justice.{AsksSize, HasEffectNext}
 use Rattle.pv_laws_steps.specs.Commuting.{Commute}
 use Rattle.pv_laws_steps.specs.Offsets.{GoesBy}
 use Rattle.pv_laws_steps.specs.Writes.{LeavesBytes}
@@ -63,7 +54,7 @@ GrowingWritesCommute =
 abbrev pub LeavesCut : State → Process → ℤ → ℕ → Type 0
 LeavesCut s p d k = (m : ℕ) (file : OpenFile) → open_file s p d ≡ Some (m, file) → LeavesContent s k file.node
 
--- n bytes need as many blocks as the content of the file of descriptor d
+-- n bytes need the same number of blocks as the content of the file of descriptor d
 abbrev pub KeepsBlocks : State → Process → ℤ → ℤ → Type 0
 KeepsBlocks s p d n =
     (m : ℕ) (file : OpenFile) (size : ℕ) → open_file s p d ≡ Some (m, file) → natural n ≡ Some size → rounded_up size BLOCK ≡ file_blocks s file.node

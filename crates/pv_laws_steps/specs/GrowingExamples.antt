@@ -11,11 +11,8 @@ use Rattle.pv_model.specs.declared.open_flags.Mode.TheVariants.{Read as Reading,
 use Rattle.pv_model.specs.declared.outcome.Cause.TheVariants.{Plain}
 use Rattle.pv_model.specs.declared.outcome.Outcome.{Outcome}
 use Rattle.pv_model.specs.declared.outcome.Outcome.TheVariants.{Value, Text, Failed}
-use Rattle.pv_model.specs.Manifest.{manifest_tree}
-use Rattle.pv_model.specs.Program.{calls_for, next}
-use Rattle.pv_model.specs.State.{Program, Process, State, first_state, process_at}
-use Rattle.pv_model.specs.Step.{step, run}
-use Rattle.pv_laws_steps.specs.CommuteExamples.{no_programs, state_after, flags}
+use Rattle.pv_model.specs.Machine.{manifest_tree, calls_for, next, Program, Process, State, first_state, process_at, step, run}
+use Rattle.pv_laws_states.specs.ExampleStates.{no_programs, state_after, flags}
 use Rattle.pv_laws_steps.specs.Growing.{EndsInBlocks, LeavesGrowing, KeepsBlocks, LeavesCut}
 
 -- a process creates a file of five bytes, which is node 2, and forks; then it changes the file, and the child does
@@ -64,22 +61,22 @@ abbrev pub to_read : List Instruction
 to_read = Open (codes "/x") (flags Reading false) ∷ Read (Number (pos 1)) (Number (pos 9)) ∷ []
 
 -- the outcome of the child's second call, before and after the change
-abbrev pub reported_before : Instruction → List Instruction → Outcome
-reported_before changes others = (step no_programs (state_after (five_bytes changes others) before_second) 2).outcome
+abbrev pub outcome_before_change : Instruction → List Instruction → Outcome
+outcome_before_change changes others = (step no_programs (state_after (five_bytes changes others) before_second) 2).outcome
 
-abbrev pub reported_after : Instruction → List Instruction → Outcome
-reported_after changes others = (step no_programs (state_after (five_bytes changes others) (before_second ++ 1 ∷ [])) 2).outcome
+abbrev pub outcome_after_change : Instruction → List Instruction → Outcome
+outcome_after_change changes others = (step no_programs (state_after (five_bytes changes others) (before_second ++ 1 ∷ [])) 2).outcome
 
-abbrev pub shared : Program
-shared = five_bytes grows to_ask_where
+abbrev pub growing_shared : Program
+growing_shared = five_bytes grows to_ask_where
 
 -- an image with a number of data blocks, one of which contains the names
 abbrev pub state_within : ℕ → Program → List ℕ → State
 state_within blocks program pids = (run no_programs pids (first_state (manifest_tree blocks 16 []) program)).final
 
 -- a process creates two files, optionally writes a byte to the first, and forks; the child writes a byte to the second
-abbrev pub two_files : List Instruction → ℕ → Instruction → Program
-two_files first line changes =
+abbrev pub writing_two_files : List Instruction → ℕ → Instruction → Program
+writing_two_files first line changes =
     Open (codes "/x") (flags ReadWrite true)
     ∷ Open (codes "/y") (flags ReadWrite true)
     ∷ first
@@ -92,11 +89,11 @@ two_files first line changes =
 
 -- both files need the last free block
 abbrev pub both_grow : Program
-both_grow = two_files [] 7 (Write (Number (pos 0)) (Number (pos 1)))
+both_grow = writing_two_files [] 7 (Write (Number (pos 0)) (Number (pos 1)))
 
 -- a truncation to length 0 frees the block of the first file
 abbrev pub one_frees : Program
-one_frees = two_files (Write (Number (pos 0)) (Number (pos 1)) ∷ []) 8 (Ftruncate (Number (pos 0)) (Number (pos 0)))
+one_frees = writing_two_files (Write (Number (pos 0)) (Number (pos 1)) ∷ []) 8 (Ftruncate (Number (pos 0)) (Number (pos 0)))
 
 pub record GrowingExamples : Type 0 where
   -- a write that extends its file within its block and an unlink of the file satisfy the premises of the law
@@ -106,13 +103,13 @@ pub record GrowingExamples : Type 0 where
   pub ends : EndsInBlocks growing_unlinked 1 writer (pos 0) (pos 2)
   pub leaves : LeavesGrowing growing_unlinked writer (pos 0) 2
   -- a read and a seek to the end observe the extended file
-  pub read_five : reported_before grows to_read ≡ Text (record { value = 5; len = 5 })
-  pub read_seven : reported_after grows to_read ≡ Text (record { value = 7; len = 7 })
-  pub end_at_five : reported_before grows to_its_end ≡ Value 5
-  pub end_at_seven : reported_after grows to_its_end ≡ Value 7
+  pub read_five : outcome_before_change grows to_read ≡ Text (record { value = 5; len = 5 })
+  pub read_seven : outcome_after_change grows to_read ≡ Text (record { value = 7; len = 7 })
+  pub end_at_five : outcome_before_change grows to_its_end ≡ Value 5
+  pub end_at_seven : outcome_after_change grows to_its_end ≡ Value 7
   -- a call through the shared open file observes the new offset
-  pub appears_at_five : (step no_programs (state_after shared before) 2).outcome ≡ Value 5
-  pub appears_at_seven : (step no_programs (state_after shared (before ++ 1 ∷ [])) 2).outcome ≡ Value 7
+  pub appears_at_five : (step no_programs (state_after growing_shared before) 2).outcome ≡ Value 5
+  pub appears_at_seven : (step no_programs (state_after growing_shared (before ++ 1 ∷ [])) 2).outcome ≡ Value 7
   -- of two writes that need the last block, the first gets it
   pub gets_it : (step no_programs (state_within 2 both_grow (replicate 4 1 ++ 2 ∷ [])) 1).outcome ≡ Value 1
   pub finds_none : (step no_programs (state_within 2 both_grow (replicate 4 1 ++ 2 ∷ 2 ∷ [])) 1).outcome ≡ Failed ENOSPC Plain
@@ -126,10 +123,10 @@ pub record CutExamples : Type 0 where
   pub leaves : LeavesCut shrinking_beside cutter (pos 0) 2
   pub seeks : (step no_programs shrinking_beside 2).outcome ≡ Value 5
   -- a read and a seek to the end observe the truncated file
-  pub read_five : reported_before shrinks to_read ≡ Text (record { value = 5; len = 5 })
-  pub read_two : reported_after shrinks to_read ≡ Text (record { value = 2; len = 2 })
-  pub end_at_five : reported_before shrinks to_its_end ≡ Value 5
-  pub end_at_two : reported_after shrinks to_its_end ≡ Value 2
+  pub read_five : outcome_before_change shrinks to_read ≡ Text (record { value = 5; len = 5 })
+  pub read_two : outcome_after_change shrinks to_read ≡ Text (record { value = 2; len = 2 })
+  pub end_at_five : outcome_before_change shrinks to_its_end ≡ Value 5
+  pub end_at_two : outcome_after_change shrinks to_its_end ≡ Value 2
   -- a truncation that frees a block provides it for the other process's write
   pub finds_none : (step no_programs (state_within 2 one_frees (replicate 5 1 ++ 2 ∷ [])) 2).outcome ≡ Failed ENOSPC Plain
   pub gets_it : (step no_programs (state_within 2 one_frees (replicate 5 1 ++ 2 ∷ 1 ∷ [])) 2).outcome ≡ Value 1

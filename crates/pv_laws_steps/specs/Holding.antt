@@ -6,13 +6,7 @@ use Rattle.pv_model.specs.declared.call.Call.{Call}
 use Rattle.pv_model.specs.declared.call.Call.TheVariants.{Unveil, Execve, Close, Dup, Dup2, Fchdir, Chdir}
 use Rattle.pv_model.specs.declared.outcome.Outcome.TheVariants.{Killed}
 use Rattle.pv_model.specs.declared.promise.Promise.{Promise}
-use Rattle.pv_model.specs.Bytes.{Bytes}
-use Rattle.pv_model.specs.Effect.{open_file}
-use Rattle.pv_model.specs.Numbered.{at_number}
-use Rattle.pv_model.specs.Program.{calls_for, next}
-use Rattle.pv_model.specs.State.{OpenFile, Descriptor, Program, Process, State, process_at}
-use Rattle.pv_model.specs.Step.{step}
-use Rattle.pv_model.specs.Tree.{is_directory_at}
+use Rattle.pv_model.specs.Machine.{Bytes, open_file, at_number, calls_for, next, OpenFile, Descriptor, Program, Process, State, process_at, step, is_directory_at}
 use Rattle.pv_laws_states.specs.States.{EncodesPrograms, IsValid}
 use Rattle.pv_laws_steps.specs.Commuting.{Commute}
 

@@ -11,16 +11,9 @@ use Rattle.pv_model.specs.declared.open_flags.OpenFlags.{OpenFlags}
 use Rattle.pv_model.specs.declared.outcome.Cause.TheVariants.{Plain}
 use Rattle.pv_model.specs.declared.outcome.Outcome.TheVariants.{Value, Failed}
 use Rattle.pv_model.specs.declared.target.Target.TheVariants.{Directory, Name}
-use Rattle.pv_model.specs.Bytes.{Bytes}
-use Rattle.pv_model.specs.Manifest.{make, manifest_tree}
-use Rattle.pv_model.specs.Numbered.{at_number}
-use Rattle.pv_model.specs.Perms.{permission_r}
-use Rattle.pv_model.specs.Program.{calls_for, next}
-use Rattle.pv_model.specs.State.{Program, Process, State, first_state, process_at}
-use Rattle.pv_model.specs.Step.{step, run}
-use Rattle.pv_model.specs.Tree.{file_node, root, find_entry}
-use Rattle.pv_model.specs.Unveil.{Table}
-use Rattle.pv_laws_steps.specs.CommuteExamples.{no_programs, state_after, flags, leaving}
+use Rattle.pv_model.specs.Machine.{Bytes, make, manifest_tree, at_number, permission_r, calls_for, next, Program, Process, State, first_state, process_at, step, run, file_node, root, find_entry, Table}
+use Rattle.pv_laws_states.specs.ExampleStates.{no_programs, state_after, flags}
+use Rattle.pv_laws_steps.specs.CommuteExamples.{leaving}
 use Rattle.pv_laws_steps.specs.Holding.{LeavesOpenFiles, LeavesTree}
 
 -- ---- unveil(2)

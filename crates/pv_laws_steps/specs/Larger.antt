@@ -5,16 +5,13 @@ use Rattle.pv_model.specs.declared.errno.Errno.{Errno}
 use Rattle.pv_model.specs.declared.errno.Errno.TheVariants.{EFBIG, ENOSPC, ENAMETOOLONG}
 use Rattle.pv_model.specs.declared.version.Version.{Version}
 use Rattle.pv_model.specs.declared.version.Version.TheVariants.{V2}
-use Rattle.pv_model.specs.Bytes.{Bytes}
-use Rattle.pv_model.specs.Room.{node_length, need, is_too_long, fits}
-use Rattle.pv_model.specs.State.{Program, State, with_tree}
-use Rattle.pv_model.specs.Step.{Stepped, Run, step, run, boot, run_text, final_tree}
-use Rattle.pv_model.specs.Trace.{Word, ret_word, error_of, Line}
-use Rattle.pv_model.specs.Tree.{Node, Tree, node_at}
+use Rattle.pv_model.specs.Machine.{Bytes, node_length, need, is_too_long, fits, Program, State, with_tree, Stepped, Run, step, run, boot, Word, ret_word, Line, Node, Tree, node_at}
+use Rattle.pv_model.specs.Step.{run_text, final_tree}
+use Rattle.pv_model.specs.Trace.{error_of}
 use Rattle.pv_laws_states.specs.States.{EncodesPrograms, IsValid}
 
--- the same nodes under the same numbers, in an image of version 2 with at least five times as many data blocks and at
--- least as many inodes
+-- the same nodes under the same numbers, in an image of version 2 with at least five times the data blocks and at
+-- least the inodes
 pub record IsLarger (old new : Tree) : Type 0 where
   pub nodes : (n : ℕ) → node_at new n ≡ node_at old n
   pub numbers : length new.nodes ≡ suc new.inodes
@@ -39,7 +36,7 @@ ReportsNoLimit lines = IsTrue (list_all (λ (l : Line). not (is_limit_word l.wor
 
 -- ---- room
 
--- in an image of version 2, a node needs at most five times as many blocks
+-- in an image of version 2, a node needs at most five times the blocks
 abbrev pub NeedsFiveTimes : Type 0
 NeedsFiveTimes = (v : Version) (node : Node) → need V2 (node_length V2 node) ≤ 5 * need v (node_length v node)
 
@@ -59,7 +56,7 @@ pub record IsInLarger (old new : State) : Type 0 where
   pub rest : new ≡ with_tree old new.tree
 
 -- two steps have the same outcome and lines, and the next states differ only in the sizes
-pub record StepsAlike (old new : Stepped) : Type 0 where
+pub record StepsDifferInSizes (old new : Stepped) : Type 0 where
   pub outcome : new.outcome ≡ old.outcome
   pub lines : new.lines ≡ old.lines
   pub after : IsInLarger old.after new.after
@@ -68,10 +65,10 @@ pub record StepsAlike (old new : Stepped) : Type 0 where
 abbrev pub LargerKeepsSteps : Type 0
 LargerKeepsSteps =
     (program_of : Bytes → Option Program) → EncodesPrograms program_of → (s u : State) (pid : ℕ) → IsValid s → IsInLarger s u → ReportsNoLimit (step program_of s pid).lines
-    → StepsAlike (step program_of s pid) (step program_of u pid)
+    → StepsDifferInSizes (step program_of s pid) (step program_of u pid)
 
 -- two runs have the same lines, and the final states differ only in the sizes
-pub record RunsAlike (old new : Run) : Type 0 where
+pub record RunsDifferInSizes (old new : Run) : Type 0 where
   pub lines : new.lines ≡ old.lines
   pub final : IsInLarger old.final new.final
 
@@ -79,17 +76,17 @@ pub record RunsAlike (old new : Run) : Type 0 where
 abbrev pub LargerKeepsRuns : Type 0
 LargerKeepsRuns =
     (program_of : Bytes → Option Program) → EncodesPrograms program_of → (s u : State) (pids : List ℕ) → IsValid s → IsInLarger s u → ReportsNoLimit (run program_of pids s).lines
-    → RunsAlike (run program_of pids s) (run program_of pids u)
+    → RunsDifferInSizes (run program_of pids s) (run program_of pids u)
 
 -- two runs have the same text, and leave trees with equal nodes
-pub record TracesAlike (program_of : Bytes → Option Program) (pids : List ℕ) (s u : State) : Type 0 where
+pub record TracesAreEqual (program_of : Bytes → Option Program) (pids : List ℕ) (s u : State) : Type 0 where
   pub text : run_text program_of pids u ≡ run_text program_of pids s
   pub nodes : (n : ℕ) → node_at (final_tree program_of pids u) n ≡ node_at (final_tree program_of pids s) n
 
 abbrev pub LargerKeepsTraces : Type 0
 LargerKeepsTraces =
     (program_of : Bytes → Option Program) → EncodesPrograms program_of → (s u : State) (pids : List ℕ) → IsValid s → IsInLarger s u → ReportsNoLimit (run program_of pids s).lines
-    → TracesAlike program_of pids s u
+    → TracesAreEqual program_of pids s u
 
 -- ---- first states
 

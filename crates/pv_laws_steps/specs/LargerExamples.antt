@@ -1,21 +1,14 @@
 -- A run that fills every data block with a directory of eight entries: five times the blocks are enough, and four times
 -- are not.
-use Rattle.std.specs.Prelude.{◌≡◌, ℕ, [], ◌∷◌, replicate, codes, Option, None}
+use Rattle.std.specs.Prelude.{◌≡◌, ℕ, [], ◌∷◌, replicate, codes}
 use Rattle.pv_model.specs.declared.errno.Errno.TheVariants.{ENOSPC}
 use Rattle.pv_model.specs.declared.instruction.Instruction.TheVariants.{Mkdir}
 use Rattle.pv_model.specs.declared.outcome.Cause.TheVariants.{Plain}
 use Rattle.pv_model.specs.declared.outcome.Outcome.TheVariants.{Value, Failed}
 use Rattle.pv_model.specs.declared.version.Version.TheVariants.{V2}
-use Rattle.pv_model.specs.Bytes.{Bytes}
-use Rattle.pv_model.specs.Manifest.{empty_tree}
-use Rattle.pv_model.specs.State.{Program, State, first_state}
-use Rattle.pv_model.specs.Step.{step, run}
-use Rattle.pv_model.specs.Tree.{Tree}
+use Rattle.pv_model.specs.Machine.{empty_tree, Program, State, first_state, step, run, Tree}
+use Rattle.pv_laws_states.specs.ExampleStates.{no_programs}
 use Rattle.pv_laws_steps.specs.Larger.{IsLarger, ReportsNoLimit}
-
--- no file parses as a program
-abbrev pub no_programs : Bytes → Option Program
-no_programs bytes = None
 
 -- eight directories in the root, which fill its block
 abbrev pub eight : Program

@@ -16,3 +16,4 @@ pub mod EntriesExamples
 pub mod Larger
 pub mod Images
 pub mod LargerExamples
+pub use Rattle.pv_laws_states.specs as OfLawsStates

@@ -5,16 +5,9 @@ use Rattle.pv_model.specs.declared.call.Call.{Call}
 use Rattle.pv_model.specs.declared.call.Call.TheVariants.{Read, Write, Lseek, Getdents}
 use Rattle.pv_model.specs.declared.outcome.Outcome.TheVariants.{Killed}
 use Rattle.pv_model.specs.declared.promise.Promise.{Promise}
-use Rattle.pv_model.specs.Bytes.{Bytes}
-use Rattle.pv_model.specs.Effect.{open_file}
-use Rattle.pv_model.specs.Numbered.{Numbered, at_number}
-use Rattle.pv_model.specs.Program.{calls_for, next}
-use Rattle.pv_model.specs.State.{OpenFile, Program, Process, State, process_at}
-use Rattle.pv_model.specs.Step.{Stepped, step}
-use Rattle.pv_model.specs.Touch.{descriptor_of}
-use Rattle.pv_model.specs.Tree.{node_at}
+use Rattle.pv_model.specs.Machine.{Bytes, open_file, Numbered, at_number, calls_for, next, OpenFile, Program, Process, State, process_at, Stepped, step, descriptor_of, node_at}
 use Rattle.pv_laws_states.specs.States.{EncodesPrograms, IsValid}
-use Rattle.pv_laws_access.specs.Growth.{IsSameFile, IsNamedBy}
+use Rattle.pv_laws_runs.specs.OfLawsAccess.Growth.{IsSameFile, IsNamedBy}
 use Rattle.pv_laws_steps.specs.Commuting.{Commute}
 
 abbrev pub change_number : ℕ → (OpenFile → OpenFile) → Numbered OpenFile → Numbered OpenFile

@@ -1,11 +1,6 @@
 -- The part of a state that a step depends on, and the steps from two states that agree in it.
 use Rattle.std.specs.Prelude.{◌≡◌, ℕ, if◌then◌else◌, ◌==◌, List, map, Option, None, Some}
-use Rattle.pv_model.specs.Bytes.{Bytes}
-use Rattle.pv_model.specs.Held.{held_by_table}
-use Rattle.pv_model.specs.Numbered.{Numbered}
-use Rattle.pv_model.specs.State.{OpenFile, Descriptor, Program, Process, ProcessRecord, live, ended_record, State, process_at}
-use Rattle.pv_model.specs.Step.{Stepped, step}
-use Rattle.pv_model.specs.Tree.{Tree}
+use Rattle.pv_model.specs.Machine.{Bytes, held_by_table, Numbered, OpenFile, Descriptor, Program, Process, ProcessRecord, live, ended_record, State, process_at, Stepped, step, Tree}
 use Rattle.pv_laws_states.specs.States.{IsValid}
 use Rattle.pv_laws_steps.specs.Beside.{change_live, become}
 

@@ -2,12 +2,7 @@
 use Rattle.std.specs.Prelude.{◌≡◌, ℕ, Bool, true, false, IsTrue, Option, Some}
 use Rattle.pv_model.specs.declared.call.Call.{Call}
 use Rattle.pv_model.specs.declared.call.Call.TheVariants.{Close, Dup, Dup2, Read, Write, Lseek, Fstat, Ftruncate, Getdents, Fchdir}
-use Rattle.pv_model.specs.Bytes.{Bytes}
-use Rattle.pv_model.specs.Held.{held_by_table}
-use Rattle.pv_model.specs.Program.{calls_for, next}
-use Rattle.pv_model.specs.State.{Program, Process, State, process_at}
-use Rattle.pv_model.specs.Step.{step}
-use Rattle.pv_model.specs.Unveil.{Table}
+use Rattle.pv_model.specs.Machine.{Bytes, held_by_table, calls_for, next, Program, Process, State, process_at, step, Table}
 use Rattle.pv_laws_states.specs.States.{IsValid}
 use Rattle.pv_laws_steps.specs.Beside.{with_change, StepsBeside}
 

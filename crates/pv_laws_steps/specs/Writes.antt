@@ -4,15 +4,9 @@ use Rattle.pv_model.specs.declared.call.Call.TheVariants.{Write}
 use Rattle.pv_model.specs.declared.limits.TheConstants.{BUFFER}
 use Rattle.pv_model.specs.declared.outcome.Outcome.TheVariants.{Killed}
 use Rattle.pv_model.specs.declared.promise.Promise.{Promise}
-use Rattle.pv_model.specs.Bytes.{Bytes}
-use Rattle.pv_model.specs.Calls.Descriptors.{within, write_end}
-use Rattle.pv_model.specs.Effect.{open_file}
-use Rattle.pv_model.specs.Program.{calls_for, next}
-use Rattle.pv_model.specs.State.{OpenFile, Program, Process, State, process_at}
-use Rattle.pv_model.specs.Step.{step}
-use Rattle.pv_model.specs.Touch.{file_bytes}
+use Rattle.pv_model.specs.Machine.{Bytes, within, write_end, open_file, calls_for, next, OpenFile, Program, Process, State, process_at, step, file_bytes}
 use Rattle.pv_laws_states.specs.States.{EncodesPrograms, IsValid}
-use Rattle.pv_laws_access.specs.Justice.{ReadsBytes, ChangesBytes, HasEffectNext}
+use Rattle.pv_laws_runs.specs.OfLawsAccess.Justice.{ReadsBytes, ChangesBytes, HasEffectNext}
 use Rattle.pv_laws_steps.specs.Commuting.{Commute}
 use Rattle.pv_laws_steps.specs.Offsets.{GoesBy}
 

@@ -3,10 +3,8 @@
 ghost use Rattle.pv_laws_steps.specs.Beside.{OthersAlterNothing};
 
 /// Noninterference: of another process, a step depends only on its directory, its descriptors and the nodes that its
-/// table references.
-///
-/// If its restraints, program, line, registers or buffer are replaced, the step has the same outcome and the same
-/// lines, and the next state differs only in these.
+/// table references. With other restraints, program, line, registers or buffer there, the outcome and the lines are the
+/// same, and the next states differ only in these.
 pub fn others_alter_nothing()
     ensures { OthersAlterNothing }
 {}

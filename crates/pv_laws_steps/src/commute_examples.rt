@@ -37,8 +37,7 @@ pub fn unveils_happen()
 {}
 
 /// An execve that closes a descriptor and a close of the other descriptor commute; but the execve fails after an unlink
-/// of the file, an open gets a different number after an execve that removes an open file, and so does a mkdir after an
-/// execve that releases a directory.
+/// of its file, and an open or a mkdir gets another number after an execve that frees an open file or a directory.
 pub fn execves_happen()
     ensures { ExecveExamples }
 {}

@@ -2,11 +2,9 @@
 
 ghost use Rattle.pv_laws_steps.specs.Entries.{EntriesCommute};
 
-/// A call that changes entries commutes with a call of another process by a descriptor that does not kill and is
-/// independent of it.
-///
-/// Such a call is a write or an ftruncate that keeps the number of blocks of its file, or a read, lseek, fstat or
-/// getdents whose node the first call leaves unchanged. The first call may create and free any nodes.
+/// A call that changes entries commutes with a call of another process by a descriptor that does not kill, if the
+/// latter is a write or an ftruncate that keeps the number of blocks of its file, or a read, lseek, fstat or getdents
+/// whose node the former leaves unchanged.
 pub fn entries_commute()
     ensures { EntriesCommute }
 {}

@@ -2,11 +2,9 @@
 
 ghost use Rattle.pv_laws_steps.specs.Growing.{ContentsAlterNothing, GrowingWritesCommute, CutsCommute};
 
-/// A step that neither reads nor may change the bytes of a file, nor asks for its length, depends only on the number of
-/// blocks of the file.
-///
-/// If its content is replaced by another with the same number of blocks, the step has the same outcome and the same
-/// lines, and the next state differs only in this content.
+/// Let a step neither read nor be able to change the bytes of a file, nor ask for its length. With another content of
+/// as many blocks in the file, the step has the same outcome and the same lines, and the next states differ in this
+/// content alone.
 pub fn contents_alter_nothing()
     ensures { ContentsAlterNothing }
 {}

@@ -2,7 +2,7 @@
 
 ghost use Rattle.pv_laws_steps.specs.Larger.{NeedsFiveTimes, LargerHasRoom};
 
-/// In an image of version 2, a node needs at most five times as many data blocks as in an image of either version.
+/// In an image of version 2, a node needs at most five times the data blocks that it needs in an image of either version.
 pub fn needs_five_times()
     ensures { NeedsFiveTimes }
 {}

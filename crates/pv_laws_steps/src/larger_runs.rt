@@ -8,14 +8,14 @@ pub fn larger_keeps_steps()
     ensures { LargerKeepsSteps }
 {}
 
-/// A run without these errors has the same lines in a larger image, and the final states differ only in the sizes of
-/// the image. A run with one of these errors is not covered.
+/// A run without ENAMETOOLONG, EFBIG or ENOSPC has the same lines in a larger image, and the final states differ only
+/// in the sizes of the image.
 pub fn larger_keeps_runs()
     ensures { LargerKeepsRuns }
 {}
 
-/// A run without these errors has the same text in a larger image, byte for byte, and leaves equal nodes under the same
-/// numbers.
+/// A run without ENAMETOOLONG, EFBIG or ENOSPC has the same text in a larger image, byte for byte, and leaves equal
+/// nodes under the same numbers.
 pub fn larger_keeps_traces()
     ensures { LargerKeepsTraces }
 {}

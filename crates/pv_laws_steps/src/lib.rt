@@ -6,7 +6,7 @@
 //! - Dependence: `seen`, `beside` (other processes), `offsets` (open files), `tableless` (unveil tables).
 //! - Commuting steps: `commuting`, and by calls `asking`, `offsets`, `writes`, `growing`, `holding`, `entries`.
 //! - Larger images: `larger_room`, `larger_runs`, `larger_images`. A larger image is of version 2 and has at least five
-//!   times as many data blocks and at least as many inodes.
+//!   times the data blocks and at least the inodes.
 //! - `*examples`: worked runs and counterexamples.
 #![tactic(auto)]
 

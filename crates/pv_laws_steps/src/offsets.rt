@@ -2,11 +2,8 @@
 
 ghost use Rattle.pv_laws_steps.specs.Offsets.{OffsetsAlterNothing, OffsetStepsCommute};
 
-/// A step that does not read, write, seek or list through an open file depends only on the node and the mode of that
-/// open file.
-///
-/// If its offset, last name or append flag is replaced, the step has the same outcome and the same lines, and the next
-/// state differs only in these.
+/// Let a step not read, write, seek or list through an open file. With another offset, last name or append flag in it,
+/// the step has the same outcome and the same lines, and the next states differ in these alone.
 pub fn offsets_alter_nothing()
     ensures { OffsetsAlterNothing }
 {}

@@ -2,13 +2,9 @@
 
 ghost use Rattle.pv_laws_steps.specs.Seen.{StepsBySeen};
 
-/// Noninterference with all other processes at once: a step depends only on the tree, the open files, the last process
-/// number, its own process, and the visible part of each other process.
-///
-/// The visible part of a live process is its number, parent, directory, descriptors and the nodes that its table
-/// references; of an ended process it is the whole record. In two valid states that agree in all this, the step has the
-/// same outcome and the same lines, and the next states differ only in the restraints, programs, lines, registers and
-/// buffers of the other processes, which stay as they were in each state.
+/// Noninterference with all other processes at once: let two valid states agree on the tree, the open files, the last
+/// number, the stepping process, and every other process's number, parent and references. A step then has the same
+/// outcome in both. The results agree on the same parts; every other process keeps the rest of its state.
 pub fn steps_by_seen()
     ensures { StepsBySeen }
 {}

@@ -5,10 +5,8 @@ use Rattle.std.specs.List.{AllByRecursion, list_any, range_with_len}
 use Rattle.std.proofs.lemmas.Bool.{and_parts, and_from, or_parts, or_from, eq-eqb, ne_eqb, ltb-true, lt-ltb, cases_eq}
 use Rattle.std.proofs.lemmas.List.Concat.{flat_map-append}
 use Rattle.pv_model.specs.declared.version.Version.{Version}
-use Rattle.pv_model.specs.Bytes.{Bytes}
-use Rattle.pv_model.specs.Image.{inode_blocks, used_index, used_content, content, used_blocks}
-use Rattle.pv_model.specs.Mount.{appears_twice, block_number, inode_number, kind, is_data_block, used_by, used_before, slots_at, has_bad_block, entries_in, node_in, tree_in}
-use Rattle.pv_model.specs.Tree.{Node}
+use Rattle.pv_model.specs.Machine.{Bytes, inode_blocks, used_index, used_content, content, used_blocks, appears_twice, block_number, inode_number, kind, is_data_block, slots_at, has_bad_block, tree_in, Node}
+use Rattle.pv_model.specs.Mount.{used_by, used_before, entries_in, node_in}
 use Rattle.pv_laws_trees.specs.Inodes.{AreFineBlocks, IsData, in_both}
 use Rattle.pv_laws_trees.proofs.Nodes.{by_kind, node_of}
 use Rattle.pv_laws_trees.proofs.Ranges.{each_weaker, none_any, any_none, apart-once, once-apart, each_in_range, range_each, each_flat, flat_each, flat-made, last_of_range}

@@ -11,10 +11,9 @@ use Rattle.std.proofs.lemmas.List.Sorted.{IsPermutation-refl, IsPermutation-tran
 use Rattle.std.proofs.lemmas.List.Sums.{sum_by-cons}
 use Rattle.std.specs.Prelude.{sum_by}
 use Rattle.pv_model.specs.declared.version.Version.{Version}
-use Rattle.pv_model.specs.Bytes.{Bytes}
-use Rattle.pv_model.specs.Mount.{slot_number, slot_name, appears_twice, entries_in}
-use Rattle.pv_model.specs.Tree.{Entries, names_in}
-use Rattle.pv_laws_trees.specs.Slots.{slot_entry}
+use Rattle.pv_model.specs.Machine.{Bytes, slot_number, slot_name, appears_twice, Entries, names_in}
+use Rattle.pv_model.specs.Mount.{entries_in}
+use Rattle.pv_laws_trees.specs.Slots.{entry_in_slot}
 use Rattle.pv_laws_trees.proofs.Entries.{by_name, ties-bytes_eq, reported, report, list_all-put}
 
 -- an entry inserted under a new name
@@ -51,17 +50,17 @@ length-filter_map f p (x ∷ xs) =
     ]
 
 -- a name that no slot has is not found
-pub missed : (name : Bytes) (slots : List Bytes) → list_any (bytes_eq name) (map slot_name slots) ≡ false → find by_name name (map slot_entry slots) ≡ None
+pub missed : (name : Bytes) (slots : List Bytes) → list_any (bytes_eq name) (map slot_name slots) ≡ false → find by_name name (map entry_in_slot slots) ≡ None
 missed name [] none = refl
 missed name (slot ∷ slots) none =
     let parts = or_parts (bytes_eq name (slot_name slot)) (list_any (bytes_eq name) (map slot_name slots)) none in
-    ap (λ b. cond b (Some (slot_number slot)) (find by_name name (map slot_entry slots))) (ties-bytes_eq name (slot_name slot) ∙ parts.0) ∙ missed name slots parts.1
+    ap (λ b. cond b (Some (slot_number slot)) (find by_name name (map entry_in_slot slots))) (ties-bytes_eq name (slot_name slot) ∙ parts.0) ∙ missed name slots parts.1
 
 module _ (v : Version) (bytes : Bytes) where
   abbrev put_all : List Bytes → Entries
   put_all = entries_in v bytes
 
-  pub find-put_all : (name : Bytes) (slots : List Bytes) → find by_name name (put_all slots) ≡ find by_name name (map slot_entry slots)
+  pub find-put_all : (name : Bytes) (slots : List Bytes) → find by_name name (put_all slots) ≡ find by_name name (map entry_in_slot slots)
   find-put_all name [] = refl
   find-put_all name (slot ∷ slots) =
       find-put by_name nat_list_cmp_total name (slot_name slot) (slot_number slot) (put_all slots)
@@ -79,21 +78,21 @@ module _ (v : Version) (bytes : Bytes) where
       let parts = and_parts (test (slot_name slot)) (list_all (λ slot. test (slot_name slot)) slots) all in
       list_all-put test (slot_name slot) (slot_number slot) (put_all slots) parts.0 (tested-put_all test slots parts.1)
 
-  pub permuted : (slots : List Bytes) → appears_twice bytes_eq (map slot_name slots) ≡ false → IsPermutation (map slot_entry slots) (put_all slots)
+  pub permuted : (slots : List Bytes) → appears_twice bytes_eq (map slot_name slots) ≡ false → IsPermutation (map entry_in_slot slots) (put_all slots)
   permuted [] once = IsPermutation-refl []
   permuted (slot ∷ slots) once =
       let parts = or_parts (list_any (bytes_eq (slot_name slot)) (map slot_name slots)) (appears_twice bytes_eq (map slot_name slots)) once in
-      IsPermutation-trans (map slot_entry (slot ∷ slots)) (slot_entry slot ∷ put_all slots) (put_all (slot ∷ slots))
-      (IsPermutation-cons (slot_entry slot) (map slot_entry slots) (put_all slots) (permuted slots parts.1))
+      IsPermutation-trans (map entry_in_slot (slot ∷ slots)) (entry_in_slot slot ∷ put_all slots) (put_all (slot ∷ slots))
+      (IsPermutation-cons (entry_in_slot slot) (map entry_in_slot slots) (put_all slots) (permuted slots parts.1))
       (put-fresh (slot_name slot) (slot_number slot) (put_all slots) (find-put_all (slot_name slot) slots ∙ missed (slot_name slot) slots parts.0))
 
   -- there is one entry for each slot, and one for each slot of a node
   pub length-put_all : (slots : List Bytes) → appears_twice bytes_eq (map slot_name slots) ≡ false → length (put_all slots) ≡ length slots
-  length-put_all slots once = length_permutation (map slot_entry slots) (put_all slots) (permuted slots once) ∙ length-map slots slot_entry
+  length-put_all slots once = length_permutation (map entry_in_slot slots) (put_all slots) (permuted slots once) ∙ length-map slots entry_in_slot
 
   pub named-put_all : (n d : ℕ) (slots : List Bytes) → appears_twice bytes_eq (map slot_name slots) ≡ false
       → length (names_in n (put_all slots) d) ≡ length (filter (λ slot. slot_number slot == n) slots)
   named-put_all n d slots once =
       length-map {B = ℕ × Bytes} (filter (λ (e : Bytes × ℕ). e.1 == n) (put_all slots)) (λ e. (d, e.0))
-      ∙ length-filter_permutation (λ (e : Bytes × ℕ). e.1 == n) (map slot_entry slots) (put_all slots) (permuted slots once)
-      ∙ length-filter_map slot_entry (λ (e : Bytes × ℕ). e.1 == n) slots
+      ∙ length-filter_permutation (λ (e : Bytes × ℕ). e.1 == n) (map entry_in_slot slots) (put_all slots) (permuted slots once)
+      ∙ length-filter_map entry_in_slot (λ (e : Bytes × ℕ). e.1 == n) slots

@@ -2,18 +2,14 @@
 use Rattle.std.proofs.Common.{◌≡◌, ◌≢◌, ℕ, suc, ◌<◌, ◌≤◌, true, false, [], ◌∷◌, drop, length, Option, None, Some, is_some, refl, ap, ap₂, sym, subst, ◌∙◌, arith, inl, inr, ◌⊎◌, ⊎_elim}
 use Rattle.std.specs.FinMap.Entries.{find}
 use Rattle.std.proofs.lemmas.Bool.{cases_eq}
-use Rattle.pv_model.specs.Bytes.{Bytes}
-use Rattle.pv_model.specs.Calls.Descriptors.{with_content, with_content_of}
-use Rattle.pv_model.specs.Calls.Paths.{contains_directory, entries_there}
-use Rattle.pv_model.specs.Numbered.{Numbered, at_number, least_free}
-use Rattle.pv_model.specs.Tree.{Node, directory_node, file_node, link_node, Tree, root, node_at, entries_of, entries_at, is_directory, is_directory_at, find_entry, parent, with_node, new_number, with_new_node, with_entry, without_entry, is_name, is_node, IsReached, from_root, by_entry, IsWellFormed}
-use Rattle.pv_laws_trees.specs.Tree.{IsSound, Appears}
-use Rattle.pv_laws_trees.proofs.Above.{appears-reached, entry-reached, ReachedWithout, root_without, entry_without, not_contained}
-use Rattle.pv_laws_trees.proofs.Changes.{SameShape, shape-along, shape-with_entry, shape-without_entry, node_at-same, node_at-other, some-below, directory-below, has_entry-directory, entries-beside, found-with, with_entry-cases, with_entry-stays, without_entry-was, without_entry-stays, found-without}
+use Rattle.pv_model.specs.Machine.{Bytes, with_content, with_content_of, contains_directory, entries_there, Numbered, at_number, least_free, Node, directory_node, file_node, link_node, Tree, root, node_at, entries_of, entries_at, is_directory, is_directory_at, find_entry, parent, with_node, new_number, with_new_node, with_entry, without_entry, is_name, is_node, IsReached, from_root, by_entry, IsWellFormed}
+use Rattle.pv_laws_trees.specs.Tree.{IsSoundTree, Appears}
+use Rattle.pv_laws_trees.proofs.Ancestors.{appears-reached, entry-reached, ReachedWithout, root_without, entry_without, not_contained}
+use Rattle.pv_laws_trees.proofs.Changes.{SameShape, shape-along, shape-with_entry, shape-without_entry, node_at-same, node_at-other, directory-below, has_entry-directory, entries-beside, found-with, with_entry-cases, with_entry-stays, without_entry-was, without_entry-stays}
 use Rattle.pv_laws_trees.proofs.Entries.{by_name}
 use Rattle.pv_laws_trees.proofs.Numbered.{at_number-below, length-with_number, least_free-free}
 use Rattle.pv_laws_trees.proofs.Trees.{ordered, sound, well_formed, parent-entry, parent-none_named}
-use Rattle.pv_laws_trees.proofs.Keeping.{reached-along}
+use Rattle.pv_laws_trees.proofs.Collection.{reached-along}
 
 not_some : (o : Option Node) → o ≡ None → is_some o ≡ true → ⊥
 not_some o none is = let said = ap is_some none in cc
@@ -31,12 +27,12 @@ same_entries t m node below same d =
     (λ away. entries-beside t m node d below away) (cases_eq d m)
 
 -- a node with the same entries, which is a directory only if it was one or has no name
-pub sound-with_node : (t : Tree) → IsSound t → (m : ℕ) (node : Node) → m ≢ 0 → m < length t.nodes → is_node t.version node ≡ true
+pub sound-with_node : (t : Tree) → IsSoundTree t → (m : ℕ) (node : Node) → m ≢ 0 → m < length t.nodes → is_node t.version node ≡ true
     → entries_of (Some node) ≡ entries_at t m
     → (is_directory_at t m ≡ true → is_directory (Some node) ≡ true)
     → (is_directory (Some node) ≡ true → (is_directory_at t m ≡ true) ⊎ (node_at t m ≡ None))
     → (is_directory (Some node) ≡ true → entries_of (Some node) ≡ [])
-    → IsSound (with_node t m node)
+    → IsSoundTree (with_node t m node)
 sound-with_node t s m node positive below good same stays was empty =
     let u : Tree = with_node t m node in
     let es = same_entries t m node below same in
@@ -70,7 +66,7 @@ sound-with_node t s m node positive below good same stays was empty =
     }
 
 -- the bytes of a file may change
-content_of : (t : Tree) → IsSound t → (f : ℕ) (bytes : Bytes) (o : Option Node) → node_at t f ≡ o → IsSound (with_content_of t f o bytes)
+content_of : (t : Tree) → IsSoundTree t → (f : ℕ) (bytes : Bytes) (o : Option Node) → node_at t f ≡ o → IsSoundTree (with_content_of t f o bytes)
 content_of t s f bytes None at = s
 content_of t s f bytes (Some (directory_node es)) at = s
 content_of t s f bytes (Some (link_node text)) at = s
@@ -78,12 +74,12 @@ content_of t s f bytes (Some (file_node executable old)) at =
     sound-with_node t s f (file_node executable bytes) (s.no_zero f (file_node executable old) at) (at_number-below t.nodes f (file_node executable old) at) refl
     (sym (ap entries_of at)) (λ is. let isnt = ap is_directory at in cc) (λ is. cc) (λ is. cc)
 
-pub sound-content : (t : Tree) → IsSound t → (f : ℕ) (bytes : Bytes) → IsSound (with_content t f bytes)
+pub sound-content : (t : Tree) → IsSoundTree t → (f : ℕ) (bytes : Bytes) → IsSoundTree (with_content t f bytes)
 sound-content t s f bytes = content_of t s f bytes (node_at t f) refl
 
 -- ---- one more entry
 
-pub shape-no_zero : (t u : Tree) → IsSound t → SameShape t u → (m : ℕ) (node : Node) → node_at u m ≡ Some node → m ≢ 0
+pub shape-no_zero : (t u : Tree) → IsSoundTree t → SameShape t u → (m : ℕ) (node : Node) → node_at u m ≡ Some node → m ≢ 0
 shape-no_zero t u s shape m node at none = by (node_at t m) refl (sym (shape.there m) ∙ ap is_some at)
   where
     by : (o : Option Node) → node_at t m ≡ o → is_some o ≡ true → ⊥
@@ -95,8 +91,8 @@ pub reached-named : (t : Tree) (d : ℕ) → d ≢ root → IsReached t d → (e
 reached-named t _ below from_root = absurd (below refl)
 reached-named t _ below (by_entry d name n above found) = (d, name, found)
 
-pub sound-with_entry : (t : Tree) → IsSound t → (d : ℕ) (name : Bytes) (n : ℕ) → is_directory_at t d ≡ true → IsReached t d → find_entry t d name ≡ None → is_name t.version name ≡ true
-    → is_some (node_at t n) ≡ true → n ≢ root → (is_directory_at t n ≡ true → (e : ℕ) (q : Bytes) → find_entry t e q ≢ Some n) → IsSound (with_entry t d name n)
+pub sound-with_entry : (t : Tree) → IsSoundTree t → (d : ℕ) (name : Bytes) (n : ℕ) → is_directory_at t d ≡ true → IsReached t d → find_entry t d name ≡ None → is_name t.version name ≡ true
+    → is_some (node_at t n) ≡ true → n ≢ root → (is_directory_at t n ≡ true → (e : ℕ) (q : Bytes) → find_entry t e q ≢ Some n) → IsSoundTree (with_entry t d name n)
 sound-with_entry t s d name n is reached free good there other unnamed =
     let u : Tree = with_entry t d name n in
     let shape = shape-with_entry t d name n is s.each_node good in
@@ -131,7 +127,7 @@ sound-with_entry t s d name n is reached free good there other unnamed =
 -- ---- one entry less
 
 -- a node with entries is still reached after the removal of an entry whose node has none
-still : (t : Tree) → IsSound t → (d : ℕ) (name : Bytes) (n : ℕ) → find_entry t d name ≡ Some n → entries_at t n ≡ []
+still : (t : Tree) → IsSoundTree t → (d : ℕ) (name : Bytes) (n : ℕ) → find_entry t d name ≡ Some n → entries_at t n ≡ []
     → ((e : ℕ) (q : Bytes) (m : ℕ) → find_entry t e q ≡ Some m → ((e ≡ d) → (q ≡ name) → ⊥) → find_entry (without_entry t d name) e q ≡ Some m)
     → (x : ℕ) → IsReached t x → (q : Bytes) (m : ℕ) → find_entry t x q ≡ Some m → IsReached (without_entry t d name) x
 still t s d name n found empty stays _ from_root q m has = from_root
@@ -140,7 +136,7 @@ still t s d name n found empty stays _ (by_entry e p x above is) q m has =
     (stays e p x is (λ here same. let value : Some n ≡ Some x = sym found ∙ ap₂ (find_entry t) (sym here) (sym same) ∙ is in let eq : n ≡ x = cc value in
     no_entry t x q m (ap (entries_at t) (sym eq) ∙ empty) has))
 
-pub sound-without_entry : (t : Tree) → IsSound t → (d : ℕ) (name : Bytes) (n : ℕ) → find_entry t d name ≡ Some n → entries_at t n ≡ [] → IsSound (without_entry t d name)
+pub sound-without_entry : (t : Tree) → IsSoundTree t → (d : ℕ) (name : Bytes) (n : ℕ) → find_entry t d name ≡ Some n → entries_at t n ≡ [] → IsSoundTree (without_entry t d name)
 sound-without_entry t s d name n found empty =
     let is = has_entry-directory t d name n found in
     let u : Tree = without_entry t d name in
@@ -171,7 +167,7 @@ sound-without_entry t s d name n found empty =
 
 -- ---- a rename
 
-module _ (t : Tree) (s : IsSound t) (d : ℕ) (name : Bytes) (e : ℕ) (new : Bytes) (n : ℕ)
+module _ (t : Tree) (s : IsSoundTree t) (d : ℕ) (name : Bytes) (e : ℕ) (new : Bytes) (n : ℕ)
     (found : find_entry t d name ≡ Some n) (is : is_directory_at t e ≡ true) (good : is_name t.version new ≡ true)
     (without : ReachedWithout t n e) (another : find_entry t e new ≢ Some n) (empty : (m : ℕ) → find_entry t e new ≡ Some m → entries_at t m ≡ []) where
   abbrev between : Tree
@@ -235,7 +231,7 @@ module _ (t : Tree) (s : IsSound t) (d : ℕ) (name : Bytes) (e : ℕ) (new : By
       (stays a q x has (λ here same. other (for_n a q x has here same)) (λ here same. no_entry t x p m (bare a q x has here same) more)))
       (cases_eq x n)
 
-  pub sound-moved : IsSound moved
+  pub sound-moved : IsSoundTree moved
   sound-moved = record {
     numbers = shape_moved.numbers ∙ s.numbers;
     no_zero = shape-no_zero t moved s shape_moved;
@@ -283,14 +279,14 @@ at_drop (x ∷ xs) k = refl
 pub new_number-free : (t : Tree) → node_at t (new_number t) ≡ None
 new_number-free t = at_drop t.nodes (least_free (drop 1 t.nodes)) ∙ least_free-free (drop 1 t.nodes)
 
-pub sound-with_new_node : (t : Tree) → IsSound t → (d : ℕ) (name : Bytes) (node : Node) → is_directory_at t d ≡ true → IsReached t d → find_entry t d name ≡ None → is_name t.version name ≡ true
-    → is_node t.version node ≡ true → entries_of (Some node) ≡ [] → new_number t < length t.nodes → IsSound (with_new_node t d name node)
+pub sound-with_new_node : (t : Tree) → IsSoundTree t → (d : ℕ) (name : Bytes) (node : Node) → is_directory_at t d ≡ true → IsReached t d → find_entry t d name ≡ None → is_name t.version name ≡ true
+    → is_node t.version node ≡ true → entries_of (Some node) ≡ [] → new_number t < length t.nodes → IsSoundTree (with_new_node t d name node)
 sound-with_new_node t s d name node is reached none good fine empty below =
     let m = new_number t in
     let free : node_at t m ≡ None = new_number-free t in
     let bare : entries_at t m ≡ [] = ap entries_of free in
     let t1 : Tree = with_node t m node in
-    let s1 : IsSound t1 = sound-with_node t s m node (λ same. absurd (omega arith)) below fine (empty ∙ sym bare)
+    let s1 : IsSoundTree t1 = sound-with_node t s m node (λ same. absurd (omega arith)) below fine (empty ∙ sym bare)
     (λ dir. let isnt = ap is_directory free in cc) (λ _. inr free) (λ _. empty) in
     let apart : d ≢ m = λ same. let isnt : is_directory_at t d ≡ false = ap (is_directory_at t) same ∙ ap is_directory free in cc in
     let same : (e : ℕ) (q : Bytes) → find_entry t1 e q ≡ find_entry t e q = λ e q. ap (λ es. find by_name q es) (same_entries t m node below (empty ∙ sym bare) e) in

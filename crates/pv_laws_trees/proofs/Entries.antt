@@ -2,16 +2,16 @@
 use Rattle.std.proofs.Common.{◌≡◌, ◌≢◌, ℕ, Bool, true, false, cond, not, ◌==◌, List, [], ◌∷◌, filter, bytes_eq, None, Some, T, refl, ap, sym, subst, ◌∙◌, ⊎_elim}
 use Rattle.std.specs.Cmp.Lexicographic.{slice_cmp}
 use Rattle.std.specs.Ordering.{nat_cmp, is_eq, eq_by_cmp}
-use Rattle.std.specs.List.{list_any, list_all}
-use Rattle.std.specs.FinMap.Entries.{find, put, where_key, is_sorted, below_all, find-put, find-where_key, find_tied, is_sorted-put, is_sorted-where_key}
+use Rattle.std.specs.List.{list_all}
+use Rattle.std.specs.FinMap.Entries.{find, put, where_key, is_sorted, below_all, find-put, find-where_key}
 use Rattle.std.proofs.lemmas.Bool.{and_parts, and_from, eqb-true, eq-eqb, or_left, or_right, or_cases}
 use Rattle.std.proofs.lemmas.Cmp.{nat_list_cmp_total}
 use Rattle.std.proofs.lemmas.Map.Text.{is_eq-slice_cmp}
 use Rattle.std.proofs.lemmas.Slice.Eq.{bytes_eq-Decides}
 use Rattle.std.specs.declared.cmp.Ordering.{Ordering}
 use Rattle.std.specs.declared.cmp.Ordering.TheVariants.{Less, Equal, Greater}
-use Rattle.pv_model.specs.Bytes.{Bytes}
-use Rattle.pv_model.specs.Tree.{Entries, names_node}
+use Rattle.pv_model.specs.Machine.{Bytes, Entries}
+use Rattle.pv_model.specs.Tree.{names_node}
 
 abbrev pub by_name : Bytes → Bytes → Ordering
 by_name = slice_cmp nat_cmp

@@ -7,9 +7,8 @@ use Rattle.std.proofs.lemmas.List.Elements.{All-drop, All-take}
 use Rattle.std.proofs.lemmas.List.Sorted.{All-permutation}
 use Rattle.std.proofs.lemmas.List.Sums.{AllPass-from_list_all, list_all-from_AllPass}
 use Rattle.pv_model.specs.declared.version.Version.{Version}
-use Rattle.pv_model.specs.Bytes.{Bytes, little_endian}
-use Rattle.pv_model.specs.Image.{block, size, content, used_content, IsSlot, AreSlots, no_slot, one_more, HasContent}
-use Rattle.pv_model.specs.Tree.{Entries, Node, directory_node, file_node, link_node}
+use Rattle.pv_model.specs.Machine.{Bytes, little_endian, block, size, content, used_content, AreSlots, Entries, Node, directory_node, file_node, link_node}
+use Rattle.pv_model.specs.Image.{IsSlot, no_slot, one_more, HasContent}
 use Rattle.pv_laws_trees.specs.Encoded.{is_byte, are_bytes, has_bytes}
 
 pub length-little_endian : (k n : ℕ) → length (little_endian k n) ≡ k

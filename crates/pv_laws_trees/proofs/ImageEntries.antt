@@ -8,18 +8,15 @@ use Rattle.std.proofs.lemmas.List.Sorted.{IsPermutation-sym, IsPermutation-trans
 use Rattle.pv_model.specs.declared.limits.TheConstants.{LINK_TEXT}
 use Rattle.pv_model.specs.declared.version.Version.{Version}
 use Rattle.pv_model.specs.declared.version.Version.TheVariants.{V1, V2}
-use Rattle.pv_model.specs.Bytes.{Bytes, is_empty}
-use Rattle.pv_model.specs.Image.{size, content, Holds, HoldsAny, IsImageOf}
-use Rattle.pv_model.specs.Mount.{slots_of, slot_name, appears_twice, inode_number, kind, is_free, slots_at, entries_in, node_in}
-use Rattle.pv_model.specs.Room.{entry_length}
-use Rattle.pv_model.specs.Tree.{Entries, Node, directory_node, file_node, link_node, Tree, node_at, entries_of, is_directory, is_name_byte, is_name, greatest_name, is_link_text}
+use Rattle.pv_model.specs.Machine.{Bytes, is_empty, size, content, Holds, HoldsAny, IsImageOf, slots_of, slot_name, appears_twice, inode_number, kind, is_free, slots_at, entry_length, Entries, Node, directory_node, file_node, link_node, Tree, node_at, entries_of, is_directory, is_name_byte, is_name, greatest_name, is_link_text}
+use Rattle.pv_model.specs.Mount.{entries_in, node_in}
 use Rattle.pv_laws_trees.specs.Inodes.{EachOnce, IsFineContent, IsFineInode, IsFineSlot}
-use Rattle.pv_laws_trees.specs.Slots.{slot_entry, IsMeasured}
+use Rattle.pv_laws_trees.specs.Slots.{entry_in_slot, IsMeasured}
 use Rattle.pv_laws_trees.proofs.Slots.{read}
 use Rattle.pv_laws_trees.proofs.Entries.{by_name}
 use Rattle.pv_laws_trees.proofs.Directories.{permuted, sorted-put_all}
-use Rattle.pv_laws_trees.proofs.Held.{node-within, node-held}
-use Rattle.pv_laws_trees.proofs.Listed.{entry_name, each-found, permuted-once, one-order}
+use Rattle.pv_laws_trees.proofs.HeldNodes.{node-within, node-held}
+use Rattle.pv_laws_trees.proofs.SortedEntries.{entry_name, each-found, permuted-once, one-order}
 use Rattle.pv_laws_trees.proofs.Nodes.{node_of, slots-directory, slots-other}
 
 -- ---- lengths and lists
@@ -32,7 +29,7 @@ times_over : (v : Version) (k : ℕ) → (entry_length v * k) / entry_length v �
 times_over V1 k = omega arith
 times_over V2 k = omega arith
 
-map_again : (slots : List Bytes) → map entry_name (map slot_entry slots) ≡ map slot_name slots
+map_again : (slots : List Bytes) → map entry_name (map entry_in_slot slots) ≡ map slot_name slots
 map_again [] = refl
 map_again (slot ∷ slots) = ap (λ (names : List Bytes). slot_name slot ∷ names) (map_again slots)
 
@@ -152,7 +149,7 @@ module _ (bytes : Bytes) (t : Tree) (is : IsImageOf bytes t) where
   -- ---- the slots of a directory
 
   record IsRead (n : ℕ) (es : Entries) : Type 0 where
-    same : IsPermutation (map slot_entry (slots_at v bytes n)) es
+    same : IsPermutation (map entry_in_slot (slots_at v bytes n)) es
     once : appears_twice bytes_eq (map slot_name (slots_at v bytes n)) ≡ false
     measured : AllByRecursion IsMeasured (slots_at v bytes n)
 
@@ -163,11 +160,11 @@ module _ (bytes : Bytes) (t : Tree) (is : IsImageOf bytes t) where
       let many : size v bytes n / entry_length v ≡ length listed =
       ap (λ s. s / entry_length v) h.length_stored ∙ times_over v (length es) ∙ length_permutation listed es h.has_content.2 in
       let slots : slots_at v bytes n ≡ slots_of v (length listed) (content v bytes n) = slots-directory v bytes n h.kind ∙ ap (λ k. slots_of v k (content v bytes n)) many in
-      let same : IsPermutation (map slot_entry (slots_at v bytes n)) es =
-      subst (λ (l : Entries). IsPermutation l es) (read_as.entries ∙ ap (map slot_entry) (sym slots)) h.has_content.2 in
+      let same : IsPermutation (map entry_in_slot (slots_at v bytes n)) es =
+      subst (λ (l : Entries). IsPermutation l es) (read_as.entries ∙ ap (map entry_in_slot) (sym slots)) h.has_content.2 in
       record {
         same = same;
-        once = ap (appears_twice bytes_eq) (sym (map_again (slots_at v bytes n))) ∙ permuted-once (map slot_entry (slots_at v bytes n)) es same sorted;
+        once = ap (appears_twice bytes_eq) (sym (map_again (slots_at v bytes n))) ∙ permuted-once (map entry_in_slot (slots_at v bytes n)) es same sorted;
         measured = subst (AllByRecursion IsMeasured) (sym slots) read_as.measured;
       }
 
@@ -179,8 +176,8 @@ module _ (bytes : Bytes) (t : Tree) (is : IsImageOf bytes t) where
       let order = (sorted n es at).0 in
       let reads = directory-read n es h order in
       one-order (entries_in v bytes (slots_at v bytes n)) es
-      (IsPermutation-trans (entries_in v bytes (slots_at v bytes n)) (map slot_entry (slots_at v bytes n)) es
-      (IsPermutation-sym (map slot_entry (slots_at v bytes n)) (entries_in v bytes (slots_at v bytes n)) (permuted v bytes (slots_at v bytes n) reads.once)) reads.same)
+      (IsPermutation-trans (entries_in v bytes (slots_at v bytes n)) (map entry_in_slot (slots_at v bytes n)) es
+      (IsPermutation-sym (map entry_in_slot (slots_at v bytes n)) (entries_in v bytes (slots_at v bytes n)) (permuted v bytes (slots_at v bytes n) reads.once)) reads.same)
       (sorted-put_all v bytes (slots_at v bytes n)) order
 
   slots_none : (n : ℕ) (o : Option Node) → IsHeld n o → is_directory o ≡ false → slots_at v bytes n ≡ []
@@ -238,13 +235,13 @@ module _ (bytes : Bytes) (t : Tree) (is : IsImageOf bytes t) where
   slots_fine : (n : ℕ) (o : Option Node) → IsHeld n o → AllByRecursion (IsFineSlot v bytes) (slots_at v bytes n)
   slots_fine n (Some (directory_node es)) (at, h) =
       let reads = directory-read n es h (sorted n es at).0 in
-      each_both (λ slot. IsGood (slot_entry slot)) IsMeasured (IsFineSlot v bytes)
+      each_both (λ slot. IsGood (entry_in_slot slot)) IsMeasured (IsFineSlot v bytes)
       (λ slot good measured.
       let few = name_short v (slot_name slot) good.named in
       record { from_one = good.low; in_table = good.high; used = good.used; short = omega (arith, few, measured); named = good.named })
       (slots_at v bytes n)
-      (each_map IsGood slot_entry (slots_at v bytes n)
-      (each_permuted IsGood es (map slot_entry (slots_at v bytes n)) (IsPermutation-sym (map slot_entry (slots_at v bytes n)) es reads.same) (good-entries n es at)))
+      (each_map IsGood entry_in_slot (slots_at v bytes n)
+      (each_permuted IsGood es (map entry_in_slot (slots_at v bytes n)) (IsPermutation-sym (map entry_in_slot (slots_at v bytes n)) es reads.same) (good-entries n es at)))
       reads.measured
   slots_fine n None h = subst (AllByRecursion (IsFineSlot v bytes)) (sym (slots_none n None h refl)) tt
   slots_fine n (Some (file_node executable contained)) h = subst (AllByRecursion (IsFineSlot v bytes)) (sym (slots_none n (Some (file_node executable contained)) h refl)) tt

@@ -3,11 +3,10 @@ use Rattle.std.proofs.Common.{◌≡◌, ◌≢◌, ℕ, Bool, true, false, not,
 use Rattle.std.specs.Prelude.{if◌then◌else◌}
 use Rattle.std.proofs.lemmas.Bool.{and_parts, and_from, or_parts, or_from, eqb-true, eq-eqb, ne_eqb}
 use Rattle.pv_model.specs.declared.version.Version.{Version}
-use Rattle.pv_model.specs.Bytes.{Bytes}
-use Rattle.pv_model.specs.Image.{stored_count, inode}
-use Rattle.pv_model.specs.Mount.{inode_number, kind, name_count, may_be_named, is_reached_within, has_bad_place}
-use Rattle.pv_model.specs.Tree.{root}
-use Rattle.pv_laws_trees.specs.Inodes.{IsFinePlace, is_placed}
+use Rattle.pv_model.specs.Machine.{Bytes, inode, inode_number, kind, name_count, is_reached_within, root}
+use Rattle.pv_model.specs.Image.{stored_count}
+use Rattle.pv_model.specs.Mount.{may_be_named, has_bad_place}
+use Rattle.pv_laws_trees.specs.Inodes.{IsInPlace, is_placed}
 use Rattle.pv_laws_trees.proofs.Inodes.{under_false, over_false}
 
 is_not : (b : Bool) → not b ≡ false → b ≡ true
@@ -18,7 +17,7 @@ module _ (v : Version) (bytes : Bytes) where
   abbrev count : ℕ → ℕ
   count = name_count v bytes
 
-  pub place-fine : (n : ℕ) → has_bad_place v bytes n ≡ false → is_placed v bytes n ≡ true → IsFinePlace v bytes n
+  pub place-fine : (n : ℕ) → has_bad_place v bytes n ≡ false → is_placed v bytes n ≡ true → IsInPlace v bytes n
   unfolding has_bad_place
   place-fine n none placed =
       let bad = under_false (is_placed v bytes n) (not (may_be_named v bytes n (count n)) || not (stored_count v (inode v bytes n) == count n) || not (is_reached_within v bytes (inode_number bytes) n)) none placed in
@@ -30,7 +29,7 @@ module _ (v : Version) (bytes : Bytes) where
         reached = is_not (is_reached_within v bytes (inode_number bytes) n) a.1;
       }
 
-  pub fine-place : (n : ℕ) → (is_placed v bytes n ≡ true → IsFinePlace v bytes n) → has_bad_place v bytes n ≡ false
+  pub fine-place : (n : ℕ) → (is_placed v bytes n ≡ true → IsInPlace v bytes n) → has_bad_place v bytes n ≡ false
   unfolding has_bad_place
   fine-place n fine =
       over_false (is_placed v bytes n) (not (may_be_named v bytes n (count n)) || not (stored_count v (inode v bytes n) == count n) || not (is_reached_within v bytes (inode_number bytes) n))

@@ -7,14 +7,12 @@ use Rattle.std.proofs.lemmas.List.{length-map, nil_from_length}
 use Rattle.std.proofs.lemmas.List.FromFn.{length-range_with_len}
 use Rattle.pv_model.specs.declared.limits.TheConstants.{BLOCK, INODES, LINK_TEXT}
 use Rattle.pv_model.specs.declared.version.Version.{Version}
-use Rattle.pv_model.specs.Bytes.{Bytes, is_empty}
-use Rattle.pv_model.specs.Image.{inode_blocks, greatest_blocks, size, used_index, used_content, content}
-use Rattle.pv_model.specs.Mount.{slot_number, slot_name, block_number, inode_number, are_image_sizes, has_sizes, kind, is_free, slots_at, name_count, entries_in, node_in, tree_in}
-use Rattle.pv_model.specs.Tree.{Entries, Node, directory_node, file_node, link_node, Tree, root, node_at, is_directory, is_directory_at, find_entry, names_of, is_name, is_node, is_link_text, IsWellFormed}
-use Rattle.pv_laws_trees.specs.Inodes.{AreFineBlocks, EachOnce, IsFineContent, IsFineInode, IsFinePlace, IsFineSlot}
+use Rattle.pv_model.specs.Machine.{Bytes, is_empty, inode_blocks, greatest_blocks, size, used_index, used_content, content, slot_number, slot_name, block_number, inode_number, are_image_sizes, kind, is_free, slots_at, name_count, tree_in, Entries, Node, directory_node, file_node, link_node, Tree, root, node_at, is_directory, is_directory_at, find_entry, names_of, is_name, is_node, is_link_text, IsWellFormed}
+use Rattle.pv_model.specs.Mount.{has_sizes, entries_in, node_in}
+use Rattle.pv_laws_trees.specs.Inodes.{AreFineBlocks, EachOnce, IsFineContent, IsFineInode, IsInPlace, IsFineSlot}
 use Rattle.pv_laws_trees.proofs.Entries.{by_name}
 use Rattle.pv_laws_trees.proofs.Trees.{parent-none_named}
-use Rattle.pv_laws_trees.proofs.Passed.{IsPassed}
+use Rattle.pv_laws_trees.proofs.PassedTests.{IsPassed}
 use Rattle.pv_laws_trees.proofs.Inodes.{inode-fine, length-content}
 use Rattle.pv_laws_trees.proofs.Nodes.{by_kind, node_of, node_at-in, node-there, content-fine}
 use Rattle.pv_laws_trees.proofs.Names.{as_many_names, entry-within, entry-slot, counted-entry, within-reached}
@@ -99,10 +97,10 @@ module _ (v : Version) (bytes : Bytes) (is : IsPassed v bytes) where
   pub each_once : EachOnce v bytes
   each_once = record { once = λ d low high. (contents d low high).once }
 
-  pub place : (n : ℕ) → 1 ≤ n → n ≤ last → kind v bytes n ≢ 0 → IsFinePlace v bytes n
+  pub place : (n : ℕ) → 1 ≤ n → n ≤ last → kind v bytes n ≢ 0 → IsInPlace v bytes n
   place n low high used = place-fine v bytes n (is.places n low high) (or_right (n == root) (not (is_free v bytes n)) (ap not (ne_eqb (kind v bytes n) 0 used)))
 
-  pub root_place : IsFinePlace v bytes root
+  pub root_place : IsInPlace v bytes root
   root_place = place-fine v bytes root (is.places root (omega arith) (sizes v bytes is.sizes.sizes).some_inodes) refl
 
   -- the length of a content is its size

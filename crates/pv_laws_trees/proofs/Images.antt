@@ -1,19 +1,17 @@
 -- If all tests pass, the bytes are an image of the tree that the inodes hold.
+use Rattle.std.specs.Prelude.{◌==◌}
 use Rattle.std.proofs.Common.{◌≡◌, ◌≢◌, ℕ, zero, suc, ◌+◌, ◌-◌, ◌*◌, ◌/◌, ◌%◌, ◌≤◌, List, map, length, take, drop, Ok, ap, sym, subst, ◌∙◌, refl, arith}
 use Rattle.std.specs.List.{AllByRecursion, IsDistinct}
-use Rattle.std.specs.Prelude.{◌==◌}
 use Rattle.std.proofs.lemmas.List.{length-map, length-take-le, length-drop}
 use Rattle.pv_model.specs.declared.version.Version.{Version}
 use Rattle.pv_model.specs.declared.version.Version.TheVariants.{V1, V2}
-use Rattle.pv_model.specs.Bytes.{Bytes}
-use Rattle.pv_model.specs.Image.{stored_count, size, inode, inode_blocks, content, used_blocks, Holds, HoldsAny, IsImageOf}
-use Rattle.pv_model.specs.Mount.{slots_of, slot_length, block_number, inode_number, kind, slots_at, entries_in, tree_in, mounted}
-use Rattle.pv_model.specs.Room.{entry_length}
-use Rattle.pv_model.specs.Tree.{directory_node, Tree, node_at, names_of, greatest_name}
+use Rattle.pv_model.specs.Machine.{Bytes, size, inode, inode_blocks, content, used_blocks, Holds, HoldsAny, IsImageOf, slots_of, slot_length, block_number, inode_number, kind, slots_at, tree_in, mounted, entry_length, directory_node, Tree, node_at, names_of, greatest_name}
+use Rattle.pv_model.specs.Image.{stored_count}
+use Rattle.pv_model.specs.Mount.{entries_in}
 use Rattle.pv_laws_trees.specs.Inodes.{IsData, IsFineSlot}
-use Rattle.pv_laws_trees.specs.Slots.{slot_entry, IsMeasured}
+use Rattle.pv_laws_trees.specs.Slots.{entry_in_slot, IsMeasured}
 use Rattle.pv_laws_trees.proofs.Slots.{appear}
-use Rattle.pv_laws_trees.proofs.Passed.{IsPassed, mounted-passed}
+use Rattle.pv_laws_trees.proofs.PassedTests.{IsPassed, mounted-passed}
 use Rattle.pv_laws_trees.proofs.Directories.{permuted, length-put_all}
 use Rattle.pv_laws_trees.proofs.Nodes.{by_kind, node_of, node_at-in, slots-directory}
 use Rattle.pv_laws_trees.proofs.Names.{as_many_names}
@@ -82,7 +80,7 @@ module _ (v : Version) (bytes : Bytes) (is : IsPassed v bytes) where
     holds-directory =
         let same = slots-directory v bytes n one in
         let long : length slots ≡ many = ap length same ∙ length-slots_of v many (content v bytes n) in
-        let as_many : length (map slot_entry slots) ≡ many = length-map slots slot_entry ∙ long in
+        let as_many : length (map entry_in_slot slots) ≡ many = length-map slots entry_in_slot ∙ long in
         let whole : length (content v bytes n) ≡ entry_length v * many = content-long v bytes is n low high used ∙ sized in
         let good = contents v bytes is n low high in
         record {
@@ -91,13 +89,13 @@ module _ (v : Version) (bytes : Bytes) (is : IsPassed v bytes) where
           length_allowed = (fine v bytes is n low high).allowed used;
           count = count-stored n low high used;
           has_content = (
-            map slot_entry slots,
-            appear v (content v bytes n) (map slot_entry slots) (record {
+            map entry_in_slot slots,
+            appear v (content v bytes n) (map entry_in_slot slots) (record {
               whole = whole ∙ ap (λ k. entry_length v * k) (sym as_many);
               measured =
                   subst (λ k. AllByRecursion IsMeasured (slots_of v k (content v bytes n))) (sym as_many)
                   (measured v bytes many (content v bytes n) whole (subst (AllByRecursion (IsFineSlot v bytes)) same good.slots));
-              entries = ap (map slot_entry) (same ∙ ap (λ k. slots_of v k (content v bytes n)) (sym as_many));
+              entries = ap (map entry_in_slot) (same ∙ ap (λ k. slots_of v k (content v bytes n)) (sym as_many));
             }),
             permuted v bytes slots good.once,
           );

@@ -6,10 +6,9 @@ use Rattle.std.proofs.lemmas.List.{length-append, length-take-le, length-drop}
 use Rattle.pv_model.specs.declared.limits.TheConstants.{BLOCK, LINK_TEXT}
 use Rattle.pv_model.specs.declared.version.Version.{Version}
 use Rattle.pv_model.specs.declared.version.Version.TheVariants.{V1, V2}
-use Rattle.pv_model.specs.Bytes.{Bytes}
-use Rattle.pv_model.specs.Image.{pointers, block, index_pointers, inode, size, block_count, used_index, used_content, content}
-use Rattle.pv_model.specs.Mount.{kind, has_bad_inode}
-use Rattle.pv_model.specs.Room.{rounded_up, entry_length, greatest_length, index_blocks, need}
+use Rattle.pv_model.specs.Machine.{Bytes, block, index_pointers, inode, size, block_count, used_index, used_content, content, kind, has_bad_inode, rounded_up, entry_length, greatest_length, need}
+use Rattle.pv_model.specs.Image.{pointers}
+use Rattle.pv_model.specs.Room.{index_blocks}
 use Rattle.pv_laws_trees.specs.Inodes.{IsFineInode}
 
 -- ---- tests

@@ -1,37 +1,37 @@
 -- Lemmas about trees, walks and images. They are public because proofs of code use them.
 -- - Generic (tests, optional values and lists of any type), Targets (targets and permissions of unveil(2)).
 -- - Trees: Numbered (maps from numbers), Entries (the entries of a directory), NameOrder, Members (membership in
---   lists), Trees (well-formed trees by their entries; parents), Encoded (bytes of names).
--- - Collection and room: Keeping, Rooms, NameCounts, ReferenceCounts, Empty (the tree with only the root).
--- - Changes: Changes (one node replaced), NewNodes, Edits (changes that keep a tree well-formed), Above (ancestors),
---   Found (lookups before and after a change).
+--   lists), Trees (well-formed trees by their entries; parents), TreeBytes (bytes of names).
+-- - Collection and room: Collection, Rooms, NameCounts, ReferenceCounts, EmptyTrees (the tree with only the root).
+-- - Changes: Changes (one node replaced), NewNodes, Edits (changes that keep a tree well-formed), Ancestors (ancestors),
+--   Lookups (lookups before and after a change).
 -- - Walks: Walks (the function computes the relation), Places (valid places, and what a walk reads).
--- - Image bytes: Ranges, Directories, Inodes, Nodes, Blocks, ImagePlaces, Names, Reached, Slots, Faults, Starts,
+-- - Image bytes: Ranges, Directories, Inodes, Nodes, Blocks, ImagePlaces, Names, ReachedNodes, Slots, FirstErrors, Starts,
 --   ImageBytes.
--- - Mounting: Passed and ImageTrees (inodes that pass all tests hold a well-formed tree), Images (the bytes are an
---   image of it), and conversely Held, ImageEntries, Listed and Back. Accepted: booting.
+-- - Mounting: PassedTests and ImageTrees (inodes that pass all tests hold a well-formed tree), Images (the bytes are an
+--   image of it), and conversely HeldNodes, ImageEntries, SortedEntries and MountedImages. AcceptedImages: booting.
 pub mod Generic
 pub mod Numbered
 pub mod Entries
 pub mod Trees
-pub mod Keeping
+pub mod Collection
 pub mod Rooms
 pub mod Changes
-pub mod Encoded
-pub mod Above
+pub mod TreeBytes
+pub mod Ancestors
 pub mod Edits
 pub mod Walks
 pub mod Places
-pub mod Empty
+pub mod EmptyTrees
 pub mod NewNodes
 pub mod NameCounts
 pub mod ReferenceCounts
-pub mod Found
+pub mod Lookups
 pub mod Members
 pub mod NameOrder
 pub mod Targets
 -- ---- image bytes
-pub mod Faults
+pub mod FirstErrors
 pub mod Slots
 pub mod Starts
 pub mod Ranges
@@ -41,14 +41,14 @@ pub mod Nodes
 pub mod Names
 pub mod Blocks
 pub mod ImagePlaces
-pub mod Reached
+pub mod ReachedNodes
 pub mod ImageBytes
 -- ---- mounting
-pub mod Passed
+pub mod PassedTests
 pub mod ImageTrees
 pub mod Images
-pub mod Held
-pub mod Listed
+pub mod HeldNodes
+pub mod SortedEntries
 pub mod ImageEntries
-pub mod Back
-pub mod Accepted
+pub mod MountedImages
+pub mod AcceptedImages

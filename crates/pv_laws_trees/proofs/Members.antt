@@ -6,9 +6,7 @@ use Rattle.std.specs.FinMap.Entries.{find, is_sorted}
 use Rattle.std.specs.Ordering.{eq_by_cmp}
 use Rattle.std.proofs.lemmas.Bool.{and_parts, or_cases, or_left, or_right, eqb-true, eq-eqb, cases_lt}
 use Rattle.std.proofs.Math.Nat.{min-eq_left, min-eq_right, min-le_left, min-le_right}
-use Rattle.pv_model.specs.Bytes.{Bytes}
-use Rattle.pv_model.specs.Numbered.{Numbered, at_number, numbered, numbered_from}
-use Rattle.pv_model.specs.Tree.{Entries, Node, Tree, node_at, entries_of, find_entry, names_in, names_of}
+use Rattle.pv_model.specs.Machine.{Bytes, Numbered, at_number, numbered, numbered_from, Entries, Node, Tree, node_at, entries_of, find_entry, names_in, names_of}
 use Rattle.pv_laws_trees.proofs.Entries.{by_name, tied-same, tied_itself, find_after}
 use Rattle.pv_laws_trees.proofs.Trees.{IsOrdered}
 

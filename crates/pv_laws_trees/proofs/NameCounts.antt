@@ -6,12 +6,9 @@ use Rattle.std.proofs.lemmas.List.Folds.{list_any-append}
 use Rattle.std.proofs.lemmas.List.Sums.{length-filter, count_by-le-length}
 use Rattle.pv_model.specs.declared.version.Version.{Version}
 use Rattle.pv_model.specs.declared.version.Version.TheVariants.{V1, V2}
-use Rattle.pv_model.specs.Bytes.{Bytes}
-use Rattle.pv_model.specs.Held.{among}
-use Rattle.pv_model.specs.Numbered.{Numbered, at_number, numbered_from}
-use Rattle.pv_model.specs.Room.{entry_length, greatest_length, is_too_long}
-use Rattle.pv_model.specs.Tree.{Entries, Node, directory_node, file_node, link_node, Tree, node_at, entries_of, entries_at, names_in, names_of, named_numbers}
+use Rattle.pv_model.specs.Machine.{Bytes, among, Numbered, at_number, numbered_from, entry_length, greatest_length, is_too_long, Entries, Node, directory_node, file_node, link_node, Tree, node_at, entries_of, entries_at, names_in, names_of, named_numbers}
 use Rattle.pv_laws_trees.proofs.Rooms.{length-within}
+use Rattle.pv_laws_trees.proofs.Trees.{named_from}
 
 -- ---- positive counts
 
@@ -69,9 +66,6 @@ among-count n d (e ∷ es) =
     elim (e.1 == n) as (λ b. (b || among (map (λ x. x.1) es) n)
     ≡ is_positive (length {A = ℕ × Bytes} (map (λ (x : Bytes × ℕ). (d, x.0)) (cond b (e ∷ filter (λ x. x.1 == n) es) (filter (λ x. x.1 == n) es))))) [ true ↦ refl | false ↦ among-count n d es ]
 
-abbrev named_from : ℕ → Numbered Node → List ℕ
-named_from k xs = flat_map (λ d. map (λ e. e.1) (entries_of (Some d.1))) (numbered_from k xs)
-
 named-counted : (n k : ℕ) (xs : Numbered Node) → among (named_from k xs) n ≡ is_positive (length (names_of_nodes n k xs))
 named-counted n k [] = refl
 named-counted n k (None ∷ xs) = named-counted n (suc k) xs
@@ -101,7 +95,7 @@ entries-most t short d = by (node_at t d) refl
     by (Some (file_node executable bytes)) at = omega arith
     by (Some (link_node text)) at = omega arith
 
--- a directory has at most as many names of a node as it has entries
+-- a directory has no more names of a node than it has entries
 pub names-in_most : (n d : ℕ) (es : Entries) → length (names_in n es d) ≤ length es
 names-in_most n d es =
     omega (

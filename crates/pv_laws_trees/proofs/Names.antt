@@ -5,11 +5,11 @@ use Rattle.std.specs.List.{list_any, range_with_len}
 use Rattle.std.proofs.lemmas.Bool.{and_parts, or_cases, eqb-true}
 use Rattle.std.proofs.lemmas.List.Sorted.{list_any-IsPermutation}
 use Rattle.pv_model.specs.declared.version.Version.{Version}
-use Rattle.pv_model.specs.Bytes.{Bytes}
-use Rattle.pv_model.specs.Mount.{slot_number, inode_number, slots_at, has_slot_for, name_count, is_reached_within, entries_in, node_in, tree_in}
-use Rattle.pv_model.specs.Tree.{Node, Tree, root, node_at, entries_of, find_entry, names_in, names_of, names_node, IsReached, from_root, by_entry}
+use Rattle.pv_model.specs.Machine.{Bytes, slot_number, inode_number, slots_at, name_count, is_reached_within, tree_in, Node, Tree, root, node_at, entries_of, find_entry, names_in, names_of, IsReached, from_root, by_entry}
+use Rattle.pv_model.specs.Mount.{has_slot_for, entries_in, node_in}
+use Rattle.pv_model.specs.Tree.{names_node}
 use Rattle.pv_laws_trees.specs.Inodes.{EachOnce}
-use Rattle.pv_laws_trees.specs.Slots.{slot_entry}
+use Rattle.pv_laws_trees.specs.Slots.{entry_in_slot}
 use Rattle.pv_laws_trees.proofs.Entries.{by_name, find-names_node, names_node-find}
 use Rattle.pv_laws_trees.proofs.Directories.{sorted-put_all, permuted, named-put_all}
 use Rattle.pv_laws_trees.proofs.Nodes.{node-there, entries-node, entries_at-in}
@@ -39,8 +39,8 @@ module _ (v : Version) (bytes : Bytes) (is : EachOnce v bytes) where
   -- a slot is an entry
   named-slot : (n d : ℕ) → 1 ≤ d → d ≤ last → names_node n (entries_in v bytes (slots_at v bytes d)) ≡ has_slot_for v bytes n d
   named-slot n d low high =
-      sym (list_any-IsPermutation (λ (e : Bytes × ℕ). e.1 == n) (map slot_entry (slots_at v bytes d)) (entries_in v bytes (slots_at v bytes d)) (permuted v bytes (slots_at v bytes d) (is.once d low high)))
-      ∙ any_map slot_entry (λ (e : Bytes × ℕ). e.1 == n) (slots_at v bytes d)
+      sym (list_any-IsPermutation (λ (e : Bytes × ℕ). e.1 == n) (map entry_in_slot (slots_at v bytes d)) (entries_in v bytes (slots_at v bytes d)) (permuted v bytes (slots_at v bytes d) (is.once d low high)))
+      ∙ any_map entry_in_slot (λ (e : Bytes × ℕ). e.1 == n) (slots_at v bytes d)
 
   pub slot-entry : (n d : ℕ) → 1 ≤ d → d ≤ last → has_slot_for v bytes n d ≡ true → (name : Bytes) × (find_entry t d name ≡ Some n)
   slot-entry n d low high has =

@@ -4,9 +4,7 @@ use Rattle.std.specs.FinMap.Entries.{find, put}
 use Rattle.std.proofs.lemmas.Bool.{cases_eq}
 use Rattle.pv_model.specs.declared.kind.NewNode.{NewNode}
 use Rattle.pv_model.specs.declared.kind.NewNode.TheVariants.{Directory, File, Executable, Symlink}
-use Rattle.pv_model.specs.Bytes.{Bytes}
-use Rattle.pv_model.specs.Held.{among}
-use Rattle.pv_model.specs.Tree.{Node, directory_node, Tree, node_at, entries_of, entries_at, is_directory, is_directory_at, find_entry, named_numbers, with_node, new_number, with_new_node, with_entry}
+use Rattle.pv_model.specs.Machine.{Bytes, among, Node, directory_node, Tree, node_at, entries_of, entries_at, is_directory, is_directory_at, find_entry, named_numbers, with_node, new_number, with_new_node, with_entry}
 use Rattle.pv_laws_trees.specs.NewNodes.{new_node}
 use Rattle.pv_laws_trees.specs.Preserved.{EachIsNamed}
 use Rattle.pv_laws_trees.proofs.Changes.{node_at-other, directory-below, found-with, with_entry-stays, still-there}

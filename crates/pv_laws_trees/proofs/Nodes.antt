@@ -4,11 +4,8 @@ use Rattle.std.specs.Prelude.{if◌then◌else◌}
 use Rattle.std.specs.List.{list_any}
 use Rattle.std.proofs.lemmas.Bool.{and_parts, and_from, or_parts, or_from, eq-eqb, ne_eqb, ltb-true, ltb-false, le-ltb, leb-true, le-leb}
 use Rattle.pv_model.specs.declared.version.Version.{Version}
-use Rattle.pv_model.specs.Bytes.{Bytes}
-use Rattle.pv_model.specs.Image.{size, content}
-use Rattle.pv_model.specs.Mount.{slots_of, slot_number, slot_length, slot_name, appears_twice, inode_number, kind, is_free, slots_at, is_bad_slot, has_bad_content, entries_in, node_in, tree_in}
-use Rattle.pv_model.specs.Room.{entry_length}
-use Rattle.pv_model.specs.Tree.{Entries, Node, directory_node, file_node, link_node, node_at, entries_of, entries_at, is_name, greatest_name}
+use Rattle.pv_model.specs.Machine.{Bytes, size, content, slots_of, slot_number, slot_length, slot_name, appears_twice, inode_number, kind, is_free, slots_at, is_bad_slot, has_bad_content, tree_in, entry_length, Entries, Node, directory_node, file_node, link_node, node_at, entries_of, entries_at, is_name, greatest_name}
+use Rattle.pv_model.specs.Mount.{entries_in, node_in}
 use Rattle.pv_laws_trees.specs.Inodes.{IsFineContent, IsFineSlot}
 use Rattle.pv_laws_trees.proofs.Inodes.{under_false, over_false}
 use Rattle.pv_laws_trees.proofs.Ranges.{at-made, past-made, none_any, any_none, each_weaker}

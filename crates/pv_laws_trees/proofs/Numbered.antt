@@ -1,6 +1,7 @@
 -- Maps from numbers.
 use Rattle.std.proofs.Common.{◌≡◌, ◌≢◌, ℕ, zero, suc, ◌+◌, ◌<◌, ◌≤◌, Bool, true, false, ◌&&◌, [], ◌∷◌, length, Option, None, Some, is_some, refl, ap, ap₂, sym, ◌∙◌, arith, suc-le-suc, le_of_suc-le-suc, zero-le, drop}
-use Rattle.pv_model.specs.Numbered.{Numbered, at_number, with_number, without_number, least_free, keep_if, keep_from, keep, present}
+use Rattle.pv_model.specs.Machine.{Numbered, at_number, with_number, without_number, least_free, keep_if, keep, present}
+use Rattle.pv_model.specs.Numbered.{keep_from}
 
 module _ {X : Type 0} where
   -- a number with a value is below the length

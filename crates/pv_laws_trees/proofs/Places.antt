@@ -8,11 +8,10 @@ use Rattle.pv_model.specs.declared.errno.Errno.TheVariants.{ENOENT, ENOTDIR, ENA
 use Rattle.pv_model.specs.declared.follow.Follow.{Follow}
 use Rattle.pv_model.specs.declared.place.Place.{Place}
 use Rattle.pv_model.specs.declared.place.Place.TheVariants.{At, Node as Unnamed}
-use Rattle.pv_model.specs.Bytes.{Bytes, is_empty, onto_first}
-use Rattle.pv_model.specs.Numbered.{Numbered, at_number, numbered_from}
-use Rattle.pv_model.specs.Tree.{Node, directory_node, file_node, link_node, Tree, greatest_name, root, node_at, entries_of, entries_at, is_directory, is_directory_at, find_entry, names_node, first_parent, parent, is_removed, is_name, is_name_byte, is_link_text, IsWellFormed}
-use Rattle.pv_model.specs.Walk.{split_slashes, components, is_absolute, ends_in_slash, weight, is_dot, is_dot_dot, follows_last, end_mark, Walked, Onward, PastLink, enter, enter_parent, at_node, at_entry, along, no_link_left, through_link, walk, resolve}
-use Rattle.pv_laws_trees.specs.Tree.{IsSound}
+use Rattle.pv_model.specs.Machine.{Bytes, is_empty, onto_first, Numbered, at_number, numbered_from, Node, directory_node, file_node, link_node, Tree, greatest_name, root, node_at, entries_of, entries_at, is_directory, is_directory_at, find_entry, parent, is_removed, is_name, is_name_byte, is_link_text, IsWellFormed, split_slashes, components, is_absolute, weight, follows_last, end_mark, Walked, resolve}
+use Rattle.pv_model.specs.Tree.{names_node, first_parent}
+use Rattle.pv_model.specs.Walk.{ends_in_slash, is_dot, is_dot_dot, Onward, PastLink, enter, enter_parent, at_node, at_entry, along, no_link_left, through_link, walk}
+use Rattle.pv_laws_trees.specs.Tree.{IsSoundTree}
 use Rattle.pv_laws_trees.specs.Walk
 use Rattle.pv_laws_trees.proofs.Changes.{has_entry-directory}
 use Rattle.pv_laws_trees.proofs.Entries.{by_name}
@@ -73,14 +72,14 @@ module _ (test : ℕ → Bool) where
   IsGood t (Ok place) = IsGoodPlace t place
   IsGood t (Err e) = Unit {0}
 
-  pub parent-directory : (t : Tree) → IsSound t → (n d : ℕ) → parent t n ≡ Some d → is_directory_at t d ≡ true
+  pub parent-directory : (t : Tree) → IsSoundTree t → (n d : ℕ) → parent t n ≡ Some d → is_directory_at t d ≡ true
   parent-directory t s n d up =
       ⊎_elim
       (λ top. let same : root ≡ d = cc (sym (parent-root t) ∙ ap (parent t) (sym top) ∙ up) in ap (is_directory_at t) (sym same) ∙ s.root_is_directory)
       (λ other. let found = parent-entry t (ordered t s.each_node) n d other up in has_entry-directory t d found.0 n found.1)
       (cases_eq n root)
 
-  module _ (t : Tree) (s : IsSound t) (links_pass : (n : ℕ) (text : Bytes) → node_at t n ≡ Some (link_node text) → list_all test text ≡ true) (last : Bool) where
+  module _ (t : Tree) (s : IsSoundTree t) (links_pass : (n : ℕ) (text : Bytes) → node_at t n ≡ Some (link_node text) → list_all test text ≡ true) (last : Bool) where
     pub walks-good : (links : ℕ) (ps : List Bytes) (mark : Bool) (at : ℕ) (r : Walked) → Walk.Walks t last links ps mark at r → is_directory_at t at ≡ true → list_all is_component ps ≡ true → IsGood t r
     walks-good _ _ _ _ _ (Walk.Walks.arrives links mark at) dir all = dir
     walks-good _ _ _ _ _ (Walk.Walks.stays links component rest mark at r is more) dir all = walks-good links rest mark at r more dir (and_parts (is_component component) _ all).1
@@ -107,7 +106,7 @@ module _ (test : ℕ → Bool) where
     walks-good _ _ _ _ _ (Walk.Walks.lost links component rest mark at n name appears found none) dir all = tt
 
   -- a path whose bytes pass leads from a directory to a place whose name passes
-  pub resolve-good : (t : Tree) → IsSound t → ((n : ℕ) (text : Bytes) → node_at t n ≡ Some (link_node text) → list_all test text ≡ true)
+  pub resolve-good : (t : Tree) → IsSoundTree t → ((n : ℕ) (text : Bytes) → node_at t n ≡ Some (link_node text) → list_all test text ≡ true)
       → (follow : Follow) (start : ℕ) (path : Bytes) (place : Place) → is_directory_at t start ≡ true → list_all test path ≡ true
       → resolve t follow start path ≡ Ok place → IsGoodPlace t place
   resolve-good t s links_pass follow start path place dir all is = by (Ok place) (subst (Walk.Resolves t follow start path) is (resolve-resolves t follow start path))
@@ -125,10 +124,10 @@ abbrev pub not_zero : ℕ → Bool
 not_zero b = not (b == 0)
 
 -- the text of a link
-pub link-text : (t : Tree) → IsSound t → (n : ℕ) (text : Bytes) → node_at t n ≡ Some (link_node text) → is_link_text text ≡ true
+pub link-text : (t : Tree) → IsSoundTree t → (n : ℕ) (text : Bytes) → node_at t n ≡ Some (link_node text) → is_link_text text ≡ true
 link-text t s n text is = s.each_node n (link_node text) is
 
-link_passes : (t : Tree) → IsSound t → (n : ℕ) (text : Bytes) → node_at t n ≡ Some (link_node text) → list_all not_zero text ≡ true
+link_passes : (t : Tree) → IsSoundTree t → (n : ℕ) (text : Bytes) → node_at t n ≡ Some (link_node text) → list_all not_zero text ≡ true
 link_passes t s n text is = (and_parts (not (is_empty text) && nat_le (length text) 1023) (list_all not_zero text) (link-text t s n text is)).1
 
 -- a component that is looked up is a valid name
@@ -176,14 +175,14 @@ unfolding parent
 parent-alike t u same n = ap (λ (p : Option ℕ). if n == root then Some root else p) (first_parent-alike n 0 t.nodes u.nodes same)
 
 module _ (last : Bool) where
-  abbrev at_seen : PastLink → Onward → ℕ → Bytes → List Bytes → Bool → ℕ → Walk.Seen → Walked
-  at_seen following onward at component rest mark n (Walk.Seen.a_link text) = if is_empty rest && not mark && not last then Ok (At at component (Some n)) else following text rest mark at
-  at_seen following onward at component rest mark n Walk.Seen.a_directory = if is_empty rest then Ok (At at component (Some n)) else enter onward n
-  at_seen following onward at component rest mark n Walk.Seen.a_file = if is_empty rest && not mark then Ok (At at component (Some n)) else Err ENOTDIR
-  at_seen following onward at component rest mark n Walk.Seen.no_node = Err ENOENT
+  abbrev at_seen : PastLink → Onward → ℕ → Bytes → List Bytes → Bool → ℕ → Walk.WalkedNode → Walked
+  at_seen following onward at component rest mark n (Walk.WalkedNode.a_link text) = if is_empty rest && not mark && not last then Ok (At at component (Some n)) else following text rest mark at
+  at_seen following onward at component rest mark n Walk.WalkedNode.a_directory = if is_empty rest then Ok (At at component (Some n)) else enter onward n
+  at_seen following onward at component rest mark n Walk.WalkedNode.a_file = if is_empty rest && not mark then Ok (At at component (Some n)) else Err ENOTDIR
+  at_seen following onward at component rest mark n Walk.WalkedNode.no_node = Err ENOENT
 
   at_node-seen : (t : Tree) (following : PastLink) (onward : Onward) (at : ℕ) (component : Bytes) (rest : List Bytes) (mark : Bool) (n : ℕ) (o : Option Node)
-      → at_node t last following onward at component rest mark n o ≡ at_seen following onward at component rest mark n (Walk.seen o)
+      → at_node t last following onward at component rest mark n o ≡ at_seen following onward at component rest mark n (Walk.walked_node o)
   at_node-seen t following onward at component rest mark n None = refl
   at_node-seen t following onward at component rest mark n (Some (directory_node es)) = refl
   at_node-seen t following onward at component rest mark n (Some (file_node executable bytes)) = refl

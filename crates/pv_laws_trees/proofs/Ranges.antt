@@ -7,8 +7,7 @@ use Rattle.std.proofs.lemmas.List.{length-append}
 use Rattle.std.proofs.lemmas.List.Folds.{list_any-append}
 use Rattle.std.proofs.lemmas.List.FromFn.{length-range_with_len}
 use Rattle.std.proofs.lemmas.Map.Made.{length-le_from_is_member}
-use Rattle.pv_model.specs.Mount.{appears_twice}
-use Rattle.pv_model.specs.Numbered.{at_number, numbered_from}
+use Rattle.pv_model.specs.Machine.{appears_twice, at_number, numbered_from}
 use Rattle.pv_laws_trees.specs.Inodes.{in_both}
 
 -- ---- ranges
@@ -160,7 +159,7 @@ once-apart (x ∷ xs) ys once =
     let rest = once-apart xs ys here.1 in
     (or_from (list_any (λ y. x == y) xs) (appears_twice ◌==◌ xs) parts.0 rest.0, rest.1, parts_both x xs ys parts.1 rest.2)
 
--- distinct numbers of a range are at most as many as the range has
+-- distinct numbers of a range are no more than the numbers of the range
 pub distinct-within : (xs : List ℕ) (from k : ℕ) → IsDistinct ◌==◌ xs → AllByRecursion (λ n. (from ≤ n) × (n < from + k)) xs → length xs ≤ k
 distinct-within xs from k distinct within =
     let few : length xs ≤ length (range_with_len from k) = length-le_from_is_member nat_eq_equiv xs (range_with_len from k) distinct

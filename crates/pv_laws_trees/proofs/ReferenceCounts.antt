@@ -2,7 +2,7 @@
 use Rattle.std.proofs.Common.{◌≡◌, ◌≢◌, ℕ, zero, suc, ◌+◌, ◌<◌, false, ◌||◌, ◌==◌, List, [], ◌∷◌, refl, ap, ◌∙◌, arith}
 use Rattle.std.specs.Prelude.{slice_index}
 use Rattle.std.proofs.lemmas.Bool.{eq-eqb, ne_eqb, or_left}
-use Rattle.pv_model.specs.Held.{among}
+use Rattle.pv_model.specs.Machine.{among}
 use Rattle.pv_laws_trees.specs.ReferenceCounts.{held_from, held_numbers}
 use Rattle.pv_laws_trees.proofs.NameCounts.{is_positive}
 

@@ -6,12 +6,9 @@ use Rattle.std.proofs.lemmas.Bool.{and_parts, and_from, or_cases, or_left, or_ri
 use Rattle.std.proofs.lemmas.List.Sums.{sum_by-cons}
 use Rattle.pv_model.specs.declared.version.Version.{Version}
 use Rattle.pv_model.specs.declared.version.Version.TheVariants.{V1, V2}
-use Rattle.pv_model.specs.Bytes.{Bytes}
-use Rattle.pv_model.specs.Held.{among}
-use Rattle.pv_model.specs.Numbered.{Numbered, at_number, present}
-use Rattle.pv_model.specs.Room.{entry_length, node_length, rounded_up, index_blocks, need, greatest_length, is_too_long, fits}
-use Rattle.pv_model.specs.Tree.{Node, directory_node, file_node, link_node, Tree, node_at, entries_of, entries_at, is_directory, is_directory_at, without_entry}
-use Rattle.pv_laws_trees.specs.Preserved.{wanted, preserved}
+use Rattle.pv_model.specs.Machine.{Bytes, among, Numbered, at_number, present, entry_length, node_length, rounded_up, need, greatest_length, is_too_long, fits, Node, directory_node, file_node, link_node, Tree, node_at, entries_of, entries_at, is_directory, is_directory_at, without_entry}
+use Rattle.pv_model.specs.Room.{index_blocks}
+use Rattle.pv_laws_trees.specs.Preserved.{numbers_wanted, preserved}
 use Rattle.pv_laws_trees.specs.Room.{IsNoLonger, IsNoLarger}
 use Rattle.pv_laws_trees.proofs.Changes.{node_at-same, node_at-other, directory-below}
 use Rattle.pv_laws_trees.proofs.Entries.{by_name, is_other}
@@ -126,7 +123,7 @@ preserved-no_larger t held = record {
   blocks = refl;
   inodes = refl;
   version = refl;
-  nodes = λ n. subst (λ o. IsNoLonger t.version o (node_at t n)) (sym (at_number-keep (among (wanted t held)) t.nodes n)) (no_longer t.version (among (wanted t held) n) (node_at t n));
+  nodes = λ n. subst (λ o. IsNoLonger t.version o (node_at t n)) (sym (at_number-keep (among (numbers_wanted t held)) t.nodes n)) (no_longer t.version (among (numbers_wanted t held) n) (node_at t n));
 }
 
 -- ---- one entry less

@@ -5,12 +5,9 @@ use Rattle.std.proofs.Math.Seq.{take-append_seam, drop-append_seam}
 use Rattle.std.proofs.lemmas.List.{length-append, length-take-le, length-drop, take-append-drop}
 use Rattle.pv_model.specs.declared.version.Version.{Version}
 use Rattle.pv_model.specs.declared.version.Version.TheVariants.{V1, V2}
-use Rattle.pv_model.specs.Bytes.{Bytes}
-use Rattle.pv_model.specs.Image.{number_of, IsSlot, AreSlots, no_slot, one_more}
-use Rattle.pv_model.specs.Mount.{slots_of, slot_number, slot_name}
-use Rattle.pv_model.specs.Room.{entry_length}
-use Rattle.pv_model.specs.Tree.{Entries}
-use Rattle.pv_laws_trees.specs.Slots.{slot_entry, IsMeasured, AreRead}
+use Rattle.pv_model.specs.Machine.{Bytes, number_of, AreSlots, slots_of, slot_number, slot_name, entry_length, Entries}
+use Rattle.pv_model.specs.Image.{IsSlot, no_slot, one_more}
+use Rattle.pv_laws_trees.specs.Slots.{entry_in_slot, IsMeasured, AreRead}
 
 times : (a k : ℕ) → a + a * k ≡ a * suc k
 times a k = omega arith
@@ -22,7 +19,7 @@ long_enough V2 = omega arith
 -- the fields of a slot that contains an entry
 record IsReadAs (slot name : Bytes) (n : ℕ) : Type 0 where
   measured : IsMeasured slot
-  entry : slot_entry slot ≡ (name, n)
+  entry : entry_in_slot slot ≡ (name, n)
 
 encoded : (number name left : Bytes) (unread : ℕ) → length number ≡ 2 → IsReadAs (number ++ length name ∷ unread ∷ name ++ left) name (number_of number)
 encoded [] name left unread two = absurd (omega arith)
@@ -51,7 +48,7 @@ read v _ _ (one_more slot rest name n others is more) =
     record {
       whole = sum ∙ times (entry_length v) (length others);
       measured = subst (AllByRecursion IsMeasured) (sym slots) (here.measured, below.measured);
-      entries = ap (λ (rows : Entries). (name, n) ∷ rows) below.entries ∙ ap (λ (e : Bytes × ℕ). e ∷ map slot_entry (slots_of v (length others) rest)) (sym here.entry) ∙ ap (map slot_entry) (sym slots);
+      entries = ap (λ (rows : Entries). (name, n) ∷ rows) below.entries ∙ ap (λ (e : Bytes × ℕ). e ∷ map entry_in_slot (slots_of v (length others) rest)) (sym here.entry) ∙ ap (map entry_in_slot) (sym slots);
     }
 
 -- a slot of the right length contains the entry that is read from it
@@ -72,7 +69,7 @@ appears v (a ∷ b ∷ c ∷ d ∷ tail) whole some measured =
       is_whole = whole;
     }
 
-appear_all : (v : Version) (k : ℕ) (bytes : Bytes) → length bytes ≡ entry_length v * k → AllByRecursion IsMeasured (slots_of v k bytes) → AreSlots v bytes (map slot_entry (slots_of v k bytes))
+appear_all : (v : Version) (k : ℕ) (bytes : Bytes) → length bytes ≡ entry_length v * k → AllByRecursion IsMeasured (slots_of v k bytes) → AreSlots v bytes (map entry_in_slot (slots_of v k bytes))
 appear_all v zero [] whole measured = no_slot
 appear_all v zero (b ∷ bytes) whole measured = absurd (omega arith)
 appear_all v (suc k) bytes whole measured =
@@ -83,8 +80,8 @@ appear_all v (suc k) bytes whole measured =
     let long : length first ≡ entry_length v = length-take-le (entry_length v) bytes fits in
     let enough : 4 ≤ length first = omega (arith, long, long_enough v) in
     let left : length rest ≡ entry_length v * k = length-drop (entry_length v) bytes ∙ omega (arith, sum) in
-    subst (λ (bs : Bytes). AreSlots v bs (slot_entry first ∷ map slot_entry (slots_of v k rest))) (take-append-drop (entry_length v) bytes)
-    (one_more first rest (slot_name first) (slot_number first) (map slot_entry (slots_of v k rest)) (appears v first long enough measured.0) (appear_all v k rest left measured.1))
+    subst (λ (bs : Bytes). AreSlots v bs (entry_in_slot first ∷ map entry_in_slot (slots_of v k rest))) (take-append-drop (entry_length v) bytes)
+    (one_more first rest (slot_name first) (slot_number first) (map entry_in_slot (slots_of v k rest)) (appears v first long enough measured.0) (appear_all v k rest left measured.1))
 
 pub appear : (v : Version) (bytes : Bytes) (es : Entries) → AreRead v bytes es → AreSlots v bytes es
 appear v bytes es is = subst (AreSlots v bytes) (sym is.entries) (appear_all v (length es) bytes is.whole is.measured)

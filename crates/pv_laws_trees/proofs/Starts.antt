@@ -4,12 +4,10 @@ use Rattle.std.specs.Prelude.{option_map}
 use Rattle.std.specs.Result.{result_ok}
 use Rattle.pv_model.specs.declared.fault.ParseFault.{ParseFault}
 use Rattle.pv_model.specs.declared.kernel_fault.BootFault.{BootFault}
-use Rattle.pv_model.specs.Grammar.Programs.{read_program, program_of}
+use Rattle.pv_model.specs.Machine.{read_program, program_of, and_then, booted, Program, first_state, Node, directory_node, file_node, link_node, Tree}
 use Rattle.pv_model.specs.RunFault.{of_init}
-use Rattle.pv_model.specs.Start.{and_then, program_in, init_of, booted}
-use Rattle.pv_model.specs.State.{Program, first_state}
+use Rattle.pv_model.specs.Start.{program_in, init_of}
 use Rattle.pv_model.specs.Step.{init_program}
-use Rattle.pv_model.specs.Tree.{Node, directory_node, file_node, link_node, Tree}
 use Rattle.pv_laws_trees.specs.Starts.{StartsIfInitParses}
 
 read_or_not : (t : Tree) (r : Result Program ParseFault)

@@ -5,8 +5,8 @@ use Rattle.std.proofs.lemmas.Bool.{and_parts, and_from, eqb-true, eq-eqb}
 use Rattle.pv_model.specs.declared.perms.Perms.{Perms}
 use Rattle.pv_model.specs.declared.target.Target.{Target}
 use Rattle.pv_model.specs.declared.target.Target.TheVariants.{Directory, Name}
-use Rattle.pv_model.specs.Perms.{covers, permission_r, permission_w, permission_x, permission_c}
-use Rattle.pv_model.specs.Unveil.{same_target}
+use Rattle.pv_model.specs.Machine.{covers, permission_r, permission_x, permission_c, same_target}
+use Rattle.pv_model.specs.Perms.{permission_w}
 use Rattle.pv_laws_trees.proofs.Entries.{bytes_eq-itself, bytes_eq-same}
 
 pub same_target-itself : (target : Target) → same_target target target ≡ true

@@ -6,11 +6,9 @@ use Rattle.std.proofs.Math.ListN.{length-append}
 use Rattle.std.proofs.lemmas.List.{length-map}
 use Rattle.std.proofs.lemmas.Bool.{and_parts, eqb-true, eq-eqb, ne_eqb, or_left, or_right, or_cases, or_parts, cases_Bool}
 use Rattle.std.proofs.lemmas.List.Folds.{list_any-append}
-use Rattle.pv_model.specs.Bytes.{Bytes}
-use Rattle.pv_model.specs.Held.{among}
-use Rattle.pv_model.specs.Numbered.{Numbered, at_number, numbered_from, numbered}
-use Rattle.pv_model.specs.Tree.{Entries, Node, directory_node, file_node, link_node, Tree, root, node_at, entries_of, entries_at, is_directory_at, find_entry, names_node, first_parent, parent, names_in, names_of, named_numbers, is_node, IsWellFormed}
-use Rattle.pv_laws_trees.specs.Tree.{IsSound}
+use Rattle.pv_model.specs.Machine.{Bytes, among, Numbered, at_number, numbered_from, numbered, Entries, Node, directory_node, file_node, link_node, Tree, root, node_at, entries_of, entries_at, is_directory_at, find_entry, parent, names_in, names_of, named_numbers, is_node, IsWellFormed}
+use Rattle.pv_model.specs.Tree.{names_node, first_parent}
+use Rattle.pv_laws_trees.specs.Tree.{IsSoundTree}
 use Rattle.pv_laws_trees.proofs.Entries.{by_name, tied_itself, tied-same, find-names_node, names_node-find, find_after}
 
 -- whether an entry of the node at a number names n
@@ -23,7 +21,7 @@ among-names : (n : ℕ) (es : Entries) → among (map (λ e. e.1) es) n ≡ name
 among-names n [] = refl
 among-names n (e ∷ es) = ap (λ b. (e.1 == n) || b) (among-names n es)
 
-abbrev named_from : ℕ → Numbered Node → List ℕ
+abbrev pub named_from : ℕ → Numbered Node → List ℕ
 named_from k xs = flat_map (λ d. map (λ e. e.1) (entries_of (Some d.1))) (numbered_from k xs)
 
 named-at : (n k : ℕ) (xs : Numbered Node) → among (named_from k xs) n ≡ true → (d : ℕ) × (names_at n xs d ≡ true)
@@ -179,7 +177,7 @@ once_at n k (Some node ∷ xs) once (suc d) zero a b =
 once_at n k (Some node ∷ xs) once (suc d) (suc e) a b =
     ap suc (once_at n (suc k) xs (omega (arith, length-append (names_in n (entries_of (Some node)) k) (names_from n (suc k) xs))) d e a b)
 
--- the names in one directory are at most as many as all names
+-- the names in one directory are no more than all names
 as_many : (n a b : ℕ) (es : Entries) → length (names_in n es a) ≡ length (names_in n es b)
 as_many n a b es = length-map {B = ℕ × Bytes} (filter (λ e. e.1 == n) es) (λ e. (a, e.0)) ∙ sym (length-map {B = ℕ × Bytes} (filter (λ e. e.1 == n) es) (λ e. (b, e.0)))
 
@@ -292,7 +290,7 @@ pub same-once : (t : Tree) → IsOrdered t → (n : ℕ)
     → length (names_of t n) ≤ 1
 same-once t sorted n same = one_name n 0 t.nodes sorted same
 
-pub sound : (t : Tree) → IsWellFormed t → IsSound t
+pub sound : (t : Tree) → IsWellFormed t → IsSoundTree t
 sound t w = record {
   numbers = w.numbers;
   no_zero = λ n node is same. let none = w.no_zero in let at : node_at t 0 ≡ Some node = ap (node_at t) (sym same) ∙ is in cc;
@@ -311,7 +309,7 @@ nothing : (o : Option Node) → ((node : Node) → o ≡ Some node → ⊥) → 
 nothing None none = refl
 nothing (Some node) none = absurd (none node refl)
 
-pub well_formed : (t : Tree) → IsSound t → IsWellFormed t
+pub well_formed : (t : Tree) → IsSoundTree t → IsWellFormed t
 well_formed t s = record {
   numbers = s.numbers;
   no_zero = nothing (node_at t 0) (λ node is. s.no_zero 0 node is refl);
@@ -324,12 +322,12 @@ well_formed t s = record {
   removed_are_empty = λ d is none. let found = parent-none_named t d none in s.removed_are_empty d is found.0 found.1;
 }
 
-pub well_formed-iff-sound : (t : Tree) → IsWellFormed t ↔ IsSound t
+pub well_formed-iff-sound : (t : Tree) → IsWellFormed t ↔ IsSoundTree t
 well_formed-iff-sound t = (sound t, well_formed t)
 
 -- ---- parents
 
-pub entry-parent : (t : Tree) → IsSound t → (n d : ℕ) (name : Bytes) → is_directory_at t n ≡ true → find_entry t d name ≡ Some n → parent t n ≡ Some d
+pub entry-parent : (t : Tree) → IsSoundTree t → (n d : ℕ) (name : Bytes) → is_directory_at t n ≡ true → find_entry t d name ≡ Some n → parent t n ≡ Some d
 entry-parent t s n d name is found =
     let other : n ≢ root = s.root_is_unnamed d name n found in
     elim (parent t n) as (λ p. parent t n ≡ p → p ≡ Some d) [

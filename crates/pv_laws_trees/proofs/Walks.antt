@@ -1,13 +1,12 @@
 -- Walks.
 use Rattle.std.proofs.Common.{◌≡◌, ◌↔◌, ℕ, zero, suc, ◌<◌, ◌≤◌, Bool, true, false, cond, if◌then◌else◌, not, ◌&&◌, ◌||◌, ◌==◌, nat_lt, List, [], ◌∷◌, ◌++◌, codes, length, Option, None, Some, Ok, Err, refl, ap, sym, subst, ◌∙◌, arith}
 use Rattle.std.specs.List.{list_all}
-use Rattle.std.proofs.lemmas.Bool.{ltb-true, ltb-false, lt-ltb, le-ltb, cases_Bool}
+use Rattle.std.proofs.lemmas.Bool.{ltb-true, ltb-false, lt-ltb, le-ltb}
 use Rattle.pv_model.specs.declared.errno.Errno.TheVariants.{ENOENT, ENAMETOOLONG}
 use Rattle.pv_model.specs.declared.follow.Follow.{Follow}
 use Rattle.pv_model.specs.declared.place.Place.TheVariants.{At, Node as Unnamed}
-use Rattle.pv_model.specs.Bytes.{Bytes, is_empty}
-use Rattle.pv_model.specs.Tree.{Node, directory_node, file_node, link_node, Tree, greatest_name, root, node_at, find_entry, parent, is_removed}
-use Rattle.pv_model.specs.Walk.{components, is_absolute, ends_in_slash, weight, is_dot, is_dot_dot, follows_last, end_mark, Walked, Onward, PastLink, enter, enter_parent, at_node, at_entry, along, no_link_left, through_link, walk, resolve}
+use Rattle.pv_model.specs.Machine.{Bytes, is_empty, Node, directory_node, file_node, link_node, Tree, greatest_name, root, node_at, find_entry, parent, is_removed, components, is_absolute, weight, follows_last, end_mark, Walked, resolve}
+use Rattle.pv_model.specs.Walk.{ends_in_slash, is_dot, is_dot_dot, Onward, PastLink, enter, enter_parent, at_node, at_entry, along, no_link_left, through_link, walk}
 use Rattle.pv_laws_trees.specs.Walk
 
 dot_is_not_dots : (component : Bytes) → is_dot_dot component ≡ true → is_dot component ≡ false
@@ -17,14 +16,11 @@ dot_is_not_dots component is =
 module _ (t : Tree) (last : Bool) where
   -- a correct continuation after links
   abbrev IsRight : ℕ → PastLink → Type 0
-  IsRight links following = (component : Bytes) (rest : List Bytes) (mark : Bool) (at n : ℕ) (text : Bytes) → Walk.LeadsTo t at component n (link_node text)
+  IsRight links following = (component : Bytes) (rest : List Bytes) (mark : Bool) (at n : ℕ) (text : Bytes) → Walk.HasNodeAt t at component n (link_node text)
       → Walk.is_followed rest mark last ≡ true → Walk.Walks t last links (component ∷ rest) mark at (following text rest mark at)
 
   module _ (links : ℕ) (following : PastLink) (right : IsRight links following) (component : Bytes) (rest : List Bytes) (mark : Bool) (at : ℕ) (name : Walk.IsLookedUp t component) (appears : is_removed t at ≡ false) where
-    here : (n : ℕ) (node : Node) → find_entry t at component ≡ Some n → node_at t n ≡ Some node → Walk.LeadsTo t at component n node
-    here n node found is = record { name = name; appears = appears; entry = found; is = is }
-
-    link_walks : (n : ℕ) (text : Bytes) → Walk.LeadsTo t at component n (link_node text) → (b : Bool) → (is_empty rest && not mark && not last) ≡ b
+    link_walks : (n : ℕ) (text : Bytes) → Walk.HasNodeAt t at component n (link_node text) → (b : Bool) → (is_empty rest && not mark && not last) ≡ b
         → Walk.Walks t last links (component ∷ rest) mark at (cond b (Ok (At at component (Some n))) (following text rest mark at))
     link_walks n text leads true is = Walk.Walks.finds_link links component rest mark at n text leads (ap not is)
     link_walks n text leads false is = right component rest mark at n text leads (ap not is)
@@ -99,7 +95,7 @@ module _ (t : Tree) (last : Bool) where
       along-walks (suc links) (through_link t last (walk t last links))
       (λ component rest mark at n text leads followed. by component rest mark at n text leads followed (walk-walks links) (nat_lt 1024 (weight (components text ++ rest))) refl) ps mark at
     where
-      by : (component : Bytes) (rest : List Bytes) (mark : Bool) (at n : ℕ) (text : Bytes) → Walk.LeadsTo t at component n (link_node text) → Walk.is_followed rest mark last ≡ true
+      by : (component : Bytes) (rest : List Bytes) (mark : Bool) (at n : ℕ) (text : Bytes) → Walk.HasNodeAt t at component n (link_node text) → Walk.is_followed rest mark last ≡ true
           → ((ps : List Bytes) (mark : Bool) (at : ℕ) → Walk.Walks t last links ps mark at (walk t last links ps mark at))
           → (b : Bool) → nat_lt 1024 (weight (components text ++ rest)) ≡ b
           → Walk.Walks t last (suc links) (component ∷ rest) mark at
@@ -150,11 +146,11 @@ module _ (t : Tree) (last : Bool) where
     along-appears : Walk.IsLookedUp t component → is_removed t at ≡ false → along t last following (component ∷ rest) mark at ≡ at_entry t last following onward_from at component rest mark (find_entry t at component)
     along-appears name appears = along-short name ∙ ap by_removed appears
 
-    along-leads : (n : ℕ) (node : Node) → Walk.LeadsTo t at component n node → along t last following (component ∷ rest) mark at ≡ at_node t last following onward_from at component rest mark n (Some node)
+    along-leads : (n : ℕ) (node : Node) → Walk.HasNodeAt t at component n node → along t last following (component ∷ rest) mark at ≡ at_node t last following onward_from at component rest mark n (Some node)
     along-leads n node leads =
         along-appears leads.name leads.appears ∙ ap (at_entry t last following onward_from at component rest mark) leads.entry ∙ ap (at_node t last following onward_from at component rest mark n) leads.is
 
-    along-link : (n : ℕ) (text : Bytes) (b : Bool) → Walk.LeadsTo t at component n (link_node text) → Walk.is_followed rest mark last ≡ b
+    along-link : (n : ℕ) (text : Bytes) (b : Bool) → Walk.HasNodeAt t at component n (link_node text) → Walk.is_followed rest mark last ≡ b
         → along t last following (component ∷ rest) mark at ≡ (if b then following text rest mark at else Ok (At at component (Some n)))
     along-link n text b leads is = along-leads n (link_node text) leads ∙ turned (is_empty rest && not mark && not last) b is
       where
@@ -233,10 +229,6 @@ resolve-resolves t follow start path = by (is_empty path) (nat_lt 1023 (length p
     by false true is long = Walk.Resolves.too_long (ltb-true 1023 (length path) long)
     by false false is long =
         Walk.Resolves.walks _ is (ltb-false 1023 (length path) long) (walk-walks t (follows_last follow) 32 (components path) (end_mark follow path) (from start path))
-
-empty_is_short : (path : Bytes) → is_empty path ≡ true → length path ≡ 0
-empty_is_short [] is = refl
-empty_is_short (b ∷ path) is = cc
 
 long_is_not_empty : (path : Bytes) → 1023 < length path → is_empty path ≡ false
 long_is_not_empty [] long = absurd (omega arith)

@@ -1,8 +1,7 @@
 -- Trees whose names and contents are bytes. The definitions use unbounded numbers, so this is a separate condition.
 use Rattle.std.specs.Prelude.{◌≡◌, ℕ, Bool, IsTrue, nat_lt, Some}
 use Rattle.std.specs.List.{list_all}
-use Rattle.pv_model.specs.Bytes.{Bytes}
-use Rattle.pv_model.specs.Tree.{Node, directory_node, file_node, link_node, Tree, node_at}
+use Rattle.pv_model.specs.Machine.{Bytes, Node, directory_node, file_node, link_node, Tree, node_at}
 
 abbrev pub is_byte : ℕ → Bool
 is_byte b = nat_lt b 256

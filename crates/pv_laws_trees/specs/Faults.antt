@@ -1,8 +1,8 @@
 -- The first error of bytes that are not an image.
 use Rattle.std.specs.Prelude.{◌≡◌, ◌↔◌, Err}
 use Rattle.pv_model.specs.declared.fault.ImageFault.{ImageFault}
-use Rattle.pv_model.specs.Bytes.{Bytes}
-use Rattle.pv_model.specs.Mount.{mounted, IsFaultOf}
+use Rattle.pv_model.specs.Machine.{Bytes, mounted}
+use Rattle.pv_model.specs.Mount.{IsFaultOf}
 
 -- `mounted` gives an error if and only if it is the first
 abbrev pub FirstFaultIsNamed : Type 0

@@ -1,6 +1,6 @@
 -- Maps from a directory and a name to a node, such as `find_entry` of a tree.
 use Rattle.std.specs.Prelude.{◌≡◌, ℕ, Option}
-use Rattle.pv_model.specs.Bytes.{Bytes}
+use Rattle.pv_model.specs.Machine.{Bytes}
 
 -- two maps are equal
 abbrev pub Alike : (ℕ → Bytes → Option ℕ) → (ℕ → Bytes → Option ℕ) → Type 0

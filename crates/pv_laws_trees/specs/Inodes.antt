@@ -3,11 +3,9 @@ use Rattle.std.specs.Prelude.{◌≡◌, ◌≢◌, ◌↔◌, ℕ, ◌%◌, ◌
 use Rattle.std.specs.List.{AllByRecursion, list_any}
 use Rattle.pv_model.specs.declared.limits.TheConstants.{LINK_TEXT}
 use Rattle.pv_model.specs.declared.version.Version.{Version}
-use Rattle.pv_model.specs.Bytes.{Bytes}
-use Rattle.pv_model.specs.Image.{stored_count, inode_blocks, inode, size, content}
-use Rattle.pv_model.specs.Mount.{slot_number, slot_length, slot_name, appears_twice, block_number, inode_number, kind, is_free, has_bad_inode, used_by, used_before, has_bad_block, slots_at, has_bad_content, name_count, is_reached_within, may_be_named, has_bad_place, tree_in}
-use Rattle.pv_model.specs.Room.{entry_length, greatest_length}
-use Rattle.pv_model.specs.Tree.{root, find_entry, names_of, greatest_name, is_name, IsReached}
+use Rattle.pv_model.specs.Machine.{Bytes, inode_blocks, inode, size, content, slot_number, slot_length, slot_name, appears_twice, block_number, inode_number, kind, is_free, has_bad_inode, has_bad_block, slots_at, has_bad_content, name_count, is_reached_within, tree_in, entry_length, greatest_length, root, find_entry, names_of, greatest_name, is_name, IsReached}
+use Rattle.pv_model.specs.Image.{stored_count}
+use Rattle.pv_model.specs.Mount.{used_by, used_before, may_be_named, has_bad_place}
 
 -- a valid kind, and a size that it may have
 pub record IsFineInode (v : Version) (k s : ℕ) : Type 0 where
@@ -45,7 +43,7 @@ pub record IsFineContent (v : Version) (bytes : Bytes) (n : ℕ) : Type 0 where
   pub text : IsTrue (kind v bytes n == 4) → IsFalse (list_any (λ b. b == 0) (content v bytes n))
 
 -- the number of names is allowed for the kind and equals the stored count, and slots lead to the inode from the root
-pub record IsFinePlace (v : Version) (bytes : Bytes) (n : ℕ) : Type 0 where
+pub record IsInPlace (v : Version) (bytes : Bytes) (n : ℕ) : Type 0 where
   pub named : IsTrue (may_be_named v bytes n (name_count v bytes n))
   pub stored : stored_count v (inode v bytes n) ≡ name_count v bytes n
   pub reached : IsTrue (is_reached_within v bytes (inode_number bytes) n)
@@ -75,13 +73,13 @@ abbrev pub ContentsAreTested : Type 0
 ContentsAreTested = (v : Version) (bytes : Bytes) (n : ℕ) → IsFalse (has_bad_content v bytes n) ↔ IsFineContent v bytes n
 
 abbrev pub PlacesAreTested : Type 0
-PlacesAreTested = (v : Version) (bytes : Bytes) (n : ℕ) → IsFalse (has_bad_place v bytes n) ↔ (IsTrue (is_placed v bytes n) → IsFinePlace v bytes n)
+PlacesAreTested = (v : Version) (bytes : Bytes) (n : ℕ) → IsFalse (has_bad_place v bytes n) ↔ (IsTrue (is_placed v bytes n) → IsInPlace v bytes n)
 
 -- a node has one name for each slot that contains its number
 abbrev pub NamesAreSlots : Type 0
 NamesAreSlots = (v : Version) (bytes : Bytes) (n : ℕ) → EachOnce v bytes → length (names_of (tree_in v bytes) n) ≡ name_count v bytes n
 
--- a node that entries reach from the root is reached within as many steps as there are inodes
+-- a node that entries reach from the root is reached within n steps, if there are n inodes
 abbrev pub ReachedInFewSteps : Type 0
 ReachedInFewSteps =
     (v : Version) (bytes : Bytes) (n : ℕ) → EachOnce v bytes → HasInodes v bytes

@@ -1,11 +1,7 @@
 -- Laws of mounting.
 use Rattle.std.specs.Prelude.{◌≡◌, ◌↔◌, Ok}
-use Rattle.pv_model.specs.Bytes.{Bytes}
-use Rattle.pv_model.specs.Image.{IsImageOf}
-use Rattle.pv_model.specs.Mount.{mounted}
-use Rattle.pv_model.specs.Start.{booted, IsAccepted}
-use Rattle.pv_model.specs.State.{State}
-use Rattle.pv_model.specs.Tree.{Tree}
+use Rattle.pv_model.specs.Machine.{Bytes, IsImageOf, mounted, booted, State, Tree}
+use Rattle.pv_model.specs.Start.{IsAccepted}
 
 -- bytes mount as a tree if and only if they are an image of that tree
 abbrev pub MountsImages : Type 0

@@ -4,7 +4,7 @@ use Rattle.pv_model.specs.declared.kind.NewNode.{NewNode}
 use Rattle.pv_model.specs.declared.kind.NewNode.TheVariants.{Directory, File, Executable, Symlink}
 use Rattle.pv_model.specs.declared.kind.Kind.{Kind}
 use Rattle.pv_model.specs.declared.kind.Kind.TheVariants.{Directory as KindDirectory, File as KindFile, Executable as KindExecutable, Symlink as KindSymlink}
-use Rattle.pv_model.specs.Tree.{Node, directory_node, file_node, link_node}
+use Rattle.pv_model.specs.Machine.{Node, directory_node, file_node, link_node}
 
 -- a new node
 abbrev pub new_node : NewNode → Node

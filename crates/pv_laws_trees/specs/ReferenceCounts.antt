@@ -1,6 +1,6 @@
 -- The nodes that remain in a tree with reference counts.
 use Rattle.std.specs.Prelude.{ℕ, zero, suc, List, [], ◌∷◌}
-use Rattle.pv_model.specs.Tree.{Tree}
+use Rattle.pv_model.specs.Machine.{Tree}
 use Rattle.pv_laws_trees.specs.Preserved.{preserved}
 
 abbrev pub held_from : ℕ → List ℕ → List ℕ

@@ -1,10 +1,9 @@
 -- Laws of the room that nodes need.
 use Rattle.std.specs.Prelude.{◌≡◌, ℕ, ◌≤◌, IsTrue, Option, None, Some}
 use Rattle.pv_model.specs.declared.version.Version.{Version}
-use Rattle.pv_model.specs.Room.{node_length, need, is_too_long, fits}
-use Rattle.pv_model.specs.Tree.{Node, Tree, node_at}
+use Rattle.pv_model.specs.Machine.{node_length, need, is_too_long, fits, Node, Tree, node_at}
 
--- a longer content needs at least as many blocks
+-- a longer content does not need fewer blocks
 abbrev pub NeedGrows : Type 0
 NeedGrows = (v : Version) (m n : ℕ) → m ≤ n → need v m ≤ need v n
 
@@ -25,6 +24,6 @@ pub record IsNoLarger (u t : Tree) : Type 0 where
 abbrev pub SmallerFits : Type 0
 SmallerFits = (t u : Tree) → IsNoLarger u t → IsTrue (fits t) → IsTrue (fits u)
 
--- if a tree with fewer or shorter nodes has a node that is too long, so does the other tree
+-- if a tree with fewer or shorter nodes has a node that is too long, the other tree has one too
 abbrev pub SmallerIsNotTooLong : Type 0
 SmallerIsNotTooLong = (t u : Tree) → IsNoLarger u t → IsTrue (is_too_long u) → IsTrue (is_too_long t)

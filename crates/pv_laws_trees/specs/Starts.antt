@@ -1,10 +1,7 @@
 -- The start of a machine.
 use Rattle.std.specs.Prelude.{◌≡◌}
 use Rattle.std.specs.Result.{result_ok}
-use Rattle.pv_model.specs.Grammar.Programs.{program_of}
-use Rattle.pv_model.specs.Start.{booted}
-use Rattle.pv_model.specs.Step.{boot}
-use Rattle.pv_model.specs.Tree.{Tree}
+use Rattle.pv_model.specs.Machine.{program_of, booted, boot, Tree}
 
 -- `booted` and `boot` give the same first state
 abbrev pub StartsIfInitParses : Type 0

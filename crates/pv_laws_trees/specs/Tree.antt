@@ -3,13 +3,10 @@ use Rattle.std.specs.Prelude.{◌≡◌, ◌≢◌, ◌↔◌, ℕ, suc, ◌≤�
 use Rattle.std.specs.List.{list_any}
 use Rattle.std.specs.Cmp.Lexicographic.{slice_cmp}
 use Rattle.std.specs.Ordering.{nat_cmp, eq_by_cmp}
-use Rattle.pv_model.specs.Bytes.{Bytes}
-use Rattle.pv_model.specs.Calls.Descriptors.{with_content}
-use Rattle.pv_model.specs.Calls.Paths.{contains_directory, entries_there}
-use Rattle.pv_model.specs.Tree.{Node, Tree, root, node_at, entries_of, entries_at, is_directory_at, find_entry, parent, ancestors, IsAtOrAbove, is_removed, with_entry, without_entry, new_number, with_new_node, is_name, is_node, IsReached, IsWellFormed}
+use Rattle.pv_model.specs.Machine.{Bytes, with_content, contains_directory, entries_there, Node, Tree, root, node_at, entries_of, entries_at, is_directory_at, find_entry, parent, ancestors, IsAtOrAbove, is_removed, with_entry, without_entry, new_number, with_new_node, is_name, is_node, IsReached, IsWellFormed}
 
 -- the conditions on individual entries that make a tree well-formed
-pub record IsSound (t : Tree) : Type 0 where
+pub record IsSoundTree (t : Tree) : Type 0 where
   pub numbers : length t.nodes ≡ suc t.inodes
   pub no_zero : (n : ℕ) (node : Node) → node_at t n ≡ Some node → n ≢ 0
   pub each_node : (n : ℕ) (node : Node) → node_at t n ≡ Some node → IsTrue (is_node t.version node)
@@ -24,7 +21,7 @@ pub record IsSound (t : Tree) : Type 0 where
 
 -- a tree is well-formed if and only if it satisfies the conditions on its entries
 abbrev pub SoundIsWellFormed : Type 0
-SoundIsWellFormed = (t : Tree) → IsWellFormed t ↔ IsSound t
+SoundIsWellFormed = (t : Tree) → IsWellFormed t ↔ IsSoundTree t
 
 -- the parent of a directory is the one directory that has an entry for it
 abbrev pub ParentHasEntry : Type 0

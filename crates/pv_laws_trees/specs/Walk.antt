@@ -6,9 +6,8 @@ use Rattle.pv_model.specs.declared.errno.Errno.TheVariants.{ENOENT, ENOTDIR, ELO
 use Rattle.pv_model.specs.declared.follow.Follow.{Follow}
 use Rattle.pv_model.specs.declared.place.Place.{Place}
 use Rattle.pv_model.specs.declared.place.Place.TheVariants.{At, Node as Unnamed}
-use Rattle.pv_model.specs.Bytes.{Bytes, is_empty}
-use Rattle.pv_model.specs.Tree.{Node, directory_node, file_node, link_node, Tree, greatest_name, root, node_at, entries_at, is_directory_at, find_entry, parent, is_removed, is_name, IsWellFormed}
-use Rattle.pv_model.specs.Walk.{components, is_absolute, ends_in_slash, weight, is_dot, is_dot_dot, follows_last, end_mark, Walked, resolve}
+use Rattle.pv_model.specs.Machine.{Bytes, is_empty, Node, directory_node, file_node, link_node, Tree, greatest_name, root, node_at, entries_at, is_directory_at, find_entry, parent, is_removed, is_name, IsWellFormed, components, is_absolute, weight, follows_last, end_mark, Walked, resolve}
+use Rattle.pv_model.specs.Walk.{ends_in_slash, is_dot, is_dot_dot}
 
 -- the component is a name whose length the tree allows
 pub record IsLookedUp (t : Tree) (component : Bytes) : Type 0 where
@@ -17,7 +16,7 @@ pub record IsLookedUp (t : Tree) (component : Bytes) : Type 0 where
   pub short : length component ≤ greatest_name t.version
 
 -- the directory is not removed and has the node under the component
-pub record LeadsTo (t : Tree) (at : ℕ) (component : Bytes) (n : ℕ) (node : Node) : Type 0 where
+pub record HasNodeAt (t : Tree) (at : ℕ) (component : Bytes) (n : ℕ) (node : Node) : Type 0 where
   pub name : IsLookedUp t component
   pub appears : IsFalse (is_removed t at)
   pub entry : find_entry t at component ≡ Some n
@@ -50,27 +49,27 @@ pub data Walks (t : Tree) (last : Bool) : ℕ → List Bytes → Bool → ℕ �
   vacant : (links : ℕ) (component : Bytes) (at : ℕ) → IsLookedUp t component → IsFalse (is_removed t at) → find_entry t at component ≡ None
       → Walks t last links (component ∷ []) false at (Ok (At at component None))
   -- 6. a link is followed: its components come before the rest, from its directory or from the root
-  out_of_links : (component : Bytes) (rest : List Bytes) (mark : Bool) (at n : ℕ) (text : Bytes) → LeadsTo t at component n (link_node text) → IsTrue (is_followed rest mark last)
+  out_of_links : (component : Bytes) (rest : List Bytes) (mark : Bool) (at n : ℕ) (text : Bytes) → HasNodeAt t at component n (link_node text) → IsTrue (is_followed rest mark last)
       → Walks t last 0 (component ∷ rest) mark at (Err ELOOP)
-  too_heavy : (links : ℕ) (component : Bytes) (rest : List Bytes) (mark : Bool) (at n : ℕ) (text : Bytes) → LeadsTo t at component n (link_node text) → IsTrue (is_followed rest mark last)
+  too_heavy : (links : ℕ) (component : Bytes) (rest : List Bytes) (mark : Bool) (at n : ℕ) (text : Bytes) → HasNodeAt t at component n (link_node text) → IsTrue (is_followed rest mark last)
       → WEIGHT < weight (components text ++ rest) → Walks t last (suc links) (component ∷ rest) mark at (Err ENAMETOOLONG)
   through : (links : ℕ) (component : Bytes) (rest : List Bytes) (mark : Bool) (at n : ℕ) (text : Bytes) (r : Walked)
-      → LeadsTo t at component n (link_node text) → IsTrue (is_followed rest mark last) → weight (components text ++ rest) ≤ WEIGHT
+      → HasNodeAt t at component n (link_node text) → IsTrue (is_followed rest mark last) → weight (components text ++ rest) ≤ WEIGHT
       → Walks t last links (components text ++ rest) (mark || (is_empty rest && ends_in_slash text)) (if is_absolute text then root else at) r
       → Walks t last (suc links) (component ∷ rest) mark at r
   -- 7. a component remains: a directory is entered, and a file is an error
-  enters : (links : ℕ) (component : Bytes) (next : Bytes) (rest : List Bytes) (mark : Bool) (at n : ℕ) (es : List (Bytes × ℕ)) (r : Walked) → LeadsTo t at component n (directory_node es)
+  enters : (links : ℕ) (component : Bytes) (next : Bytes) (rest : List Bytes) (mark : Bool) (at n : ℕ) (es : List (Bytes × ℕ)) (r : Walked) → HasNodeAt t at component n (directory_node es)
       → Walks t last links (next ∷ rest) mark n r → Walks t last links (component ∷ next ∷ rest) mark at r
   not_entered : (links : ℕ) (component : Bytes) (next : Bytes) (rest : List Bytes) (mark : Bool) (at n : ℕ) (executable : Bool) (bytes : Bytes)
-      → LeadsTo t at component n (file_node executable bytes) → Walks t last links (component ∷ next ∷ rest) mark at (Err ENOTDIR)
+      → HasNodeAt t at component n (file_node executable bytes) → Walks t last links (component ∷ next ∷ rest) mark at (Err ENOTDIR)
   -- 8. the last component: the place, but a file before a final slash is an error
-  finds_directory : (links : ℕ) (component : Bytes) (mark : Bool) (at n : ℕ) (es : List (Bytes × ℕ)) → LeadsTo t at component n (directory_node es)
+  finds_directory : (links : ℕ) (component : Bytes) (mark : Bool) (at n : ℕ) (es : List (Bytes × ℕ)) → HasNodeAt t at component n (directory_node es)
       → Walks t last links (component ∷ []) mark at (Ok (At at component (Some n)))
-  finds_file : (links : ℕ) (component : Bytes) (at n : ℕ) (executable : Bool) (bytes : Bytes) → LeadsTo t at component n (file_node executable bytes)
+  finds_file : (links : ℕ) (component : Bytes) (at n : ℕ) (executable : Bool) (bytes : Bytes) → HasNodeAt t at component n (file_node executable bytes)
       → Walks t last links (component ∷ []) false at (Ok (At at component (Some n)))
-  finds_link : (links : ℕ) (component : Bytes) (rest : List Bytes) (mark : Bool) (at n : ℕ) (text : Bytes) → LeadsTo t at component n (link_node text) → IsFalse (is_followed rest mark last)
+  finds_link : (links : ℕ) (component : Bytes) (rest : List Bytes) (mark : Bool) (at n : ℕ) (text : Bytes) → HasNodeAt t at component n (link_node text) → IsFalse (is_followed rest mark last)
       → Walks t last links (component ∷ rest) mark at (Ok (At at component (Some n)))
-  wants_directory : (links : ℕ) (component : Bytes) (at n : ℕ) (executable : Bool) (bytes : Bytes) → LeadsTo t at component n (file_node executable bytes)
+  wants_directory : (links : ℕ) (component : Bytes) (at n : ℕ) (executable : Bool) (bytes : Bytes) → HasNodeAt t at component n (file_node executable bytes)
       → Walks t last links (component ∷ []) true at (Err ENOTDIR)
   -- an entry without a node, which a well-formed tree does not have
   lost : (links : ℕ) (component : Bytes) (rest : List Bytes) (mark : Bool) (at n : ℕ) → IsLookedUp t component → IsFalse (is_removed t at) → find_entry t at component ≡ Some n → node_at t n ≡ None
@@ -114,23 +113,23 @@ LeadsToPlace =
     → resolve t follow start path ≡ Ok place → IsPlace t place
 
 -- the part of a node that a walk reads: its kind, and the text of a link
-pub data Seen : Type 0 where
-  no_node : Seen
-  a_directory : Seen
-  a_file : Seen
-  a_link : (text : Bytes) → Seen
+pub data WalkedNode : Type 0 where
+  no_node : WalkedNode
+  a_directory : WalkedNode
+  a_file : WalkedNode
+  a_link : (text : Bytes) → WalkedNode
 
-abbrev pub seen : Option Node → Seen
-seen None = no_node
-seen (Some (directory_node es)) = a_directory
-seen (Some (file_node executable bytes)) = a_file
-seen (Some (link_node text)) = a_link text
+abbrev pub walked_node : Option Node → WalkedNode
+walked_node None = no_node
+walked_node (Some (directory_node es)) = a_directory
+walked_node (Some (file_node executable bytes)) = a_file
+walked_node (Some (link_node text)) = a_link text
 
 -- two trees with the same entries, the same kinds of nodes and the same links
 pub record LooksAlike (t u : Tree) : Type 0 where
   pub version : u.version ≡ t.version
   pub entries : (d : ℕ) → entries_at u d ≡ entries_at t d
-  pub nodes : (n : ℕ) → seen (node_at u n) ≡ seen (node_at t n)
+  pub nodes : (n : ℕ) → walked_node (node_at u n) ≡ walked_node (node_at t n)
 
 -- a walk reads nothing else; in particular, it does not read the bytes of files
 abbrev pub WalksAlike : Type 0

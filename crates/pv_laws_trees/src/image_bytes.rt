@@ -54,7 +54,7 @@ pub fn names_are_slots()
 {}
 
 /// If no directory contains a name twice and every entry names an inode, a node that entries reach from the root is
-/// reached within as many steps as there are inodes.
+/// reached within n steps, if there are n inodes.
 pub fn reached_in_few_steps()
     ensures { ReachedInFewSteps }
 {}

@@ -2,7 +2,7 @@
 
 ghost use Rattle.pv_laws_trees.specs.Room.{NeedGrows, SmallerFits, SmallerIsNotTooLong};
 
-/// A longer content needs at least as many blocks.
+/// A longer content does not need fewer blocks.
 pub fn need_grows()
     ensures { NeedGrows }
 {}

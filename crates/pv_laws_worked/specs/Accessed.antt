@@ -1,9 +1,7 @@
 -- The text of `access` for small bundles, as a second implementation answers.
 use Rattle.std.specs.Prelude.{◌≡◌, ℕ, List, [], ◌∷◌, codes, Option, Some, option_map, refl}
 use Rattle.pv_model.specs.Answers.Access.{access_lines}
-use Rattle.pv_model.specs.Answers.Lines.{answer_bytes}
-use Rattle.pv_model.specs.Bytes.{Bytes}
-use Rattle.pv_model.specs.Grammar.Programs.{program_of}
+use Rattle.pv_model.specs.Machine.{answer_bytes, Bytes, program_of}
 use Rattle.pv_laws_worked.specs.Bundles.{lines_text}
 use Rattle.pv_laws_worked.specs.Questions.{questions_on_literals, started}
 
@@ -89,7 +87,7 @@ unfolding questions_on_literals
 no_bytes_no_access = refl
 
 -- a file is not listed as unread if its number is read after its removal, nor if it is `init`
-pub numbers_are_used_again : access_text 1000 (
+pub accesses_of_reused_numbers : access_text 1000 (
     codes "image 16 16" ∷
     codes "bytes \"/secret\" \"key\"" ∷
     codes "bytes \"/other\" \"o\"" ∷
@@ -119,7 +117,7 @@ pub numbers_are_used_again : access_text 1000 (
     codes "    0 UNRD  \"/other\"" ∷
     codes "    0 DONE  9 states, complete" ∷ []))
 unfolding questions_on_literals
-numbers_are_used_again = refl
+accesses_of_reused_numbers = refl
 
 -- a rename changes both names, in the order of its paths; only the first step with an access is listed
 pub both_names_of_rename : access_text 1000 (

@@ -23,16 +23,13 @@ use Rattle.pv_laws_worked.specs.Starts
 use Rattle.pv_laws_worked.specs.Texts
 use Rattle.pv_laws_worked.specs.Unveils
 use Rattle.pv_laws_worked.specs.Walks
-
--- the statement of a theorem
-abbrev pub Stated : {A : Type 0} → A → Type 0
-Stated {A} theorem = A
+use Rattle.pv_laws_worked.specs.Stated.{Stated}
 
 pub record AllAccessed : Type 0 where
   pub truncation_and_creation : Stated Accessed.truncation_and_creation
   pub refused_programs_are_read : Stated Accessed.refused_programs_are_read
   pub no_bytes_no_access : Stated Accessed.no_bytes_no_access
-  pub numbers_are_used_again : Stated Accessed.numbers_are_used_again
+  pub accesses_of_reused_numbers : Stated Accessed.accesses_of_reused_numbers
   pub both_names_of_rename : Stated Accessed.both_names_of_rename
   pub second_name_of_link : Stated Accessed.second_name_of_link
   pub nodes_of_descriptors : Stated Accessed.nodes_of_descriptors
@@ -58,7 +55,7 @@ pub record AllAudits : Type 0 where
   pub exposed_by_permission_c : Stated Audits.exposed_by_permission_c
   pub exposed_two_above : Stated Audits.exposed_two_above
   pub sealed_without_lock : Stated Audits.sealed_without_lock
-  pub all_reported : Stated Audits.all_reported
+  pub all_reasons_are_reported : Stated Audits.all_reasons_are_reported
 
 pub record AllCompared : Type 0 where
   pub an_entry_with_fewer_permissions : Stated Compared.an_entry_with_fewer_permissions
@@ -107,9 +104,9 @@ pub record AllExplored : Type 0 where
 pub record AllExposures : Type 0 where
   pub lines_of_a_state : Stated Exposures.lines_of_a_state
   pub ranges_of_lines : Stated Exposures.ranges_of_lines
-  pub safe_files : Stated Exposures.safe_files
+  pub safe_files_are_listed : Stated Exposures.safe_files_are_listed
   pub safe_if_complete : Stated Exposures.safe_if_complete
-  pub numbers_are_used_again : Stated Exposures.numbers_are_used_again
+  pub exposures_of_reused_numbers : Stated Exposures.exposures_of_reused_numbers
   pub entries_above : Stated Exposures.entries_above
   pub execve_without_restraints : Stated Exposures.execve_without_restraints
   pub no_first_program : Stated Exposures.no_first_program
@@ -119,7 +116,7 @@ pub record AllExposures : Type 0 where
 pub record AllFiles : Type 0 where
   pub shared_offset : Stated Files.shared_offset
   pub shared_offset_in_turn : Stated Files.shared_offset_in_turn
-  pub listing : Stated Files.listing
+  pub getdents_lists : Stated Files.getdents_lists
   pub moved_directory : Stated Files.moved_directory
   pub removed_directory : Stated Files.removed_directory
   pub rename_refusals : Stated Files.rename_refusals
@@ -128,7 +125,7 @@ pub record AllFiles : Type 0 where
   pub listing_of_dot_name : Stated Files.listing_of_dot_name
 
 pub record AllGrammars : Type 0 where
-  pub no_bytes : Stated Grammars.no_bytes
+  pub no_bytes_are_a_program : Stated Grammars.no_bytes_are_a_program
   pub no_line_end : Stated Grammars.no_line_end
   pub bad_target : Stated Grammars.bad_target
   pub two_spaces : Stated Grammars.two_spaces
@@ -238,6 +235,8 @@ pub record AllPolicies : Type 0 where
   pub files_of_one_program : Stated Policies.files_of_one_program
   pub programs_without_calls : Stated Policies.programs_without_calls
   pub idle_if_complete : Stated Policies.idle_if_complete
+  pub granted_calls_alone : Stated Policies.granted_calls_alone
+  pub refused_programs : Stated Policies.refused_programs
 
 pub record AllProcesses : Type 0 where
   pub ends : Stated Processes.ends
@@ -247,7 +246,7 @@ pub record AllProcesses : Type 0 where
 
 pub record AllPromises : Type 0 where
   pub error_promise : Stated Promises.error_promise
-  pub promise_texts : Stated Promises.promise_texts
+  pub promise_texts_parse : Stated Promises.promise_texts_parse
   pub killed_and_waited : Stated Promises.killed_and_waited
   pub rename_without_promise : Stated Promises.rename_without_promise
   pub create_without_promise : Stated Promises.create_without_promise
@@ -267,7 +266,7 @@ pub record AllRooms : Type 0 where
   pub greatest_in_version_2 : Stated Rooms.greatest_in_version_2
   pub eight_entries : Stated Rooms.eight_entries
   pub full : Stated Rooms.full
-  pub moved : Stated Rooms.moved
+  pub room_after_move : Stated Rooms.room_after_move
   pub added : Stated Rooms.added
 
 pub record AllSources : Type 0 where
@@ -281,7 +280,7 @@ pub record AllSources : Type 0 where
   pub each_line_is_judged : Stated Sources.each_line_is_judged
   pub labels_at_fault : Stated Sources.labels_at_fault
   pub faults_of_the_tree : Stated Sources.faults_of_the_tree
-  pub init_is_a_directory : Stated Sources.init_is_a_directory
+  pub sources_with_init_as_directory : Stated Sources.sources_with_init_as_directory
   pub exec_at_fault : Stated Sources.exec_at_fault
   pub twenty_are_reported : Stated Sources.twenty_are_reported
   pub instructions_too_many : Stated Sources.instructions_too_many
@@ -292,7 +291,7 @@ pub record AllStarts : Type 0 where
   pub entries_come_before_schedule : Stated Starts.entries_come_before_schedule
   pub schedule_comes_before_init : Stated Starts.schedule_comes_before_init
   pub line_of_init : Stated Starts.line_of_init
-  pub init_is_a_directory : Stated Starts.init_is_a_directory
+  pub bundles_with_init_as_directory : Stated Starts.bundles_with_init_as_directory
   pub init_is_not_executable : Stated Starts.init_is_not_executable
   pub init_is_too_long : Stated Starts.init_is_too_long
   pub image_comes_first : Stated Starts.image_comes_first

@@ -1,8 +1,8 @@
 -- Audits after a run, of one file and of all files.
 use Rattle.std.specs.Prelude.{◌≡◌, [], ◌∷◌, codes, Some, refl}
-use Rattle.pv_model.specs.Listing.{report}
+use Rattle.pv_model.specs.Machine.{report}
 use Rattle.pv_model.specs.Sealed.{verdict_line}
-use Rattle.pv_laws_worked.specs.Bundles.{audited_of, reported_of, lines_text, bundles_on_literals}
+use Rattle.pv_laws_worked.specs.Bundles.{audited_of, report_of_bundle, lines_text, bundles_on_literals}
 
 -- a path without a file
 pub audit_absent : audited_of (
@@ -232,7 +232,7 @@ unfolding bundles_on_literals
 sealed_without_lock = refl
 
 -- every name of a file in the order of a listing, without directories and links
-pub all_reported : reported_of (
+pub all_reasons_are_reported : report_of_bundle (
     codes "image 64 64" ∷
     codes "dir \"/pub\"" ∷
     codes "bytes \"/pub/motd\" \"hi\"" ∷
@@ -252,4 +252,4 @@ pub all_reported : reported_of (
     codes "\"/secret\" sealed and frozen" ∷
     codes "\"/two\" exposed: process 1, entry 0 gives" ∷ []))
 unfolding bundles_on_literals report verdict_line
-all_reported = refl
+all_reasons_are_reported = refl

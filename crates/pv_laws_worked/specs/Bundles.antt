@@ -5,19 +5,13 @@ use Rattle.std.specs.Result.{result_ok}
 use Rattle.pv_model.specs.declared.verdict.AuditFault.{AuditFault}
 use Rattle.pv_model.specs.declared.verdict.AuditFault.TheVariants.{Walk, NotFile}
 use Rattle.pv_model.specs.declared.verdict.Verdict.{Verdict}
-use Rattle.pv_model.specs.Bytes.{Bytes}
-use Rattle.pv_model.specs.Errno.{errno_number, errno_name}
-use Rattle.pv_model.specs.Grammar.Arguments.{text_at, flags_of}
+use Rattle.pv_model.specs.Machine.{Bytes, errno_number, text_at, Manifest, read_manifest, read_bundle, add_entry, tree_of, with_line_end, read_program, program_of, schedule_of_lines, report, machine_on_literals, Run, Schedule, steps_of, boot, run, Word, call_word, nami_word, Line, trace_bytes, Tree}
+use Rattle.pv_model.specs.Errno.{errno_name}
+use Rattle.pv_model.specs.Grammar.Arguments.{flags_of}
 use Rattle.pv_model.specs.Grammar.Instructions.{instruction_by}
-use Rattle.pv_model.specs.Grammar.Manifests.{Manifest, entry_by, read_manifest, read_bundle, add_entry, tree_of, with_line_end}
-use Rattle.pv_model.specs.Grammar.Programs.{read_program, program_of}
-use Rattle.pv_model.specs.Grammar.Schedules.{schedule_of_lines}
-use Rattle.pv_model.specs.Listing.{report}
-use Rattle.pv_model.specs.OnLiterals.{machine_on_literals}
+use Rattle.pv_model.specs.Grammar.Manifests.{entry_by}
 use Rattle.pv_model.specs.Sealed.{audit, verdict_text}
-use Rattle.pv_model.specs.Step.{Run, Schedule, steps_of, boot, run}
-use Rattle.pv_model.specs.Trace.{Word, call_word, nami_word, Line, pad_right, word_name, word_text, trace_bytes}
-use Rattle.pv_model.specs.Tree.{Tree}
+use Rattle.pv_model.specs.Trace.{pad_right, word_name, word_text}
 
 -- the definitions to unfold in a proof by computation
 unfoldable pub bundles_on_literals : ⊤
@@ -39,17 +33,17 @@ run_of_parts m =
     option_and_then (λ t. option_and_then (run_on t) (result_ok (schedule_of_lines m.listed.following))) (result_ok (tree_of m))
 
 -- the run of a bundle, given its lines
-abbrev pub run_of : List Bytes → Option Run
-run_of lines = option_and_then run_of_parts (result_ok (read_bundle (lines_text lines)))
+abbrev pub run_of_bundle : List Bytes → Option Run
+run_of_bundle lines = option_and_then run_of_parts (result_ok (read_bundle (lines_text lines)))
 
 -- the trace of that run
-abbrev pub text_of : List Bytes → Option Bytes
-text_of lines = option_map (λ r. trace_bytes r.lines) (run_of lines)
+abbrev pub trace_of_bundle : List Bytes → Option Bytes
+trace_of_bundle lines = option_map (λ r. trace_bytes r.lines) (run_of_bundle lines)
 
-abbrev pub is_shown : Word → Bool
-is_shown (call_word call) = false
-is_shown (nami_word path) = false
-is_shown _ = true
+abbrev pub is_word_shown : Word → Bool
+is_word_shown (call_word call) = false
+is_word_shown (nami_word path) = false
+is_word_shown _ = true
 
 abbrev pub number_shown : ℕ → Bytes
 number_shown pid = if pid == 1 then [] else decimal pid ++ codes " "
@@ -59,7 +53,7 @@ shown_line l = number_shown l.pid ++ pad_right 4 (word_name l.word) ++ codes "  
 
 -- the lines of that run without CALL and NAMI, and without the number of process 1
 abbrev pub shown_of : List Bytes → Option (List Bytes)
-shown_of lines = option_map (λ r. map shown_line (filter (λ l. is_shown l.word) r.lines)) (run_of lines)
+shown_of lines = option_map (λ r. map shown_line (filter (λ l. is_word_shown l.word) r.lines)) (run_of_bundle lines)
 
 abbrev pub audited_text : Result Verdict AuditFault → Bytes
 audited_text (Ok found) = verdict_text found
@@ -68,8 +62,8 @@ audited_text (Err NotFile) = codes "not a file"
 
 -- the audit of a path after that run
 abbrev pub audited_of : List Bytes → Bytes → Option Bytes
-audited_of lines path = option_map (λ r. audited_text (audit r.final path)) (run_of lines)
+audited_of lines path = option_map (λ r. audited_text (audit r.final path)) (run_of_bundle lines)
 
 -- the report of all files after that run
-abbrev pub reported_of : List Bytes → Option Bytes
-reported_of lines = option_map (λ r. report r.final) (run_of lines)
+abbrev pub report_of_bundle : List Bytes → Option Bytes
+report_of_bundle lines = option_map (λ r. report r.final) (run_of_bundle lines)

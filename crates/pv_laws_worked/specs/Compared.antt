@@ -1,9 +1,7 @@
 -- The text of `compare` for pairs of small bundles, as a second implementation answers.
 use Rattle.std.specs.Prelude.{◌≡◌, ℕ, List, [], ◌∷◌, codes, Option, Some, option_map, option_and_then, refl}
-use Rattle.pv_model.specs.Answers.Compare.{comparison, comparison_lines}
-use Rattle.pv_model.specs.Answers.Lines.{answer_bytes}
-use Rattle.pv_model.specs.Bytes.{Bytes}
-use Rattle.pv_model.specs.Grammar.Programs.{program_of}
+use Rattle.pv_model.specs.Machine.{comparison, answer_bytes, Bytes, program_of}
+use Rattle.pv_model.specs.Answers.Compare.{comparison_lines}
 use Rattle.pv_laws_worked.specs.Bundles.{lines_text}
 use Rattle.pv_laws_worked.specs.Questions.{questions_on_literals, started}
 
@@ -84,7 +82,7 @@ pub refused_calls_of_setup : compare_text 1000 (
 unfolding questions_on_literals
 refused_calls_of_setup = refl
 
--- a pledge beside another call is compared
+-- a pledge paired with another call is compared
 pub other_calls_are_compared : compare_text 1000 (
     codes "image 16 16" ∷
     codes "bytes \"/f\" \"f\"" ∷
@@ -233,7 +231,7 @@ pub an_empty_pledge : compare_text 1000 (
 unfolding questions_on_literals
 an_empty_pledge = refl
 
--- an image beside itself is never different
+-- an image never differs from itself
 pub an_image_beside_itself : compare_text 1000 (
     codes "image 8 8" ∷
     codes "exec \"/init\" 2" ∷

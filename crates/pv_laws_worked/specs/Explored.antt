@@ -1,10 +1,7 @@
 -- Searches of all schedules of small programs, and their state graphs.
 use Rattle.std.specs.Prelude.{◌≡◌, ℕ, Bool, false, List, [], ◌∷◌, codes, Option, Some, option_map, refl}
 use Rattle.pv_model.specs.Answers.Explore.{explore_lines}
-use Rattle.pv_model.specs.Answers.Graph.{graph_lines}
-use Rattle.pv_model.specs.Answers.Lines.{answer_bytes}
-use Rattle.pv_model.specs.Bytes.{Bytes}
-use Rattle.pv_model.specs.Grammar.Programs.{program_of}
+use Rattle.pv_model.specs.Machine.{graph_lines, answer_bytes, Bytes, program_of}
 use Rattle.pv_laws_worked.specs.Bundles.{lines_text}
 use Rattle.pv_laws_worked.specs.Questions.{questions_on_literals, started}
 

@@ -1,9 +1,7 @@
 -- The text of `exposure` for small bundles, as a second implementation answers.
 use Rattle.std.specs.Prelude.{◌≡◌, ℕ, List, [], ◌∷◌, codes, Option, Some, option_map, refl}
 use Rattle.pv_model.specs.Answers.Exposure.{exposure_lines}
-use Rattle.pv_model.specs.Answers.Lines.{answer_bytes}
-use Rattle.pv_model.specs.Bytes.{Bytes}
-use Rattle.pv_model.specs.Grammar.Programs.{program_of}
+use Rattle.pv_model.specs.Machine.{answer_bytes, Bytes, program_of}
 use Rattle.pv_laws_worked.specs.Bundles.{lines_text}
 use Rattle.pv_laws_worked.specs.Questions.{questions_on_literals, started}
 
@@ -55,7 +53,7 @@ unfolding questions_on_literals
 ranges_of_lines = refl
 
 -- a file is safe if every process of the program is closed to it in every state
-pub safe_files : exposure_text 1000 (
+pub safe_files_are_listed : exposure_text 1000 (
     codes "image 24 20" ∷
     codes "dir \"/etc\"" ∷
     codes "bytes \"/etc/key\" \"key\"" ∷
@@ -91,7 +89,7 @@ pub safe_files : exposure_text 1000 (
     codes "    0 SAFE  \"/init\"" ∷
     codes "    0 DONE  10 states, complete" ∷ []))
 unfolding questions_on_literals
-safe_files = refl
+safe_files_are_listed = refl
 
 -- no file is safe if the search is not complete
 pub safe_if_complete : exposure_text 8 (
@@ -130,8 +128,8 @@ pub safe_if_complete : exposure_text 8 (
 unfolding questions_on_literals
 safe_if_complete = refl
 
--- files are told apart by their words; the first state has an empty witness
-pub numbers_are_used_again : exposure_text 1000 (
+-- files are distinguished by their descriptions; the first state has an empty witness
+pub exposures_of_reused_numbers : exposure_text 1000 (
     codes "image 16 16" ∷
     codes "bytes \"/secret\" \"key\"" ∷
     codes "bytes \"/other\" \"o\"" ∷
@@ -155,7 +153,7 @@ pub numbers_are_used_again : exposure_text 1000 (
     codes "    1 LEAK  \"/mine\", lines 3-8, reads descriptor 0" ∷
     codes "    0 DONE  9 states, complete" ∷ []))
 unfolding questions_on_literals
-numbers_are_used_again = refl
+exposures_of_reused_numbers = refl
 
 -- a file is exposed by an entry with c above it
 pub entries_above : exposure_text 1000 (

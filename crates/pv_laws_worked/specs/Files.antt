@@ -44,7 +44,7 @@ unfolding bundles_on_literals
 shared_offset_in_turn = refl
 
 -- names are listed in order, even while they are removed
-pub listing : shown_of (
+pub getdents_lists : shown_of (
     codes "image 64 64" ∷
     codes "dir \"/d\"" ∷
     codes "bytes \"/d/b\" \"\"" ∷
@@ -66,7 +66,7 @@ pub listing : shown_of (
     codes "GIO   read 0" ∷
     codes "RET   getdents 0" ∷ [])
 unfolding bundles_on_literals
-listing = refl
+getdents_lists = refl
 
 -- a name that is created, looked up, and moved
 pub moved_directory : shown_of (

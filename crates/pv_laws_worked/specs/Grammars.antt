@@ -5,20 +5,16 @@ use Rattle.pv_model.specs.declared.fault.ParseFault.TheVariants.{Line}
 use Rattle.pv_model.specs.declared.fault.ScheduleFault.TheVariants.{Line as TurnLine}
 use Rattle.pv_model.specs.declared.fault.What.TheVariants.{Word, Argument, Target, TooMany}
 use Rattle.pv_model.specs.declared.instruction.Instruction.TheVariants.{Put, Fork}
-use Rattle.pv_model.specs.Grammar.Arguments.{text_at, flags_of}
+use Rattle.pv_model.specs.Machine.{text_at, read_manifest, read_bundle, add_entry, add_entries, read_program, read_schedule, make, further_name, empty_tree, file_node, machine_on_literals}
+use Rattle.pv_model.specs.Grammar.Arguments.{flags_of}
 use Rattle.pv_model.specs.Grammar.Instructions.{instruction_by}
-use Rattle.pv_model.specs.Grammar.Manifests.{entry_by, read_manifest, read_bundle, add_entry, add_entries}
-use Rattle.pv_model.specs.Grammar.Programs.{read_program}
-use Rattle.pv_model.specs.Grammar.Schedules.{read_schedule}
-use Rattle.pv_model.specs.Manifest.{make, further_name, empty_tree}
-use Rattle.pv_model.specs.Tree.{file_node}
-use Rattle.pv_model.specs.OnLiterals.{machine_on_literals}
+use Rattle.pv_model.specs.Grammar.Manifests.{entry_by}
 
 -- ---- programs
 
-pub no_bytes : read_program [] ≡ Ok []
+pub no_bytes_are_a_program : read_program [] ≡ Ok []
 unfolding read_program
-no_bytes = refl
+no_bytes_are_a_program = refl
 
 pub no_line_end : read_program (codes "fork") ≡ Ok (Fork ∷ [])
 unfolding read_program instruction_by

@@ -4,14 +4,10 @@ use Rattle.std.specs.Result.{result_ok}
 use Rattle.pv_model.specs.declared.fault.ImageFault.TheVariants.{Dir}
 use Rattle.pv_model.specs.declared.run_fault.RunFault.{RunFault}
 use Rattle.pv_model.specs.declared.version.Version.TheVariants.{V1}
-use Rattle.pv_model.specs.Bytes.{Bytes, little_endian}
-use Rattle.pv_model.specs.Image.{unused_bytes, used_blocks}
-use Rattle.pv_model.specs.Listing.{listing}
-use Rattle.pv_model.specs.Mount.{mounted, has_bad_inode, has_bad_block, has_bad_content, has_bad_place, inode_fault}
-use Rattle.pv_model.specs.Start.{Started, booted, started_on, bundle_started, image_started}
-use Rattle.pv_model.specs.Step.{run_text, steps_of}
-use Rattle.pv_model.specs.Grammar.Programs.{program_of}
-use Rattle.pv_model.specs.Tree.{Tree, directory_node, file_node}
+use Rattle.pv_model.specs.Machine.{Bytes, little_endian, used_blocks, listing, mounted, has_bad_inode, has_bad_block, has_bad_content, Started, booted, started_on, bundle_started, image_started, steps_of, program_of, Tree, directory_node, file_node}
+use Rattle.pv_model.specs.Image.{unused_bytes}
+use Rattle.pv_model.specs.Mount.{has_bad_place, inode_fault}
+use Rattle.pv_model.specs.Step.{run_text}
 use Rattle.pv_laws_worked.specs.Bundles.{bundles_on_literals, lines_text}
 
 -- the definitions to unfold in a proof by computation
@@ -20,8 +16,8 @@ unfolding bundles_on_literals bundle_started image_started started_on booted mou
 images_on_literals = tt
 
 -- an inode with at most one block
-abbrev pub inode_bytes : ℕ → ℕ → ℕ → ℕ → Bytes
-inode_bytes kind count size first = kind ∷ 0 ∷ little_endian 2 count ++ little_endian 4 size ++ little_endian 2 first ++ replicate 22 0
+abbrev pub written_inode : ℕ → ℕ → ℕ → ℕ → Bytes
+written_inode kind count size first = kind ∷ 0 ∷ little_endian 2 count ++ little_endian 4 size ++ little_endian 2 first ++ replicate 22 0
 
 abbrev pub slot_bytes : ℕ → Bytes → Bytes
 slot_bytes n name = little_endian 2 n ++ (length name ∷ 0 ∷ []) ++ name ++ replicate (60 - length name) 0
@@ -55,18 +51,18 @@ smallest_with_one_turn = refl
 
 -- ---- the image of the run that reads one file
 
-abbrev pub program : Bytes
-program = lines_text (codes "pledge \"stdio rpath\" null" ∷ codes "open \"/etc/motd\" r" ∷ codes "read r0 100" ∷ codes "close 0" ∷ codes "exit 0" ∷ [])
+abbrev pub example_program : Bytes
+example_program = lines_text (codes "pledge \"stdio rpath\" null" ∷ codes "open \"/etc/motd\" r" ∷ codes "read r0 100" ∷ codes "close 0" ∷ codes "exit 0" ∷ [])
 
 -- its slots are not in the order of their names
 abbrev pub example : Bytes
 example =
     filled (codes "PVIMAGE1" ++ 16 ∷ 0 ∷ 16 ∷ 0 ∷ [])
-    ++ filled (inode_bytes 1 0 128 2 ++ inode_bytes 1 1 64 3 ++ inode_bytes 2 1 5 4 ++ inode_bytes 3 1 72 5)
+    ++ filled (written_inode 1 0 128 2 ++ written_inode 1 1 64 3 ++ written_inode 2 1 5 4 ++ written_inode 3 1 72 5)
     ++ filled (slot_bytes 4 (codes "init") ++ slot_bytes 2 (codes "etc"))
     ++ filled (slot_bytes 3 (codes "motd"))
     ++ filled (codes "hello")
-    ++ filled program
+    ++ filled example_program
     ++ replicate (512 * 10) 0
 
 abbrev pub example_tree : Tree
@@ -76,7 +72,7 @@ example_tree = record {
       Some (directory_node ((codes "etc", 2) ∷ (codes "init", 4) ∷ [])) ∷
       Some (directory_node ((codes "motd", 3) ∷ [])) ∷
       Some (file_node false (codes "hello")) ∷
-      Some (file_node true program) ∷ replicate 12 None;
+      Some (file_node true example_program) ∷ replicate 12 None;
   blocks = 14;
   inodes = 16;
   version = V1;
@@ -101,7 +97,7 @@ example_listing = refl
 abbrev pub past_slot : ℕ → Bytes
 past_slot long =
     filled (codes "PVIMAGE1" ++ 4 ∷ 0 ∷ 2 ∷ 0 ∷ [])
-    ++ filled (inode_bytes 1 0 64 2 ++ inode_bytes 2 1 0 0)
+    ++ filled (written_inode 1 0 64 2 ++ written_inode 2 1 0 0)
     ++ filled (2 ∷ 0 ∷ long ∷ 0 ∷ replicate 60 97)
     ++ replicate 512 0
 

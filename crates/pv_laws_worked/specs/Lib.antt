@@ -20,6 +20,7 @@ pub mod Promises
 pub mod Questions
 pub mod Rooms
 pub mod Sources
+pub mod Stated
 pub mod Starts
 pub mod Texts
 pub mod Unveils

@@ -2,57 +2,56 @@
 use Rattle.std.specs.Prelude.{◌≡◌, ℕ, ◌-◌, List, [], ◌∷◌, ◌++◌, length, take, replicate, fold, slice_set, codes, Ok, Err, refl}
 use Rattle.pv_model.specs.declared.fault.ImageFault.TheVariants.{Short, Magic, Size, Inode, Block, Dir, Tree as NoTree}
 use Rattle.pv_model.specs.declared.version.Version.TheVariants.{V2}
-use Rattle.pv_model.specs.Bytes.{Bytes, little_endian}
-use Rattle.pv_model.specs.Mount.{mounted}
-use Rattle.pv_laws_worked.specs.Images.{images_on_literals, inode_bytes, slot_bytes, filled, program, example_tree}
+use Rattle.pv_model.specs.Machine.{Bytes, little_endian, mounted}
+use Rattle.pv_laws_worked.specs.Images.{images_on_literals, written_inode, slot_bytes, filled, example_program, example_tree}
 
 -- two directories that contain each other and are not in the root
 abbrev pub ring : Bytes
 ring =
     filled (codes "PVIMAGE1" ++ 4 ∷ 0 ∷ 3 ∷ 0 ∷ [])
-    ++ filled (inode_bytes 1 0 0 0 ++ inode_bytes 1 1 64 2 ++ inode_bytes 1 1 64 3)
+    ++ filled (written_inode 1 0 0 0 ++ written_inode 1 1 64 2 ++ written_inode 1 1 64 3)
     ++ filled (slot_bytes 3 (codes "a"))
     ++ filled (slot_bytes 2 (codes "a"))
 
 -- the image with other bytes at some offsets
-abbrev pub changed : List (ℕ × ℕ) → Bytes
-changed places = fold (λ bytes place. slice_set bytes place.0 place.1) ring places
+abbrev pub image_with_bytes : List (ℕ × ℕ) → Bytes
+image_with_bytes places = fold (λ bytes place. slice_set bytes place.0 place.1) ring places
 
 pub not_reached : mounted ring ≡ Err (NoTree 2)
 unfolding images_on_literals
 not_reached = refl
 
-pub block_of_another : mounted (changed ((584, 2) ∷ [])) ≡ Err (Block 3)
+pub block_of_another : mounted (image_with_bytes ((584, 2) ∷ [])) ≡ Err (Block 3)
 unfolding images_on_literals
 block_of_another = refl
 
-pub block_of_inodes : mounted (changed ((552, 1) ∷ [])) ≡ Err (Block 2)
+pub block_of_inodes : mounted (image_with_bytes ((552, 1) ∷ [])) ≡ Err (Block 2)
 unfolding images_on_literals
 block_of_inodes = refl
 
-pub half_a_slot : mounted (changed ((548, 65) ∷ [])) ≡ Err (Inode 2)
+pub half_a_slot : mounted (image_with_bytes ((548, 65) ∷ [])) ≡ Err (Inode 2)
 unfolding images_on_literals
 half_a_slot = refl
 
 -- an error of an inode comes before one of a block
-pub inode_before_block : mounted (changed ((548, 65) ∷ (584, 2) ∷ [])) ≡ Err (Inode 2)
+pub inode_before_block : mounted (image_with_bytes ((548, 65) ∷ (584, 2) ∷ [])) ≡ Err (Inode 2)
 unfolding images_on_literals
 inode_before_block = refl
 
-pub slot_of_no_inode : mounted (changed ((1536, 4) ∷ [])) ≡ Err (Dir 3)
+pub slot_of_no_inode : mounted (image_with_bytes ((1536, 4) ∷ [])) ≡ Err (Dir 3)
 unfolding images_on_literals
 slot_of_no_inode = refl
 
-pub slot_without_name : mounted (changed ((1538, 0) ∷ [])) ≡ Err (Dir 3)
+pub slot_without_name : mounted (image_with_bytes ((1538, 0) ∷ [])) ≡ Err (Dir 3)
 unfolding images_on_literals
 slot_without_name = refl
 
 -- an error of a content comes before one of the tree, whatever the inode numbers
-pub content_before_place : mounted (changed ((546, 2) ∷ (1538, 0) ∷ [])) ≡ Err (Dir 3)
+pub content_before_place : mounted (image_with_bytes ((546, 2) ∷ (1538, 0) ∷ [])) ≡ Err (Dir 3)
 unfolding images_on_literals
 content_before_place = refl
 
-pub file_in_no_entry : mounted (changed ((544, 2) ∷ (546, 0) ∷ (580, 0) ∷ [])) ≡ Err (NoTree 2)
+pub file_in_no_entry : mounted (image_with_bytes ((544, 2) ∷ (546, 0) ∷ (580, 0) ∷ [])) ≡ Err (NoTree 2)
 unfolding images_on_literals
 file_in_no_entry = refl
 
@@ -60,15 +59,15 @@ pub last_byte_missing : mounted (take 2047 ring) ≡ Err Size
 unfolding images_on_literals
 last_byte_missing = refl
 
-pub more_blocks_than_bytes : mounted (changed ((8, 5) ∷ [])) ≡ Err Size
+pub more_blocks_than_bytes : mounted (image_with_bytes ((8, 5) ∷ [])) ≡ Err Size
 unfolding images_on_literals
 more_blocks_than_bytes = refl
 
-pub no_inode : mounted (changed ((10, 0) ∷ [])) ≡ Err Size
+pub no_inode : mounted (image_with_bytes ((10, 0) ∷ [])) ≡ Err Size
 unfolding images_on_literals
 no_inode = refl
 
-pub other_magic : mounted (changed ((7, 51) ∷ [])) ≡ Err Magic
+pub other_magic : mounted (image_with_bytes ((7, 51) ∷ [])) ≡ Err Magic
 unfolding images_on_literals
 other_magic = refl
 
@@ -95,7 +94,7 @@ example_2 =
     ++ slot_bytes_2 2 (codes "etc") ++ slot_bytes_2 4 (codes "init") ++ replicate 504 0
     ++ filled (slot_bytes_2 3 (codes "motd"))
     ++ filled (codes "hello")
-    ++ filled program
+    ++ filled example_program
 
 pub version_2 : mounted example_2 ≡ Ok (record example_tree { blocks = 5; version = V2 })
 unfolding images_on_literals

@@ -1,15 +1,17 @@
 -- The text of `policy` for small bundles, as a second implementation answers.
 use Rattle.std.specs.Prelude.{◌≡◌, ℕ, List, [], ◌∷◌, codes, Option, Some, option_map, refl}
-use Rattle.pv_model.specs.Answers.Policy.{policy_lines}
-use Rattle.pv_model.specs.Answers.Lines.{answer_bytes}
-use Rattle.pv_model.specs.Bytes.{Bytes}
-use Rattle.pv_model.specs.Grammar.Programs.{program_of}
+use Rattle.pv_model.specs.Answers.Policy.{granted_policy_lines, policy_lines}
+use Rattle.pv_model.specs.Machine.{answer_bytes, Bytes, program_of}
 use Rattle.pv_laws_worked.specs.Bundles.{lines_text}
 use Rattle.pv_laws_worked.specs.Questions.{questions_on_literals, started}
 
 -- the text of `policy` for a bundle, with a limit on the number of states
 abbrev pub policy_text : ℕ → List Bytes → Option Bytes
 policy_text limit lines = option_map (λ s. answer_bytes (policy_lines program_of limit s.state)) (started lines)
+
+-- the same of the granted calls alone
+abbrev pub granted_policy_text : ℕ → List Bytes → Option Bytes
+granted_policy_text limit lines = option_map (λ s. answer_bytes (granted_policy_lines program_of limit s.state)) (started lines)
 
 -- each line UNVL has the permissions that are new at its target, and lines for one target are together
 pub letters_that_are_new : policy_text 1000 (
@@ -65,7 +67,7 @@ pub either_of_two : policy_text 1000 (
 unfolding questions_on_literals
 either_of_two = refl
 
--- wpath is listed beside the alternatives if a call needs it
+-- wpath is listed in addition to the alternatives if a call needs it
 pub either_beside_wpath : policy_text 1000 (
     codes "image 16 16" ∷
     codes "bytes \"/f\" \"f\"" ∷
@@ -325,3 +327,50 @@ pub idle_if_complete : policy_text 4 (
     codes "    0 DONE  4 states, not complete" ∷ []))
 unfolding questions_on_literals
 idle_if_complete = refl
+
+-- a call that a table or a promise refuses asks for nothing, and a call that fails for another reason does; what only
+-- refused calls ask for is idle
+pub granted_calls_alone : granted_policy_text 1000 (
+    codes "image 16 16" ∷
+    codes "bytes \"/f\" \"f\"" ∷
+    codes "bytes \"/g\" \"g\"" ∷
+    codes "exec \"/init\" 6" ∷
+    codes "unveil \"/f\" \"rw\"" ∷
+    codes "pledge \"stdio rpath wpath error\" null" ∷
+    codes "open \"/f\" r" ∷
+    codes "open \"/g\" w" ∷
+    codes "fork" ∷
+    codes "close 9" ∷
+    codes "schedule" ∷ []) ≡ Some (lines_text (
+    codes "    0 PROG  1, \"/init\"" ∷
+    codes "    1 BY    1 6" ∷
+    codes "    1 PLDG  stdio, line 6" ∷
+    codes "    1 BY    1 3" ∷
+    codes "    1 PLDG  rpath, line 3" ∷
+    codes "    1 BY    1 1" ∷
+    codes "    1 PLDG  unveil, line 1" ∷
+    codes "    1 BY    1 3" ∷
+    codes "    1 UNVL  r---, \"/f\"" ∷
+    codes "    0 IDLE  wpath" ∷
+    codes "    0 IDLE  -w--, \"/f\"" ∷
+    codes "    0 DONE  8 states, complete" ∷ []))
+unfolding questions_on_literals
+granted_calls_alone = refl
+
+-- a program whose calls are all refused is left out
+pub refused_programs : granted_policy_text 1000 (
+    codes "image 16 16" ∷
+    codes "exec \"/p\" 1" ∷
+    codes "getpid" ∷
+    codes "exec \"/init\" 2" ∷
+    codes "pledge null \"\"" ∷
+    codes "execve \"/p\"" ∷
+    codes "schedule" ∷ []) ≡ Some (lines_text (
+    codes "    0 PROG  1, \"/init\"" ∷
+    codes "    1 BY    1 2" ∷
+    codes "    1 PLDG  exec, line 2" ∷
+    codes "    1 BY    1 2" ∷
+    codes "    1 UNVL  --x-, \"/p\"" ∷
+    codes "    0 DONE  4 states, complete" ∷ []))
+unfolding questions_on_literals
+refused_programs = refl

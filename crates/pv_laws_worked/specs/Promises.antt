@@ -24,7 +24,7 @@ unfolding bundles_on_literals
 error_promise = refl
 
 -- the syntax of promises
-pub promise_texts : shown_of (
+pub promise_texts_parse : shown_of (
     codes "image 64 64" ∷
     codes "exec \"/init\" 6" ∷
     codes "pledge \"  stdio  stdio \" null" ∷
@@ -44,7 +44,7 @@ pub promise_texts : shown_of (
     codes "PLDG  getpid, \"stdio\", killed" ∷
     codes "PSIG  SIGABRT" ∷ [])
 unfolding bundles_on_literals
-promise_texts = refl
+promise_texts_parse = refl
 
 -- a process that violates its promises is killed, and its parent waits for it
 pub killed_and_waited : shown_of (

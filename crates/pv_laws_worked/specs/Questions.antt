@@ -2,17 +2,10 @@
 use Rattle.std.specs.Prelude.{⊤, ◌≡◌, ℕ, List, [], ◌∷◌, codes, Option, Some, option_map, refl}
 use Rattle.std.specs.Result.{result_ok}
 use Rattle.pv_model.specs.Answers.Explain.{explain_lines}
-use Rattle.pv_model.specs.Answers.Lines.{answer_bytes}
+use Rattle.pv_model.specs.Machine.{answer_bytes, reach_lines, state_lines, turns, Bytes, program_of, Started, bundle_started, started_on, booted, State, run, steps_of}
 use Rattle.pv_model.specs.Answers.Needs.{needs_lines}
 use Rattle.pv_model.specs.Answers.OnLiterals.{answers_on_literals}
-use Rattle.pv_model.specs.Answers.Reach.{reach_lines}
-use Rattle.pv_model.specs.Answers.ProcessRecord.{state_lines}
-use Rattle.pv_model.specs.Answers.Turns.{turns, schedule_text}
-use Rattle.pv_model.specs.Bytes.{Bytes}
-use Rattle.pv_model.specs.Grammar.Programs.{program_of}
-use Rattle.pv_model.specs.Start.{Started, bundle_started, started_on, booted}
-use Rattle.pv_model.specs.State.{State}
-use Rattle.pv_model.specs.Step.{run, steps_of}
+use Rattle.pv_model.specs.Answers.Turns.{schedule_text}
 use Rattle.pv_laws_worked.specs.Bundles.{bundles_on_literals, lines_text}
 
 -- the definitions to unfold in a proof by computation
@@ -24,16 +17,16 @@ questions_on_literals = tt
 abbrev pub started : List Bytes → Option Started
 started lines = result_ok (bundle_started (lines_text lines))
 
-abbrev pub state_after : Started → State
-state_after s = (run program_of (steps_of s.schedule) s.state).final
+abbrev pub state_after_schedule : Started → State
+state_after_schedule s = (run program_of (steps_of s.schedule) s.state).final
 
 -- the text of `state` after the schedule of a bundle
 abbrev pub state_text : List Bytes → Option Bytes
-state_text lines = option_map (λ s. answer_bytes (state_lines (state_after s))) (started lines)
+state_text lines = option_map (λ s. answer_bytes (state_lines (state_after_schedule s))) (started lines)
 
 -- the text of `reach` after the schedule of a bundle
 abbrev pub reach_text : List Bytes → Option Bytes
-reach_text lines = option_map (λ s. answer_bytes (reach_lines (state_after s))) (started lines)
+reach_text lines = option_map (λ s. answer_bytes (reach_lines (state_after_schedule s))) (started lines)
 
 -- the text of `explain` for a bundle
 abbrev pub explain_text : List Bytes → Option Bytes
@@ -44,8 +37,8 @@ abbrev pub needs_text : List Bytes → Option Bytes
 needs_text lines = option_map (λ s. answer_bytes (needs_lines program_of (steps_of s.schedule) s.state)) (started lines)
 
 -- the text of `turns` for a bundle
-abbrev pub turns_text : ℕ → ℕ → List Bytes → Option Bytes
-turns_text slice steps lines = option_map (λ s. schedule_text (turns program_of slice steps s.state)) (started lines)
+abbrev pub text_of_turns : ℕ → ℕ → List Bytes → Option Bytes
+text_of_turns slice steps lines = option_map (λ s. schedule_text (turns program_of slice steps s.state)) (started lines)
 
 -- a parent with a table, two descriptors and bytes in its buffer, and a child that has exited
 abbrev pub parent_and_child : List Bytes
@@ -225,7 +218,7 @@ unfolding questions_on_literals
 process_images_ask = refl
 
 -- a child gets its turn in the round in which it was forked, and a wait that blocks gets none
-pub turns_are_taken : turns_text 2 9 (
+pub turns_are_taken : text_of_turns 2 9 (
     codes "image 64 64" ∷
     codes "exec \"/init\" 6" ∷
     codes "fork" ∷

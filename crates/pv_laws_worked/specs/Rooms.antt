@@ -1,9 +1,7 @@
 -- The blocks that contents need, and whether trees fit.
 use Rattle.std.specs.Prelude.{◌≡◌, ◌*◌, Bool, true, false, List, [], ◌∷◌, codes, Option, Some, option_map, refl}
 use Rattle.pv_model.specs.declared.version.Version.TheVariants.{V1, V2}
-use Rattle.pv_model.specs.Bytes.{Bytes}
-use Rattle.pv_model.specs.Room.{need, fits}
-use Rattle.pv_model.specs.Tree.{Tree, with_entry, without_entry}
+use Rattle.pv_model.specs.Machine.{Bytes, need, fits, Tree, with_entry, without_entry}
 use Rattle.pv_laws_worked.specs.Bundles.{bundles_on_literals, tree_of_lines}
 
 pub ten_blocks : need V1 5120 ≡ 10
@@ -44,18 +42,18 @@ three_blocks =
     codes "name \"/b/7\" \"/b/0\"" ∷ []
 
 -- whether the tree after a change fits
-abbrev pub has_room : (Tree → Tree) → Option Bool
-has_room change = option_map (λ t. fits (change t)) (tree_of_lines three_blocks)
+abbrev pub has_room_after : (Tree → Tree) → Option Bool
+has_room_after change = option_map (λ t. fits (change t)) (tree_of_lines three_blocks)
 
-pub full : has_room (λ t. t) ≡ Some true
+pub full : has_room_after (λ t. t) ≡ Some true
 unfolding bundles_on_literals
 full = refl
 
 -- a ninth entry needs the block that the first directory no longer needs
-pub moved : has_room (λ t. with_entry (without_entry t 2 (codes "f")) 3 (codes "g") 4) ≡ Some true
+pub room_after_move : has_room_after (λ t. with_entry (without_entry t 2 (codes "f")) 3 (codes "g") 4) ≡ Some true
 unfolding bundles_on_literals
-moved = refl
+room_after_move = refl
 
-pub added : has_room (λ t. with_entry t 3 (codes "g") 4) ≡ Some false
+pub added : has_room_after (λ t. with_entry t 3 (codes "g") 4) ≡ Some false
 unfolding bundles_on_literals
 added = refl

@@ -1,8 +1,7 @@
 -- Sources and the manifests or bundles that they denote, or their lines with errors.
 use Rattle.std.specs.Prelude.{◌≡◌, refl, [], ◌∷◌, ◌++◌, Ok, Err, codes, replicate}
-use Rattle.pv_model.specs.Source.Judged.{read_source}
+use Rattle.pv_model.specs.Machine.{read_source, words_of}
 use Rattle.pv_model.specs.Source.OnLiterals.{sources_on_literals}
-use Rattle.pv_model.specs.Source.Words.{words_of}
 use Rattle.pv_laws_worked.specs.Bundles.{lines_text}
 
 -- ---- lines
@@ -131,7 +130,7 @@ unfolding sources_on_literals
 faults_of_the_tree = refl
 
 -- `/init` must be an `exec` entry; another node at that path is made, and the checks continue
-pub init_is_a_directory : read_source (lines_text (
+pub sources_with_init_as_directory : read_source (lines_text (
     codes "image 16 16" ∷
     codes "exec \"/p\" 0" ∷
     codes "dir \"/init\"" ∷
@@ -139,7 +138,7 @@ pub init_is_a_directory : read_source (lines_text (
     codes "dir \"/init\"" ∷
     codes "dir \"/b/c\"" ∷ [])) ≡ Err (3 ∷ 5 ∷ 6 ∷ [])
 unfolding sources_on_literals
-init_is_a_directory = refl
+sources_with_init_as_directory = refl
 
 -- an `exec` line with an error still takes its lines; if they are missing, nothing after it is reported
 pub exec_at_fault : read_source (lines_text (

@@ -4,9 +4,8 @@ use Rattle.std.specs.Result.{result_ok}
 use Rattle.pv_model.specs.declared.fault.ImageFault.TheVariants.{Dir}
 use Rattle.pv_model.specs.declared.fault.ManifestFault.TheVariants.{Form, Size, Parent}
 use Rattle.pv_model.specs.declared.run_fault.RunFault.TheVariants.{Image, Manifest, Schedule, Init}
-use Rattle.pv_model.specs.Bytes.{Bytes}
-use Rattle.pv_model.specs.Grammar.Manifests.{read_bundle}
-use Rattle.pv_model.specs.Start.{bundle_started, image_started, schedule_start}
+use Rattle.pv_model.specs.Machine.{Bytes, read_bundle, bundle_started, image_started}
+use Rattle.pv_model.specs.Start.{schedule_start}
 use Rattle.pv_laws_worked.specs.Bundles.{lines_text}
 use Rattle.pv_laws_worked.specs.Images.{images_on_literals, started_text, example, past_slot}
 use Rattle.pv_laws_worked.specs.Mounts.{example_2}
@@ -37,9 +36,9 @@ unfolding images_on_literals
 line_of_init = refl
 
 -- an `init` that is a directory
-pub init_is_a_directory : bundle_started (lines_text (codes "image 64 64" ∷ codes "dir \"/init\"" ∷ codes "schedule" ∷ codes "1" ∷ [])) ≡ Err (Init 0)
+pub bundles_with_init_as_directory : bundle_started (lines_text (codes "image 64 64" ∷ codes "dir \"/init\"" ∷ codes "schedule" ∷ codes "1" ∷ [])) ≡ Err (Init 0)
 unfolding images_on_literals
-init_is_a_directory = refl
+bundles_with_init_as_directory = refl
 
 -- an `init` that is a file but not executable
 pub init_is_not_executable : bundle_started (lines_text (codes "image 64 64" ∷ codes "bytes \"/init\" \"exit 0\"" ∷ codes "schedule" ∷ codes "1" ∷ [])) ≡ Err (Init 0)

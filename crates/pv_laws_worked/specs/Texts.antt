@@ -1,8 +1,8 @@
 -- Runs with their complete traces.
 use Rattle.std.specs.Prelude.{◌≡◌, [], ◌∷◌, codes, Some, refl}
-use Rattle.pv_laws_worked.specs.Bundles.{bundles_on_literals, lines_text, text_of}
+use Rattle.pv_laws_worked.specs.Bundles.{bundles_on_literals, lines_text, trace_of_bundle}
 
-pub read_one_file : text_of (
+pub read_one_file : trace_of_bundle (
     codes "image 16 16" ∷
     codes "dir \"/etc\"" ∷
     codes "bytes \"/etc/motd\" \"hello\"" ∷
@@ -28,7 +28,7 @@ pub read_one_file : text_of (
 unfolding bundles_on_literals
 read_one_file = refl
 
-pub registers_and_bytes : text_of (
+pub registers_and_bytes : trace_of_bundle (
     codes "image 64 64" ∷
     codes "bytes \"/\\x01z\" \"\\xff\\x80\"" ∷
     codes "exec \"/init\" 19" ∷

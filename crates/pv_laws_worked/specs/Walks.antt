@@ -6,14 +6,12 @@ use Rattle.pv_model.specs.declared.follow.Follow.{Follow}
 use Rattle.pv_model.specs.declared.follow.Follow.TheVariants.{Last, Keep, KeepTrimmed}
 use Rattle.pv_model.specs.declared.place.Place.{Place}
 use Rattle.pv_model.specs.declared.place.Place.TheVariants.{At, Node as Unnamed}
-use Rattle.pv_model.specs.Bytes.{Bytes}
-use Rattle.pv_model.specs.Tree.{root}
-use Rattle.pv_model.specs.Walk.{resolve}
+use Rattle.pv_model.specs.Machine.{Bytes, root, resolve}
 use Rattle.pv_laws_worked.specs.Bundles.{bundles_on_literals, tree_of_lines}
 
 -- the place that a path from the root leads to
-abbrev pub walked : List Bytes → Follow → Bytes → Option (Result Place Errno)
-walked lines follow path = option_map (λ t. resolve t follow root path) (tree_of_lines lines)
+abbrev pub place_of_walk : List Bytes → Follow → Bytes → Option (Result Place Errno)
+place_of_walk lines follow path = option_map (λ t. resolve t follow root path) (tree_of_lines lines)
 
 -- a file, a directory, and links to them: nodes 2 to 5
 abbrev pub few : List Bytes
@@ -24,35 +22,35 @@ few =
     codes "link \"/l\" \"d\"" ∷
     codes "link \"/m\" \"f/\"" ∷ []
 
-pub preserved_link : walked few Keep (codes "/l") ≡ Some (Ok (At root (codes "l") (Some 4)))
+pub preserved_link : place_of_walk few Keep (codes "/l") ≡ Some (Ok (At root (codes "l") (Some 4)))
 unfolding bundles_on_literals
 preserved_link = refl
 
-pub link_with_slash : walked few Keep (codes "/l/") ≡ Some (Ok (At root (codes "d") (Some 3)))
+pub link_with_slash : place_of_walk few Keep (codes "/l/") ≡ Some (Ok (At root (codes "d") (Some 3)))
 unfolding bundles_on_literals
 link_with_slash = refl
 
-pub file_with_slash : walked few Keep (codes "/f/") ≡ Some (Err ENOTDIR)
+pub file_with_slash : place_of_walk few Keep (codes "/f/") ≡ Some (Err ENOTDIR)
 unfolding bundles_on_literals
 file_with_slash = refl
 
-pub absent_with_slash : walked few Keep (codes "/no/") ≡ Some (Err ENOENT)
+pub absent_with_slash : place_of_walk few Keep (codes "/no/") ≡ Some (Err ENOENT)
 unfolding bundles_on_literals
 absent_with_slash = refl
 
-pub after_file : walked few Keep (codes "/f/x") ≡ Some (Err ENOTDIR)
+pub after_file : place_of_walk few Keep (codes "/f/x") ≡ Some (Err ENOTDIR)
 unfolding bundles_on_literals
 after_file = refl
 
-pub link_text_with_slash : walked few Last (codes "/m") ≡ Some (Err ENOTDIR)
+pub link_text_with_slash : place_of_walk few Last (codes "/m") ≡ Some (Err ENOTDIR)
 unfolding bundles_on_literals
 link_text_with_slash = refl
 
-pub slash_dropped : walked few KeepTrimmed (codes "/no/") ≡ Some (Ok (At root (codes "no") None))
+pub slash_dropped : place_of_walk few KeepTrimmed (codes "/no/") ≡ Some (Ok (At root (codes "no") None))
 unfolding bundles_on_literals
 slash_dropped = refl
 
-pub slashes_alone : walked few KeepTrimmed (codes "//") ≡ Some (Ok (Unnamed 1))
+pub slashes_alone : place_of_walk few KeepTrimmed (codes "//") ≡ Some (Ok (Unnamed 1))
 unfolding bundles_on_literals
 slashes_alone = refl
 
@@ -63,10 +61,10 @@ names n = flat_map (λ slash. slash ∷ replicate 60 97) (replicate n 47)
 abbrev pub heavy : List Bytes
 heavy = codes "image 64 64" ∷ (codes "link \"/k\" \"" ++ replicate 60 97 ++ names 15 ++ codes "\"") ∷ []
 
-pub weight_at_most : walked heavy Last (codes "/k/" ++ replicate 47 98) ≡ Some (Err ENOENT)
+pub weight_at_most : place_of_walk heavy Last (codes "/k/" ++ replicate 47 98) ≡ Some (Err ENOENT)
 unfolding bundles_on_literals
 weight_at_most = refl
 
-pub weight_above : walked heavy Last (codes "/k/" ++ replicate 48 98) ≡ Some (Err ENAMETOOLONG)
+pub weight_above : place_of_walk heavy Last (codes "/k/" ++ replicate 48 98) ≡ Some (Err ENAMETOOLONG)
 unfolding bundles_on_literals
 weight_above = refl

@@ -10,8 +10,7 @@
 #![tactic(auto)]
 
 ghost use Rattle.std.specs.Prelude.{ℕ, ◌<◌};
-ghost use Rattle.pv_model.specs.Image.{IsImageOf, IsWrittenImageOf};
-ghost use Rattle.pv_model.specs.Tree.{Tree};
+ghost use Rattle.pv_model.specs.Machine.{IsImageOf, IsWrittenImageOf, Tree};
 ghost use Rattle.pv_laws_worked.specs.AllWorked.{AllWorked};
 ghost use Rattle.pv_laws_worked.specs.Images.{smallest, smallest_tree, example, example_tree, past_slot};
 

@@ -8,11 +8,9 @@ use Rattle.std.proofs.lemmas.Bool.{and_parts}
 use Rattle.std.proofs.lemmas.List.{take_all, drop_all}
 use Rattle.std.specs.Option.{option_copied}
 use Rattle.std.specs.Slice.{IsGetRangeResult}
-use Rattle.pv_model.specs.Bytes.{Bytes}
-use Rattle.pv_model.specs.Calls.Descriptors.{is_past, next_name}
-use Rattle.pv_model.specs.Tree.{Entries}
-use Rattle.pv_laws_trees.proofs.Entries.{by_name, tied_itself, tied-same, find_after}
-use Rattle.pv_laws_trees.proofs.NameOrder.{less_from, not_after, not_after_itself, after_more}
+use Rattle.pv_model.specs.Machine.{Bytes, is_past, next_name, Entries}
+use Rattle.pv_tree.proofs.OfLawsTrees.Entries.{by_name, tied_itself, tied-same, find_after}
+use Rattle.pv_tree.proofs.OfLawsTrees.NameOrder.{less_from, not_after, not_after_itself, after_more}
 use Rattle.pv_listing.specs.Lines.{entries_after, last_name, IsNextChild}
 
 -- all entries above a name follow it

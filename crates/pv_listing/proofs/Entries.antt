@@ -1,8 +1,7 @@
 -- The lines of a node and of everything below it, entry by entry.
 use Rattle.std.proofs.Common.{◌≡◌, ℕ, zero, suc, ◌-◌, ◌<◌, false, [], ◌∷◌, ◌++◌, ◌∙◌, flat_map, codes, Option, None, Some, refl, ap, sym, arith}
-use Rattle.pv_model.specs.Bytes.{Bytes}
+use Rattle.pv_model.specs.Machine.{Bytes, Entries, Node, directory_node, file_node, link_node, Tree, node_at, entries_of, entries_at, is_directory, is_directory_at}
 use Rattle.pv_model.specs.Listing.{lines_within}
-use Rattle.pv_model.specs.Tree.{Entries, Node, directory_node, file_node, link_node, Tree, node_at, entries_of, entries_at, is_directory, is_directory_at}
 use Rattle.pv_streams.specs.Sinks.{and_all}
 use Rattle.pv_listing.specs.Lines.{entries_after}
 use Rattle.pv_listing.proofs.Rests.{LeavesRest, rest_all, rest_after}

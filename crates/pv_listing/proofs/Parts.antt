@@ -3,12 +3,9 @@ use Rattle.std.proofs.Common.{◌≡◌, ℕ, true, false, [], ◌∷◌, ◌++�
 use Rattle.std.specs.Fmt.{decimal}
 use Rattle.std.specs.Prelude.{IsSome}
 use Rattle.pv_model.specs.declared.kind.Kind.{Kind}
-use Rattle.pv_model.specs.Bytes.{Bytes}
-use Rattle.pv_model.specs.Effect.{size_of}
-use Rattle.pv_model.specs.Listing.{kind_letter, listed_path, node_line}
-use Rattle.pv_model.specs.Trace.{quote_byte}
-use Rattle.pv_model.specs.Tree.{Node, directory_node, file_node, link_node}
-use Rattle.pv_dirs.specs.Trees.{sort_of}
+use Rattle.pv_model.specs.Machine.{Bytes, size_of, listed_path, quote_byte, Node, directory_node, file_node, link_node}
+use Rattle.pv_model.specs.Listing.{kind_letter, node_line}
+use Rattle.pv_tree.specs.OfDirs.Trees.{sort_of}
 use Rattle.pv_listing.specs.Lines.{letter_of, node_front}
 
 letter-is : (node : Node) → kind_letter node ≡ letter_of (sort_of node)

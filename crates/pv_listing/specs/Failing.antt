@@ -1,6 +1,6 @@
 -- The errors of a listing.
 use Rattle.std.specs.Prelude.{◌≡◌, ℕ}
-use Rattle.pv_model.specs.Stream.{Rose}
+use Rattle.pv_model.specs.Machine.{Rose}
 use Rattle.pv_listing.specs.declared.listing.ListStop.{ListStop}
 use Rattle.pv_listing.specs.declared.listing.ListStop.TheVariants.{Memory, Write}
 

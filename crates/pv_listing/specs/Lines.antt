@@ -3,11 +3,8 @@ use Rattle.std.specs.Prelude.{◌≡◌, ℕ, [], ◌∷◌, ◌++◌, codes, fi
 use Rattle.std.specs.Fmt.{decimal}
 use Rattle.pv_model.specs.declared.kind.Kind.{Kind}
 use Rattle.pv_model.specs.declared.kind.Kind.TheVariants.{Directory, File, Executable, Symlink}
-use Rattle.pv_model.specs.Bytes.{Bytes}
-use Rattle.pv_model.specs.Calls.Descriptors.{is_past}
-use Rattle.pv_model.specs.Effect.{size_of}
+use Rattle.pv_model.specs.Machine.{Bytes, is_past, size_of, Entries, Node}
 use Rattle.pv_model.specs.Listing.{kind_letter}
-use Rattle.pv_model.specs.Tree.{Entries, Node}
 
 -- the letter of a kind of node
 abbrev pub letter_of : Kind → Bytes

@@ -15,5 +15,6 @@ mod verdict;
 
 pub use listing::{ListStop, next_child, write_lines, write_listing};
 pub use path::{write_bytes, write_path};
+pub use pv_trace as trace;
 pub use remarks::Remarks;
 pub use verdict::write_verdict;

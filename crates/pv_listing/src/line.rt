@@ -1,7 +1,7 @@
 //! The lines of a listing.
 ghost use Rattle.std.specs.Prelude.{◌≡◌, ◌++◌, ◌+◌, ◌≤◌, length, codes, decimal, IsSome};
 ghost use Rattle.pv_model.specs.Listing.{node_line};
-ghost use Rattle.pv_model.specs.Tree.{node_at};
+ghost use Rattle.pv_model.specs.Machine.{node_at};
 ghost use Rattle.pv_listing.specs.Lines.{letter_of, node_front};
 
 use crate::path::write_between;

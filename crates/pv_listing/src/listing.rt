@@ -1,7 +1,7 @@
 //! Traversing a tree and writing its lines.
 ghost use Rattle.std.specs.Prelude.{◌≡◌, ◌≤◌, drop, take, vec_len, IsTrue, IfOk, OnOk};
-ghost use Rattle.pv_model.specs.Listing.{lines_of_all, lines_within, listing};
-ghost use Rattle.pv_model.specs.Tree.{entries_at, is_directory_at, IsWellFormed};
+ghost use Rattle.pv_model.specs.Machine.{listing, entries_at, is_directory_at, IsWellFormed};
+ghost use Rattle.pv_model.specs.Listing.{lines_of_all, lines_within};
 ghost use Rattle.pv_streams.specs.Sinks.{WritesOr};
 ghost use Rattle.pv_listing.specs.Failing.{FailsBy};
 ghost use Rattle.pv_listing.specs.Lines.{IsNextChild, last_name};

@@ -1,7 +1,6 @@
 //! Writing paths in lines.
 ghost use Rattle.std.specs.Prelude.{◌≡◌, ◌++◌, flat_map};
-ghost use Rattle.pv_model.specs.Listing.{listed_path as path_of_line};
-ghost use Rattle.pv_model.specs.Trace.{quote, quote_byte};
+ghost use Rattle.pv_model.specs.Machine.{listed_path as path_of_line, quote, quote_byte};
 ghost use Rattle.pv_streams.specs.Sinks.{Writes};
 
 use arrayvec::ArrayVec;

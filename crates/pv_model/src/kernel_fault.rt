@@ -7,7 +7,7 @@ use std::alloc::{AllocError, AllocFailed};
 use std::fmt;
 
 /// The reason why a kernel does not start on a tree.
-#[derive(Clone, Copy, Debug, PartialEq, Eq)]
+#[derive(Clone, Copy)]
 pub enum BootFault {
     /// The first line of the program in `init` that is not a valid instruction, or 0 if `init` is not an executable
     /// file.
@@ -43,7 +43,7 @@ impl fmt::Display for BootFault {
 }
 
 /// The reason why the simulator did not make a step. It is not an error of the simulated process.
-#[derive(Clone, Copy, Debug, PartialEq, Eq)]
+#[derive(Clone, Copy)]
 pub enum StepFault {
     /// Out of memory. The state is unchanged.
     NoMemory,

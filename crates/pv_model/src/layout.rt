@@ -16,7 +16,7 @@ const LENGTH_V1: usize = BLOCK * (DIRECT + POINTED * INDEX_POINTERS_V1) as usize
 const LENGTH_V2: usize = BLOCK * (DIRECT + POINTED * INDEX_POINTERS_V2) as usize;
 
 /// The sizes and limits of an image of one version.
-#[derive(Clone, Copy, Debug, PartialEq, Eq)]
+#[derive(Clone, Copy)]
 pub struct Layout {
     /// Bytes of an inode.
     pub inode_length: usize,

@@ -7,8 +7,8 @@ use Rattle.std.proofs.Math.Numerals.{one-add}
 use Rattle.std.proofs.lemmas.Option.{cond_some}
 use Rattle.std.specs.List.{position_or_len}
 use Rattle.pv_namei.proofs.FirstPlaces.{place_or_length, place_past}
-use Rattle.pv_model.specs.Bytes.{Bytes, is_empty, onto_first}
-use Rattle.pv_model.specs.Walk.{split_slashes, components, ends_in_slash}
+use Rattle.pv_model.specs.Machine.{Bytes, is_empty, onto_first, split_slashes, components}
+use Rattle.pv_model.specs.Walk.{ends_in_slash}
 
 abbrev pub is_slash : ℕ → Bool
 is_slash b = b == 47

@@ -1,6 +1,6 @@
 -- Whether the last of some components is `.` or `..`, step by step.
 use Rattle.std.proofs.Common.{◌≡◌, ◌∙◌, Bool, false, ◌||◌, List, [], ◌∷◌, refl, ap}
-use Rattle.pv_model.specs.Bytes.{Bytes}
+use Rattle.pv_model.specs.Machine.{Bytes}
 use Rattle.pv_model.specs.Calls.Paths.{last_is_dot}
 use Rattle.pv_model.specs.Walk.{is_dot, is_dot_dot}
 

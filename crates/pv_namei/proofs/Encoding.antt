@@ -6,9 +6,8 @@ use Rattle.std.proofs.lemmas.Bool.{and_parts}
 use Rattle.std.proofs.lemmas.List.Elements.{filter-append}
 use Rattle.std.proofs.lemmas.List.Folds.{list_all-append}
 use Rattle.std.proofs.lemmas.List.Sums.{sum_by-cons, sum_by-append}
-use Rattle.pv_model.specs.Bytes.{Bytes, is_empty, onto_first}
-use Rattle.pv_model.specs.Walk.{split_slashes, components, weight}
-use Rattle.pv_laws_trees.proofs.Places.{is_encoded, is_component, components-encoded}
+use Rattle.pv_model.specs.Machine.{Bytes, is_empty, onto_first, split_slashes, components, weight}
+use Rattle.pv_tree.proofs.OfLawsTrees.Places.{is_encoded, is_component, components-encoded}
 use Rattle.pv_namei.specs.Components.{with_slashes}
 
 abbrev any : ℕ → Bool

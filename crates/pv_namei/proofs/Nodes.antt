@@ -6,12 +6,10 @@ use Rattle.std.proofs.Math.Seq.{take-append_seam, take-length}
 use Rattle.std.proofs.lemmas.Bool.{and_parts, leb-true}
 use Rattle.pv_model.specs.declared.place.Place.TheVariants.{At}
 use Rattle.pv_model.specs.declared.kind.Kind.TheVariants.{Directory}
-use Rattle.pv_model.specs.Bytes.{Bytes, is_empty}
-use Rattle.pv_model.specs.Calls.Paths.{link_text}
-use Rattle.pv_model.specs.Tree.{Node, directory_node, file_node, link_node, Tree, root, node_at, find_entry, is_directory, is_directory_at, is_link_text, IsWellFormed}
-use Rattle.pv_model.specs.Walk.{Walked, PastLink, Onward, at_node}
-use Rattle.pv_laws_trees.proofs.Places.{link-text}
-use Rattle.pv_laws_trees.proofs.Trees.{sound}
+use Rattle.pv_model.specs.Machine.{Bytes, is_empty, link_text, Node, directory_node, file_node, link_node, Tree, root, node_at, find_entry, is_directory, is_directory_at, is_link_text, IsWellFormed, Walked}
+use Rattle.pv_model.specs.Walk.{PastLink, Onward, at_node}
+use Rattle.pv_tree.proofs.OfLawsTrees.Places.{link-text}
+use Rattle.pv_tree.proofs.OfLawsTrees.Trees.{sound}
 use Rattle.pv_tree.specs.Trees.{sort_of, bytes_of}
 
 -- ---- the nodes of a well-formed tree

@@ -10,10 +10,10 @@ use Rattle.std.proofs.lemmas.Bool.{and_parts, eqb-true, le-ltb}
 use Rattle.std.proofs.lemmas.Map.{lookup-remove_entry}
 use Rattle.lru.specs.LruCache.{LruCache, lru_cache, promoted, put_entries}
 use Rattle.lru.proofs.CallerLemmas.{Contains-lookup_entry, lookup-put_entries}
-use Rattle.pv_model.specs.Bytes.{Bytes}
+use Rattle.pv_model.specs.Machine.{Bytes}
 use Rattle.pv_namei.specs.declared.cached.Pair.{Pair}
 use Rattle.pv_namei.specs.Cached.{is_same, pair_of, preserved_of, IsPut, FitsMap}
-use Rattle.pv_laws_trees.specs.Found.{AlikeBut}
+use Rattle.pv_tree.specs.OfLawsTrees.Found.{AlikeBut}
 
 either : {P : Type 0} (b : Bool) → (b ≡ true → P) → (b ≡ false → P) → P
 either true so other = so refl

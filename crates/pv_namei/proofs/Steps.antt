@@ -4,9 +4,8 @@ use Rattle.std.proofs.lemmas.Bool.{lt-ltb, le-ltb, ne_eqb}
 use Rattle.pv_model.specs.declared.errno.Errno.{Errno}
 use Rattle.pv_model.specs.declared.errno.Errno.TheVariants.{ENOENT, ENAMETOOLONG}
 use Rattle.pv_model.specs.declared.follow.Follow.{Follow}
-use Rattle.pv_model.specs.Bytes.{Bytes, is_empty}
-use Rattle.pv_model.specs.Tree.{Tree, root}
-use Rattle.pv_model.specs.Walk.{components, is_absolute, follows_last, end_mark, Walked, along, walk, resolve}
+use Rattle.pv_model.specs.Machine.{Bytes, is_empty, Tree, root, components, is_absolute, follows_last, end_mark, Walked, resolve}
+use Rattle.pv_model.specs.Walk.{along, walk}
 use Rattle.pv_namei.specs.declared.lead.Lead.{Lead}
 use Rattle.pv_namei.specs.declared.walk.WalkState.{WalkState}
 use Rattle.pv_namei.specs.Onward.{following, first_walk, remaining, led}

@@ -1,6 +1,6 @@
 -- Encoding of components.
 use Rattle.std.specs.Prelude.{List, [], ◌∷◌, ◌++◌}
-use Rattle.pv_model.specs.Bytes.{Bytes}
+use Rattle.pv_model.specs.Machine.{Bytes}
 
 -- the components with a slash after each
 abbrev pub with_slashes : List Bytes → Bytes

@@ -6,10 +6,8 @@ use Rattle.pv_model.specs.declared.errno.Errno.TheVariants.{ENOENT, ENAMETOOLONG
 use Rattle.pv_model.specs.declared.follow.Follow.{Follow}
 use Rattle.pv_model.specs.declared.place.Place.{Place}
 use Rattle.pv_model.specs.declared.place.Place.TheVariants.{At, Node}
-use Rattle.pv_model.specs.Bytes.{Bytes}
-use Rattle.pv_model.specs.Calls.Paths.{link_text}
-use Rattle.pv_model.specs.Tree.{Tree, root, node_at, greatest_name, is_directory_at, is_removed, find_entry, IsWellFormed}
-use Rattle.pv_model.specs.Walk.{is_absolute, follows_last, end_mark, Walked, PastLink, at_entry, along, no_link_left, through_link, walk}
+use Rattle.pv_model.specs.Machine.{Bytes, link_text, Tree, root, node_at, greatest_name, is_directory_at, is_removed, find_entry, IsWellFormed, is_absolute, follows_last, end_mark, Walked}
+use Rattle.pv_model.specs.Walk.{PastLink, at_entry, along, no_link_left, through_link, walk}
 use Rattle.pv_namei.specs.declared.lead.Lead.{Lead}
 use Rattle.pv_namei.specs.declared.lead.Lead.TheVariants.{Directory, Entry}
 use Rattle.pv_namei.specs.declared.stop.End.{End as Ending}

@@ -1,7 +1,6 @@
 //! The rest of a path during a walk.
 ghost use Rattle.std.specs.Prelude.{◌≡◌, ◌∷◌, [], MatchOption};
-ghost use Rattle.pv_model.specs.Bytes.{is_empty};
-ghost use Rattle.pv_model.specs.Walk.{components};
+ghost use Rattle.pv_model.specs.Machine.{is_empty, components};
 
 use crate::component::{has_no_component, split_first};
 use std::marker::Model;

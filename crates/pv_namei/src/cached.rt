@@ -1,8 +1,8 @@
 //! The name cache.
 ghost use Rattle.std.specs.Prelude.{◌≡◌, ◌⊎◌, ℕ, List, Option, Some, None, [], IsTrue, IfOk, ◌≤◌, length};
 ghost use Rattle.pv_model.specs.declared.limits.TheConstants.{ANSWERS};
-ghost use Rattle.pv_model.specs.Tree.{is_directory_at, find_entry};
-ghost use Rattle.pv_laws_trees.specs.Found.{AlikeBut};
+ghost use Rattle.pv_model.specs.Machine.{is_directory_at, find_entry};
+ghost use Rattle.pv_tree.specs.OfLawsTrees.Found.{AlikeBut};
 ghost use Rattle.pv_namei.specs.Cached.{preserved_of, IsPut, FitsMap};
 
 use crate::Lookup;

@@ -1,8 +1,7 @@
 //! Splitting a path into components: a component is a nonempty sequence of bytes between slashes.
 ghost use Rattle.std.specs.Prelude.{◌≡◌, ◌<◌, ◌==◌, ◌∷◌, [], not, length, position, MatchOption, IfSome};
-ghost use Rattle.pv_model.specs.Bytes.{is_empty};
-ghost use Rattle.pv_model.specs.Calls.Paths.{ends_in_dot};
-ghost use Rattle.pv_model.specs.Walk.{components, is_absolute, ends_in_slash};
+ghost use Rattle.pv_model.specs.Machine.{is_empty, ends_in_dot, components, is_absolute};
+ghost use Rattle.pv_model.specs.Walk.{ends_in_slash};
 
 use crate::lead::{is_dot, is_dot_dot};
 

@@ -1,6 +1,6 @@
 //! The rest of a path after a symbolic link.
 ghost use Rattle.std.specs.Prelude.{◌≡◌, ◌≤◌, ◌<◌, ◌+◌, ◌-◌, ◌++◌, ◌∷◌, [], length, OnOk, OnErr, IfErr};
-ghost use Rattle.pv_model.specs.Walk.{components, weight};
+ghost use Rattle.pv_model.specs.Machine.{components, weight};
 ghost use Rattle.pv_namei.specs.declared.joined.TheConstants.{HALF};
 ghost use Rattle.pv_namei.specs.Components.{with_slashes};
 

@@ -1,7 +1,6 @@
 //! Resolving one component of a path.
 ghost use Rattle.std.specs.Prelude.{◌≡◌, ◌∷◌, nat_lt, length, IsTrue, List, Bool, IfOk};
-ghost use Rattle.pv_model.specs.Bytes.{Bytes};
-ghost use Rattle.pv_model.specs.Tree.{greatest_name, is_directory_at, find_entry};
+ghost use Rattle.pv_model.specs.Machine.{Bytes, greatest_name, is_directory_at, find_entry};
 ghost use Rattle.pv_model.specs.Walk.{is_dot, is_dot_dot, along, PastLink};
 ghost use Rattle.pv_namei.specs.Onward.{led, named, IsAtDirectory, IsLeadIn};
 

@@ -23,4 +23,5 @@ mod walk;
 pub use cached::CachedLookup;
 pub use component::{ends_in_dot, is_absolute};
 pub use lookup::{Lookup, PlainLookup};
+pub use pv_tree as tree;
 pub use walk::{resolve, resolve_ref};

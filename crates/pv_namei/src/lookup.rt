@@ -1,7 +1,7 @@
 //! Looking up entries of directories during a walk.
 ghost use Rattle.std.specs.Prelude.{◌≡◌, ℕ, List, Option, IsTrue};
-ghost use Rattle.pv_model.specs.Tree.{is_directory_at, find_entry};
-ghost use Rattle.pv_laws_trees.specs.Found.{Alike, AlikeBut};
+ghost use Rattle.pv_model.specs.Machine.{is_directory_at, find_entry};
+ghost use Rattle.pv_tree.specs.OfLawsTrees.Found.{Alike, AlikeBut};
 
 use pv_tree::Tree;
 

@@ -1,8 +1,6 @@
 //! The path walk, step by step.
 ghost use Rattle.std.specs.Prelude.{◌≡◌, ◌≤◌, ◌<◌, length, take, IsTrue, Some, IsSome, IfSome, OnOk, IfOk, IfErr};
-ghost use Rattle.pv_model.specs.Calls.Paths.{link_text};
-ghost use Rattle.pv_model.specs.Tree.{node_at, is_directory_at, find_entry, IsWellFormed};
-ghost use Rattle.pv_model.specs.Walk.{follows_last, end_mark, resolve};
+ghost use Rattle.pv_model.specs.Machine.{link_text, node_at, is_directory_at, find_entry, IsWellFormed, follows_last, end_mark, resolve};
 ghost use Rattle.pv_namei.specs.Onward.{first_walk, remaining, followed, entered, settled, arrived, passed, IsAtDirectory, IsStop, IsNearer};
 
 use crate::along::Along;

@@ -3,21 +3,15 @@ use Rattle.std.proofs.Common.{◌≡◌, ◌∙◌, ◌⊎◌, ⊎_elim, ℕ, Bo
 use Rattle.std.specs.List.{cons_option}
 use Rattle.pv_model.specs.declared.call.Call.{Call}
 use Rattle.pv_model.specs.declared.outcome.Outcome.{Outcome}
-use Rattle.pv_model.specs.Answer.{Answered, answer}
+use Rattle.pv_model.specs.Machine.{Answered, answer, Asked, Judged, asked, asked_by, is_refused, judged_walks, promises_needed, program_of, calls_for, next, Process, State, process_at, is_unveil, step, Walk, walks_of}
 use Rattle.pv_answers.proofs.NextOnes.{register-next}
-use Rattle.pv_model.specs.Answers.Needs.{Asked, Judged, asked, asked_by, asked_next, asked_of, begins_program, judged_walks, promises_needed}
-use Rattle.pv_model.specs.Grammar.Programs.{program_of}
-use Rattle.pv_model.specs.Program.{calls_for, next}
-use Rattle.pv_model.specs.State.{Process, State, process_at}
-use Rattle.pv_model.specs.Answers.Observed.{is_unveil}
-use Rattle.pv_model.specs.Step.{step}
-use Rattle.pv_model.specs.Walks.{Walk, walks_of}
+use Rattle.pv_model.specs.Answers.Needs.{asked_next, asked_of, begins_program}
 use Rattle.pv_procs.specs.declared.processes.Fetched.{Fetched}
 use Rattle.pv_procs.specs.declared.processes.Fetched.TheVariants.{Gone, Register}
 use Rattle.pv_procs.specs.Turns.{IsFetched, RegisterNext}
 use Rattle.pv_needs.specs.declared.process_images.JudgedWalks.{JudgedWalks}
 use Rattle.pv_needs.specs.Asking.{begun_walks, ends_before, ends_of, judged_begun}
-use Rattle.pv_needs.specs.Granted.{demand, is_refused}
+use Rattle.pv_needs.specs.Granted.{demand}
 use Rattle.pv_needs.specs.ProcessImages.{first_walks, judged_in}
 use Rattle.pv_needs.proofs.Walks.{first-walk, walks-known}
 

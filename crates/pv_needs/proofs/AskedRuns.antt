@@ -2,10 +2,8 @@
 use Rattle.std.proofs.Common.{◌≡◌, ◌∙◌, ℕ, zero, suc, ◌+◌, ◌<◌, Bool, List, [], ◌∷◌, ◌++◌, length, length-append, take, get_or, append_assoc, add-one, refl, sym, ap, subst, Option, None, Some}
 use Rattle.std.specs.Prelude.{replicate}
 use Rattle.std.proofs.lemmas.List.{append-nil}
-use Rattle.pv_model.specs.Answers.Needs.{Asked, and_asked, process_images}
-use Rattle.pv_model.specs.Grammar.Programs.{program_of}
-use Rattle.pv_model.specs.State.{State}
-use Rattle.pv_model.specs.Step.{Schedule, run, step, steps_of}
+use Rattle.pv_model.specs.Machine.{Asked, program_of, State, Schedule, run, step, steps_of}
+use Rattle.pv_model.specs.Answers.Needs.{and_asked, process_images}
 use Rattle.pv_needs.specs.Asking.{IsMoreBy}
 use Rattle.pv_needs.specs.Granted.{demand, demands_in}
 use Rattle.pv_needs.specs.ProcessImages.{RecordedImage, Keeps}

@@ -3,7 +3,8 @@ use Rattle.std.proofs.Common.{◌≡◌, ℕ, suc, ◌+◌, ◌*◌, ◌≤◌, 
 use Rattle.std.specs.Prelude.{◌==◌}
 use Rattle.std.specs.List.{AllByRecursion, filter}
 use Rattle.std.proofs.lemmas.List.{length-map}
-use Rattle.pv_model.specs.Answers.Needs.{Asked, Judged, asked_by_one, onto_process_image, process_images, walks_judged}
+use Rattle.pv_model.specs.Machine.{Asked, Judged, walks_judged}
+use Rattle.pv_model.specs.Answers.Needs.{asked_by_one, onto_process_image, process_images}
 use Rattle.pv_laws_trees.proofs.Generic.{filter-fewer}
 
 -- there are at most this many calls and walks

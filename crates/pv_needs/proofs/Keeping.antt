@@ -6,7 +6,7 @@ use Rattle.std.proofs.lemmas.Bool.{eqb-false, eqb-true}
 use Rattle.std.proofs.lemmas.Iterator.Adapters.{position_from-zero}
 use Rattle.std.proofs.lemmas.List.Quantifiers.{position-Some}
 use Rattle.pv_model.specs.declared.promise.Promise.{Promise}
-use Rattle.pv_model.specs.Answers.Needs.{Asked, Judged, same_judged, same_promise}
+use Rattle.pv_model.specs.Machine.{Asked, Judged, same_judged, same_promise}
 use Rattle.pv_needs.specs.declared.process_images.RecordedTarget.{RecordedTarget}
 use Rattle.pv_needs.specs.declared.process_images.Times.{Times}
 use Rattle.pv_needs.specs.ProcessImages.{RecordedImage, IsProcessMore, call_more, first_walk, index_of, nothing_asked, once_more, open_at, process_more, promise_more, promises_more, process_images_at, target_more, unless, walk_more, walks_more}

@@ -9,9 +9,7 @@ use Rattle.std.proofs.lemmas.List.{append-nil, take-append-drop, take_all, take_
 use Rattle.pv_model.specs.declared.perms.Perms.{Perms}
 use Rattle.pv_model.specs.declared.promise.Promise.{Promise}
 use Rattle.pv_model.specs.declared.stream.Failed.{Failed}
-use Rattle.pv_model.specs.Answers.Lines.{AnswerLine, answer_bytes, answer_line, answer_line_bytes, counted_from, permissions_in_places}
-use Rattle.pv_model.specs.Bytes.{Bytes}
-use Rattle.pv_model.specs.Promise.{all_promises, promise_name}
+use Rattle.pv_model.specs.Machine.{AnswerLine, answer_bytes, answer_line, answer_line_bytes, counted_from, permissions_in_places, Bytes, all_promises, promise_name}
 use Rattle.pv_streams.specs.Sinks.{WritesPrefix, and_all}
 use Rattle.pv_streams.proofs.Reporting.{begins_first, begins_then, written_both}
 use Rattle.pv_needs.specs.declared.process_images.RecordedTarget.{RecordedTarget}

@@ -1,21 +1,15 @@
 -- The texts of the records are the texts of the demands.
 use Rattle.std.proofs.Common.{◌≡◌, ◌∙◌, ℕ, zero, suc, ◌+◌, ◌*◌, ◌<◌, ◌≤◌, Bool, true, false, List, [], ◌∷◌, ◌++◌, length, map, refl, sym, ap, ap₂, add-zero, zero-add, arith}
 use Rattle.std.specs.List.{AllByRecursion, flat_map, range_with_len}
-use Rattle.pv_model.specs.Answers.Lines.{AnswerLine, counted_from}
-use Rattle.pv_model.specs.Answers.Needs.{Asked, and_asked, asked, asked_by_one, asked_in, needs_lines, needs_of_all, process_image_lines, process_images}
-use Rattle.pv_model.specs.Bytes.{Bytes}
-use Rattle.pv_model.specs.Grammar.Programs.{program_of}
-use Rattle.pv_model.specs.State.{State}
-use Rattle.pv_model.specs.Step.{run, step}
+use Rattle.pv_model.specs.Machine.{AnswerLine, counted_from, Asked, asked, program_of, State, run, step}
+use Rattle.pv_model.specs.Answers.Needs.{and_asked, asked_by_one, asked_in, needs_lines, needs_of_all, needs_of_process, process_image_lines, process_images}
 use Rattle.pv_laws_states.specs.States.{IsValid}
 use Rattle.pv_needs.specs.declared.process_images.TheConstants.{MANY}
 use Rattle.pv_needs.specs.Granted.{demands_in, lines_of_demands}
-use Rattle.pv_needs.specs.RecordedLines.{recorded_image_lines, recorded_lines}
-use Rattle.pv_needs.specs.Restraints.{image_restraints, recorded_image_restraints, recorded_restraints, restraints}
+use Rattle.pv_needs.specs.RecordedLines.{recorded_lines, recorded_process_lines}
 use Rattle.pv_needs.specs.ProcessImages.{RecordedImage, Keeps, recorded_image, process_images_at}
 use Rattle.pv_needs.proofs.Bounds.{Each, each-few}
 use Rattle.pv_needs.proofs.RecordedLines.{process-lines}
-use Rattle.pv_needs.proofs.Restraining.{process-restraints}
 use Rattle.pv_needs.proofs.Numbers.{IsAsked, asked-fewer, each-asked, none-asked}
 
 -- ---- numbers in sequence
@@ -55,31 +49,29 @@ at-list [] k past = refl
 at-list (x ∷ xs) zero past = absurd (omega arith)
 at-list (x ∷ xs) (suc k) past = at-list xs k (omega arith)
 
--- a text of process images, and the same of their records
-module _ {X : Type 0} (text : ℕ → ℕ × List Asked → List X) (recorded_text : ℕ → ℕ × RecordedImage → List X)
-    (same : (pid k : ℕ) (all : List (List Asked)) → Each MANY MANY all → flat_map (text pid) (counted_from k all) ≡ flat_map (recorded_text pid) (counted_from k (map recorded_image all)))
-    (all : List (ℕ × Asked)) (few : (pid : ℕ) → Each MANY MANY (process_images (asked_by_one all pid))) where
-  abbrev of-process : ℕ → List X
-  of-process pid = flat_map (text pid) (counted_from 1 (process_images (asked_by_one all pid)))
+-- the lines of process images, and those of their records
+module _ (all : List (ℕ × Asked)) (few : (pid : ℕ) → Each MANY MANY (process_images (asked_by_one all pid))) where
+  abbrev of-process : ℕ → List AnswerLine
+  of-process pid = needs_of_process all pid
 
-  abbrev of-records : ℕ × List RecordedImage → List X
-  of-records e = flat_map (recorded_text e.0) (counted_from 1 e.1)
+  abbrev of-records : ℕ × List RecordedImage → List AnswerLine
+  of-records e = recorded_process_lines e.0 e.1
 
   one-process : (pid : ℕ) (recorded : List RecordedImage) → recorded ≡ map recorded_image (process_images (asked_by_one all pid)) → of-records (pid, recorded) ≡ of-process pid
-  one-process pid recorded is = ap (λ images. of-records (pid, images)) is ∙ sym (same pid 1 (process_images (asked_by_one all pid)) (few pid))
+  one-process pid recorded is = ap (λ images. of-records (pid, images)) is ∙ sym (process-lines pid 1 (process_images (asked_by_one all pid)) (few pid))
 
   -- each list under its number
   from-number : (xs : List (List RecordedImage)) (n : ℕ) → ((k : ℕ) → k < length xs → process_images_at xs k ≡ map recorded_image (process_images (asked_by_one all (n + k))))
       → flat_map of-records (counted_from n xs) ≡ flat_map of-process (range_with_len n (length xs))
   from-number [] n keeps = refl
   from-number (x ∷ xs) n keeps =
-      ap₂ (λ (a b : List X). a ++ b)
+      ap₂ (λ (a b : List AnswerLine). a ++ b)
       (one-process n x (keeps 0 (omega arith) ∙ ap (λ m. map recorded_image (process_images (asked_by_one all m))) (add-zero n)))
       (from-number xs (n + 1) (λ k within.
       let more : n + suc k ≡ (n + 1) + k = omega arith in keeps (suc k) (omega (arith, within)) ∙ ap (λ m. map recorded_image (process_images (asked_by_one all m))) more))
 
   unsaid : (pid : ℕ) → process_images (asked_by_one all pid) ≡ [] → of-process pid ≡ []
-  unsaid pid none = ap (λ (ss : List (List Asked)). flat_map (text pid) (counted_from 1 ss)) none
+  unsaid pid none = ap (λ (ss : List (List Asked)). flat_map (process_image_lines pid) (counted_from 1 ss)) none
 
   no-process_images : (ss : List (List Asked)) → map recorded_image ss ≡ [] → ss ≡ []
   no-process_images [] is = refl
@@ -120,15 +112,8 @@ module _ (granted : Bool) (pids : List ℕ) (s : State) (recorded : List (List R
 
   lines-of : recorded_lines recorded ≡ needs_of_all (demands_in granted program_of pids s) (run program_of pids s).final.last_process
   lines-of =
-      all-processes process_image_lines recorded_image_lines process-lines (demands_in granted program_of pids s) few recorded (run program_of pids s).final.last_process keeps
-      (each-asked granted pids s whole)
+      all-processes (demands_in granted program_of pids s) few recorded (run program_of pids s).final.last_process keeps (each-asked granted pids s whole)
 
   -- the text of the records of a run is the text of its demands
   pub needs-reported : recorded_lines recorded ≡ lines_of_demands program_of granted pids s
   needs-reported = lines-of ∙ by-definition pids s granted
-
-  -- the calls of the records are those of the demands
-  pub restraints-reported : recorded_restraints recorded ≡ restraints program_of granted pids s
-  restraints-reported =
-      all-processes image_restraints recorded_image_restraints process-restraints (demands_in granted program_of pids s) few recorded (run program_of pids s).final.last_process keeps
-      (each-asked granted pids s whole)

@@ -6,31 +6,20 @@ use Rattle.std.proofs.lemmas.Bool.{and_parts, leb-true, ne_eqb}
 use Rattle.pv_model.specs.declared.call.Call.{Call}
 use Rattle.pv_model.specs.declared.errno.Errno.TheVariants.{ENOSYS}
 use Rattle.pv_model.specs.declared.outcome.Cause.TheVariants.{Promise as ByPromise}
-use Rattle.pv_model.specs.Answer.{Answered, answer, answer_by_attempt, at_next_line, effect, update, with_front}
-use Rattle.pv_model.specs.Answers.Needs.{Asked, Judged, and_asked, asked, asked_by, asked_by_one, asked_next, asked_of, judged, judged_walks}
-use Rattle.pv_model.specs.Attempt.{Attempt, done, refused}
-use Rattle.pv_model.specs.Calls.Processes.{end_process, with_result}
-use Rattle.pv_model.specs.Effect.{Effect, Reply, returns, returns_bytes, ends, waits}
-use Rattle.pv_model.specs.Errno.{errno_number}
-use Rattle.pv_model.specs.Grammar.Programs.{program_of}
-use Rattle.pv_model.specs.Held.{collect}
-use Rattle.pv_model.specs.Program.{Next, calls_for, inside, next}
-use Rattle.pv_model.specs.State.{Process, State, live, process_at}
-use Rattle.pv_model.specs.Step.{run, step, step_by, step_of}
-use Rattle.pv_model.specs.Walks.{walks_of}
+use Rattle.pv_model.specs.Machine.{Answered, answer, answer_by_attempt, at_next_line, effect, update, with_front, Asked, Judged, asked, asked_by, is_refused, judged_walks, Attempt, done, refused, end_process, with_result, Effect, Reply, returns, returns_bytes, ends, waits, errno_number, program_of, collect, Next, calls_for, inside, next, Process, State, live, process_at, run, step, step_by, step_of, walks_of, is_unveil}
+use Rattle.pv_model.specs.Answers.Needs.{and_asked, asked_by_one, asked_next, asked_of, judged}
 use Rattle.pv_laws_access.proofs.EffectByCall.{does-effect}
-use Rattle.pv_laws_access.proofs.HasEffect.{Did, HasEffect, stays, restrains, begins, closes, copies, forks, reaps, moves, cuts, writes_bytes, makes, links, unlinks, renames, opens, creates}
+use Rattle.pv_laws_access.proofs.CallEffects.{Did, HasEffect, stays, restrains, begins, closes, copies, forks, reaps, moves, cuts, writes_bytes, makes, links, unlinks, renames, opens, creates}
 use Rattle.pv_laws_runs.proofs.Ranges.{program_of-encodes}
-use Rattle.pv_model.specs.Answers.Observed.{is_unveil}
-use Rattle.pv_laws_states.specs.States.{IsValid, is_number}
+use Rattle.pv_laws_states.specs.States.{IsValid, is_process_number}
 use Rattle.pv_laws_states.proofs.Attempts.{Leads}
 use Rattle.pv_laws_states.proofs.BySteps.{step-keeps_whole}
 use Rattle.pv_laws_states.proofs.Members.{find_number-list_all, live-found}
 use Rattle.pv_laws_states.proofs.Outcomes.{at_call, by_answer}
 use Rattle.pv_laws_states.proofs.Processes.{last_process-update}
 use Rattle.pv_laws_states.proofs.Collect.{last-collect}
-use Rattle.pv_laws_states.proofs.Ending.{last-end}
-use Rattle.pv_needs.specs.Granted.{demand, demands_in, is_refused}
+use Rattle.pv_laws_states.proofs.ValidEnds.{last-end}
+use Rattle.pv_needs.specs.Granted.{demand, demands_in}
 use Rattle.pv_needs.proofs.Walks.{by-unveil, walks-short}
 
 -- ---- the last process number never decreases
@@ -129,7 +118,7 @@ asked-step s whole pid now is = of (process_at s pid) refl is
     by : (p : Process) → process_at s pid ≡ Some p → (n : Next) → asked_next program_of s pid p n ≡ Some now → IsAsked s.last_process (pid, now)
     by p at (inside q) is = cc is
     by p at (calls_for call) is =
-        let number = find_number-list_all (is_number s.last_process) pid (live p) s.processes whole.processes.numbers (live-found s pid p at) in
+        let number = find_number-list_all (is_process_number s.last_process) pid (live p) s.processes whole.processes.numbers (live-found s pid p at) in
         let parts = and_parts (nat_le 1 pid) (nat_le pid s.last_process) number in
         let same : asked_by s p call (answer program_of s pid call) ≡ now = cc is in
         record {

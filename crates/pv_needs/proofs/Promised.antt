@@ -7,10 +7,9 @@ use Rattle.pv_model.specs.declared.open_flags.OpenFlags.{OpenFlags}
 use Rattle.pv_model.specs.declared.open_flags.Mode.{Mode}
 use Rattle.pv_model.specs.declared.open_flags.Mode.TheVariants.{Read, Write, ReadWrite}
 use Rattle.pv_model.specs.declared.promise.Promise.TheVariants.{Rpath}
-use Rattle.pv_model.specs.Answers.Needs.{promises_needed}
-use Rattle.pv_model.specs.Answers.Nodes.{first_of}
+use Rattle.pv_model.specs.Machine.{promises_needed, first_of, needs, needs_cpath, needs_of_mode}
 use Rattle.pv_model.specs.Answers.Policy.{same_need}
-use Rattle.pv_model.specs.Needs.{needs, needs_cpath, needs_of_mode, needs_of_open}
+use Rattle.pv_model.specs.Needs.{needs_of_open}
 use Rattle.pv_needs.specs.Asking.{either_need, has_need, promises_of}
 
 first-to-open : (f : OpenFlags) → filter_map first_of (needs_of_open f) ≡ cond (list_any (same_need either_need) (needs_of_open f)) (Rpath ∷ []) (flat_map (λ need. need) (needs_of_open f))

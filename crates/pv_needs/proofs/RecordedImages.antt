@@ -6,8 +6,8 @@ use Rattle.std.proofs.lemmas.Grind.{flat_map-append}
 use Rattle.std.proofs.lemmas.List.{append-nil, map-append}
 use Rattle.std.proofs.lemmas.List.Elements.{filter-append}
 use Rattle.pv_model.specs.declared.promise.Promise.{Promise}
-use Rattle.pv_model.specs.Answers.Needs.{Asked, Judged, asked_by_one, needing, onto_process_image, same_promise, process_images, walks_judged}
-use Rattle.pv_model.specs.Promise.{all_promises}
+use Rattle.pv_model.specs.Machine.{Asked, Judged, same_promise, walks_judged, all_promises}
+use Rattle.pv_model.specs.Answers.Needs.{asked_by_one, needing, onto_process_image, process_images}
 use Rattle.pv_needs.specs.declared.process_images.RecordedTarget.{RecordedTarget}
 use Rattle.pv_needs.specs.declared.process_images.Times.{Times}
 use Rattle.pv_needs.specs.ProcessImages.{RecordedImage, call_more, is_ended, recorded_promise, recorded_image, recorded_targets, nothing_asked, once_more, process_more, promise_more, promises_more, times_of, process_images_at, Keeps, IsProcessMore}

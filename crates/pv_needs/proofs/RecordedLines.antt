@@ -7,10 +7,8 @@ use Rattle.std.proofs.lemmas.List.{length-map, map-append}
 use Rattle.std.proofs.Math.Nat.{min-eq_left}
 use Rattle.std.proofs.Math.Dec.{eqb-suc-zero}
 use Rattle.pv_model.specs.declared.promise.Promise.{Promise}
-use Rattle.pv_model.specs.Answers.Lines.{AnswerLine, answer_line, counted_from, permissions_in_places}
-use Rattle.pv_model.specs.Answers.Needs.{Asked, Judged, last_of, needing, permissions_asked, promise_texts_of, same_judged, same_promise, process_image_lines, target_text, targets_in, times_text, walks_judged, walks_to}
-use Rattle.pv_model.specs.Bytes.{Bytes}
-use Rattle.pv_model.specs.Promise.{all_promises, promise_name}
+use Rattle.pv_model.specs.Machine.{AnswerLine, answer_line, counted_from, permissions_in_places, Asked, Judged, same_judged, same_promise, walks_judged, walks_to, Bytes, all_promises, promise_name}
+use Rattle.pv_model.specs.Answers.Needs.{last_of, needing, permissions_asked, promise_texts_of, process_image_lines, target_text, targets_in, times_text}
 use Rattle.pv_needs.specs.declared.process_images.TheConstants.{MANY}
 use Rattle.pv_needs.specs.RecordedLines.{recorded_promise_lines, recorded_promises_lines, recorded_image_lines, recorded_target_lines, recorded_times_text}
 use Rattle.pv_needs.specs.ProcessImages.{recorded_promise, recorded_image, recorded_target, times_of}

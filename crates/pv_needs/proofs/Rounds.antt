@@ -8,13 +8,8 @@ use Rattle.std.specs.Ordering.{is_lt, nat_cmp}
 use Rattle.std.proofs.lemmas.Bool.{and_parts, eq-eqb, le-leb, leb-true, leb-false, le-ltb, lt-leb, lt-ltb, ltb-false, ltb-true}
 use Rattle.std.proofs.lemmas.List.Elements.{filter-append}
 use Rattle.pv_model.specs.declared.limits.TheConstants.{LAST_PROCESS}
-use Rattle.pv_model.specs.Answers.Nodes.{first_of}
-use Rattle.pv_model.specs.Answers.Turns.{continues, next_turn}
-use Rattle.pv_model.specs.Bytes.{Bytes}
-use Rattle.pv_model.specs.Held.{live_processes}
-use Rattle.pv_model.specs.State.{Process, ProcessRecord, Program, State, ended_record, live, live_process, process_at}
-use Rattle.pv_model.specs.Step.{step, step_of}
-use Rattle.pv_laws_states.specs.States.{AreProcesses, is_number}
+use Rattle.pv_model.specs.Machine.{first_of, continues, next_turn, Bytes, live_processes, Process, ProcessRecord, Program, State, ended_record, live, live_process, process_at, step, step_of}
+use Rattle.pv_laws_states.specs.States.{AreProcesses, is_process_number}
 use Rattle.pv_laws_states.proofs.Members.{find_number_after}
 use Rattle.pv_procs.proofs.Forks.{number-less}
 use Rattle.pv_needs.specs.Turning.{first_between}
@@ -172,11 +167,11 @@ filter-same p q [] same = refl
 filter-same p q (k ∷ ks) same = ap₂ (λ (b : Bool) (xs : List ℕ). cond b (k ∷ xs) xs) same.0 (filter-same p q ks same.1)
 
 module _ (g : ℕ → Bool) (pid last : ℕ) (low : last ≤ LAST_PROCESS) where
-  up-to-all : (rs : List (ℕ × ProcessRecord)) → list_all (λ r. is_number last r.0) rs ≡ true
+  up-to-all : (rs : List (ℕ × ProcessRecord)) → list_all (λ r. is_process_number last r.0) rs ≡ true
       → SameOn (λ k. nat_lt pid k && g k) (λ k. (nat_lt pid k && nat_le k LAST_PROCESS) && g k) (numbers rs)
   up-to-all [] all = tt
   up-to-all (r ∷ rs) all =
-      let parts = and_parts (is_number last r.0) (list_all (λ x. is_number last x.0) rs) all in
+      let parts = and_parts (is_process_number last r.0) (list_all (λ x. is_process_number last x.0) rs) all in
       let within = leb-true r.0 last (and_parts (nat_le 1 r.0) (nat_le r.0 last) parts.0).1 in
       (by (nat_lt pid r.0) (g r.0) ∙ sym (ap (λ (b : Bool). (nat_lt pid r.0 && b) && g r.0) (le-leb r.0 LAST_PROCESS (omega (arith, within)))), up-to-all rs parts.1)
     where
@@ -184,11 +179,11 @@ module _ (g : ℕ → Bool) (pid last : ℕ) (low : last ≤ LAST_PROCESS) where
       by true b = refl
       by false b = refl
 
-  from-first : (rs : List (ℕ × ProcessRecord)) → list_all (λ r. is_number last r.0) rs ≡ true
+  from-first : (rs : List (ℕ × ProcessRecord)) → list_all (λ r. is_process_number last r.0) rs ≡ true
       → SameOn (λ k. nat_le k pid && g k) (λ k. (nat_lt 0 k && nat_le k pid) && g k) (numbers rs)
   from-first [] all = tt
   from-first (r ∷ rs) all =
-      let parts = and_parts (is_number last r.0) (list_all (λ x. is_number last x.0) rs) all in
+      let parts = and_parts (is_process_number last r.0) (list_all (λ x. is_process_number last x.0) rs) all in
       let some = leb-true 1 r.0 (and_parts (nat_le 1 r.0) (nat_le r.0 last) parts.0).0 in
       (sym (ap (λ (b : Bool). (b && nat_le r.0 pid) && g r.0) (lt-ltb 0 r.0 (omega (arith, some)))), from-first rs parts.1)
 

@@ -7,9 +7,8 @@ use Rattle.std.proofs.lemmas.List.Elements.{filter-append}
 use Rattle.std.proofs.lemmas.Slice.Eq.{bytes_eq-Decides}
 use Rattle.pv_model.specs.declared.perms.Perms.{Perms}
 use Rattle.pv_model.specs.declared.target.Target.{Target}
-use Rattle.pv_model.specs.Answers.Needs.{Judged, permissions_asked, same_judged, targets_in, walks_to}
-use Rattle.pv_model.specs.Bytes.{Bytes}
-use Rattle.pv_model.specs.Unveil.{same_target}
+use Rattle.pv_model.specs.Machine.{Judged, same_judged, walks_to, Bytes, same_target}
+use Rattle.pv_model.specs.Answers.Needs.{permissions_asked, targets_in}
 use Rattle.pv_laws_trees.proofs.Entries.{bytes_eq-itself}
 use Rattle.pv_laws_trees.proofs.Targets.{same_target-itself, same_target-same}
 use Rattle.pv_needs.specs.declared.process_images.RecordedTarget.{RecordedTarget}

@@ -2,8 +2,8 @@
 use Rattle.std.proofs.Common.{◌≡◌, ◌∙◌, ℕ, ◌+◌, Bool, true, false, ◌||◌, List, [], ◌∷◌, ◌++◌, length, length-append, refl, ap, ap₂, arith}
 use Rattle.std.specs.Prelude.{min}
 use Rattle.pv_model.specs.declared.perms.Perms.{Perms}
-use Rattle.pv_model.specs.Answers.Needs.{Judged, last_of, permissions_asked}
-use Rattle.pv_model.specs.Perms.{join_permissions, no_permissions}
+use Rattle.pv_model.specs.Machine.{Judged, join_permissions, no_permissions}
+use Rattle.pv_model.specs.Answers.Needs.{last_of, permissions_asked}
 use Rattle.pv_needs.specs.declared.process_images.TheConstants.{MANY}
 use Rattle.pv_needs.specs.declared.process_images.Times.{Times}
 use Rattle.pv_needs.specs.ProcessImages.{once_more, times_of}

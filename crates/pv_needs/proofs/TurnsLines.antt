@@ -3,11 +3,8 @@ use Rattle.std.proofs.Common.{◌≡◌, ◌∙◌, ℕ, ◌-◌, ◌≤◌, [],
 use Rattle.std.specs.Prelude.{replicate}
 use Rattle.std.proofs.lemmas.Grind.{flat_map-append}
 use Rattle.std.proofs.lemmas.List.{append-nil}
-use Rattle.pv_model.specs.Answers.Turns.{Turn, next_turn, schedule_text, turn, turn_line, turns}
-use Rattle.pv_model.specs.Bytes.{Bytes}
-use Rattle.pv_model.specs.Grammar.Programs.{program_of}
-use Rattle.pv_model.specs.State.{State}
-use Rattle.pv_model.specs.Step.{Run, Schedule, run, steps_of}
+use Rattle.pv_model.specs.Machine.{next_turn, turns, Bytes, program_of, State, Run, Schedule, run, steps_of}
+use Rattle.pv_model.specs.Answers.Turns.{Turn, schedule_text, turn, turn_line}
 use Rattle.pv_model.proofs.Runs.{run-append}
 use Rattle.pv_laws_runs.proofs.TurnsMade.{next-goes, turn-few, turn-some}
 use Rattle.pv_laws_runs.proofs.TurnsReady.{turn-is}

@@ -1,9 +1,7 @@
 -- Turns: a fair schedule, turn by turn.
 use Rattle.std.proofs.Common.{◌≡◌, ◌∙◌, ℕ, zero, suc, ◌-◌, ◌≤◌, Bool, true, false, cond, List, [], ◌∷◌, Option, None, Some, refl, ap, min, arith}
-use Rattle.pv_model.specs.Answers.Turns.{Turn, continues, next_turn, one_step_more, turn, turn_then, turns, turns_within}
-use Rattle.pv_model.specs.Bytes.{Bytes}
-use Rattle.pv_model.specs.State.{Program, State}
-use Rattle.pv_model.specs.Step.{Schedule, step}
+use Rattle.pv_model.specs.Machine.{continues, next_turn, turns, Bytes, Program, State, Schedule, step}
+use Rattle.pv_model.specs.Answers.Turns.{Turn, one_step_more, turn, turn_then, turns_within}
 use Rattle.pv_laws_runs.proofs.TurnsMade.{next-goes, turn-some}
 
 module _ (program_of : Bytes → Option Program) where

@@ -8,13 +8,8 @@ use Rattle.pv_model.specs.declared.call.Call.{Call}
 use Rattle.pv_model.specs.declared.limits.TheConstants.{LAST_PROCESS}
 use Rattle.pv_model.specs.declared.outcome.Outcome.{Outcome}
 use Rattle.pv_model.specs.declared.outcome.Outcome.TheVariants.{Blocked, Gone}
-use Rattle.pv_model.specs.Answer.{answer}
-use Rattle.pv_model.specs.Answers.Nodes.{first_of}
-use Rattle.pv_model.specs.Answers.Turns.{Turn, continues, next_turn, turn}
-use Rattle.pv_model.specs.Grammar.Programs.{program_of}
-use Rattle.pv_model.specs.Program.{Next, calls_for, inside, next}
-use Rattle.pv_model.specs.State.{Process, State, process_at}
-use Rattle.pv_model.specs.Step.{step, step_by, step_of}
+use Rattle.pv_model.specs.Machine.{answer, first_of, continues, next_turn, program_of, Next, calls_for, inside, next, Process, State, process_at, step, step_by, step_of}
+use Rattle.pv_model.specs.Answers.Turns.{Turn, turn}
 use Rattle.pv_procs.specs.ProcessTable.{ProcessTable, number_after}
 use Rattle.pv_answers.proofs.Following.{fewer-after, next-record, records_after}
 use Rattle.pv_laws_states.specs.States.{AreProcesses}

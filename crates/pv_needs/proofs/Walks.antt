@@ -4,16 +4,10 @@ use Rattle.std.specs.List.{cons_option, filter_map}
 use Rattle.std.proofs.lemmas.Bool.{le-leb}
 use Rattle.pv_model.specs.declared.call.Call.{Call}
 use Rattle.pv_model.specs.declared.call.Call.TheVariants.{Unveil, Execve, Open, OpenAt, Chdir, Stat, Lstat, Readlink, Mkdir, Symlink, Link, Unlink, Rmdir, Rename}
-use Rattle.pv_model.specs.Answer.{answer}
-use Rattle.pv_model.specs.Answers.Needs.{Judged, judged, judged_at, judged_walks}
-use Rattle.pv_model.specs.Answers.Observed.{is_unveil}
-use Rattle.pv_model.specs.Effect.{end_of}
-use Rattle.pv_model.specs.Grammar.Programs.{program_of}
-use Rattle.pv_model.specs.State.{Process, State, process_at}
-use Rattle.pv_model.specs.Touch.{place_found}
-use Rattle.pv_model.specs.Walks.{Walk, walk_number, walks_of}
-use Rattle.pv_calls_path.specs.Ends.{end_begun}
-use Rattle.pv_calls_path.proofs.Begun.{begun-ends}
+use Rattle.pv_model.specs.Machine.{answer, Judged, judged_walks, is_unveil, end_of, program_of, Process, State, process_at, place_found, Walk, walk_number, walks_of}
+use Rattle.pv_model.specs.Answers.Needs.{judged, judged_at}
+use Rattle.pv_session.specs.OfCallsPath.Ends.{end_begun}
+use Rattle.pv_session.proofs.OfCallsPath.Begun.{begun-ends}
 use Rattle.pv_needs.specs.Asking.{begun_walks, judged_begun, walks_begun}
 
 take-none : {X : Type 0} (n : ℕ) → take {A = X} n [] ≡ []

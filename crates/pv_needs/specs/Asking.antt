@@ -5,14 +5,11 @@ use Rattle.pv_model.specs.declared.call.Call.{Call}
 use Rattle.pv_model.specs.declared.open_flags.OpenFlags.{OpenFlags}
 use Rattle.pv_model.specs.declared.promise.Promise.{Promise}
 use Rattle.pv_model.specs.declared.promise.Promise.TheVariants.{Rpath, Wpath}
-use Rattle.pv_model.specs.Answers.Needs.{Asked, Judged, judged_at}
-use Rattle.pv_model.specs.Answers.Observed.{is_unveil}
+use Rattle.pv_model.specs.Machine.{Asked, Judged, is_unveil, needs, Need, Process, State, Walk, walks_of}
+use Rattle.pv_model.specs.Answers.Needs.{judged_at}
 use Rattle.pv_model.specs.Answers.Policy.{same_need}
-use Rattle.pv_model.specs.Needs.{needs, needs_of_open}
-use Rattle.pv_model.specs.Promises.{Need}
-use Rattle.pv_model.specs.State.{Process, State}
-use Rattle.pv_model.specs.Walks.{Walk, walks_of}
-use Rattle.pv_calls_path.specs.Ends.{end_begun}
+use Rattle.pv_model.specs.Needs.{needs_of_open}
+use Rattle.pv_session.specs.OfCallsPath.Ends.{end_begun}
 use Rattle.pv_needs.specs.declared.process_images.JudgedWalks.{JudgedWalks}
 use Rattle.pv_needs.specs.ProcessImages.{RecordedImage, IsProcessMore}
 

@@ -1,25 +1,7 @@
 -- The demands of the calls that were granted: neither a promise nor a table refused them.
 use Rattle.std.specs.Prelude.{ℕ, Bool, true, false, ◌&&◌, if◌then◌else◌, List, [], ◌∷◌, Option, None}
-use Rattle.pv_model.specs.declared.outcome.Cause.{Cause}
-use Rattle.pv_model.specs.declared.outcome.Cause.TheVariants.{Plain}
-use Rattle.pv_model.specs.declared.outcome.Outcome.{Outcome}
-use Rattle.pv_model.specs.declared.outcome.Outcome.TheVariants.{Failed, Killed}
-use Rattle.pv_model.specs.Answers.Lines.{AnswerLine}
-use Rattle.pv_model.specs.Answers.Needs.{Asked, and_asked, asked, needs_lines, needs_of_all}
-use Rattle.pv_model.specs.Bytes.{Bytes}
-use Rattle.pv_model.specs.State.{Program, State}
-use Rattle.pv_model.specs.Step.{run, step}
-
--- the reason is a promise or a table, and not an error of the call itself
-abbrev pub is_restraint : Cause → Bool
-is_restraint Plain = false
-is_restraint cause = true
-
--- a promise or a table refused the call
-abbrev pub is_refused : Outcome → Bool
-is_refused (Killed p) = true
-is_refused (Failed errno cause) = is_restraint cause
-is_refused outcome = false
+use Rattle.pv_model.specs.Machine.{AnswerLine, Asked, asked, is_refused, Bytes, Program, State, run, step}
+use Rattle.pv_model.specs.Answers.Needs.{and_asked, needs_lines, needs_of_all}
 
 module _ (granted : Bool) (program_of : Bytes → Option Program) where
   -- the demands of a step that is a call; if only granted calls count, of a call that was not refused

@@ -3,9 +3,8 @@ use Rattle.std.specs.Prelude.{◌≡◌, ℕ, suc, ◌+◌, Bool, true, false, i
 use Rattle.std.specs.List.{cons_option, list_any}
 use Rattle.pv_model.specs.declared.perms.Perms.{Perms}
 use Rattle.pv_model.specs.declared.promise.Promise.{Promise}
-use Rattle.pv_model.specs.Answers.Needs.{Judged, Asked, asked_by_one, last_of, needing, same_judged, same_promise, process_images, permissions_asked, targets_in, walks_judged, walks_to}
-use Rattle.pv_model.specs.Perms.{join_permissions}
-use Rattle.pv_model.specs.Promise.{all_promises}
+use Rattle.pv_model.specs.Machine.{Judged, Asked, same_judged, same_promise, walks_judged, walks_to, join_permissions, all_promises}
+use Rattle.pv_model.specs.Answers.Needs.{asked_by_one, last_of, needing, process_images, permissions_asked, targets_in}
 use Rattle.pv_needs.specs.declared.process_images.TheConstants.{MANY}
 use Rattle.pv_needs.specs.declared.process_images.JudgedWalks.{JudgedWalks}
 use Rattle.pv_needs.specs.declared.process_images.RecordedTarget.{RecordedTarget}

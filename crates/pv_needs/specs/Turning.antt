@@ -1,12 +1,8 @@
 -- Turns, and the process that has the next turn.
 use Rattle.std.specs.Prelude.{◌≡◌, ◌&&◌, ℕ, nat_le, nat_lt, ◌++◌, map, Option, None, Some}
 use Rattle.std.specs.List.{filter}
-use Rattle.pv_model.specs.Answers.Nodes.{first_of}
-use Rattle.pv_model.specs.Answers.Turns.{continues, schedule_text, turn}
-use Rattle.pv_model.specs.Bytes.{Bytes}
-use Rattle.pv_model.specs.Grammar.Programs.{program_of as programs}
-use Rattle.pv_model.specs.State.{Program, State}
-use Rattle.pv_model.specs.Step.{Schedule, step}
+use Rattle.pv_model.specs.Machine.{first_of, continues, Bytes, program_of as programs, Program, State, Schedule, step}
+use Rattle.pv_model.specs.Answers.Turns.{schedule_text, turn}
 use Rattle.pv_streams.specs.Sinks.{and_all}
 
 module _ (program_of : Bytes → Option Program) where

@@ -3,19 +3,18 @@ ghost use Rattle.std.specs.Prelude.{◌≡◌, IfOk, IsSome, OnOk, Some};
 ghost use Rattle.std.specs.List.{list_any};
 ghost use Rattle.pv_needs.specs.Asking.{either_need, ends_before, has_need, judged_begun, promises_of, promises_of_open};
 ghost use Rattle.pv_laws_states.specs.States.{IsValid};
-ghost use Rattle.pv_model.specs.Answers.Needs.{begins_program as begins_by_definition, promises_needed as needed_by_definition};
+ghost use Rattle.pv_model.specs.Machine.{promises_needed as needed_by_definition, call_of, walk_of, Process, process_at};
+ghost use Rattle.pv_model.specs.Answers.Needs.{begins_program as begins_by_definition};
 ghost use Rattle.pv_model.specs.Answers.Policy.{same_need};
-ghost use Rattle.pv_model.specs.CallRef.{call_of, walk_of};
 ghost use Rattle.pv_model.specs.Needs.{needs_of_open};
-ghost use Rattle.pv_model.specs.State.{Process, process_at};
 
 use crate::process_images::{JudgedWalk, JudgedWalks};
 use crate::wording::{TargetText, TargetTexts};
+use pv_answers::calls_state::Parts;
 use pv_answers::is_unveil;
-use pv_calls_path::ends::end_of;
-use pv_calls_path::unveil::target_of;
-use pv_calls_state::Parts;
 use pv_model::{CallRef, Mode, OpenFlags, Outcome, Promise, Walk, Walks};
+use pv_session::calls_path::ends::end_of;
+use pv_session::calls_path::unveil::target_of;
 use std::alloc::AllocError;
 
 // Returns the promises that an open needs.

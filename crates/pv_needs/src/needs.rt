@@ -1,17 +1,12 @@
 //! The demands of each program on its sandbox in a run.
 ghost use Rattle.std.specs.Prelude.{◌≡◌, ◌≤◌, ◌&&◌, ◌*◌, ◌^◌, ◌++◌, ℕ, List, length, replicate, IfErr, IfOk, IsErrOf, IsTrue, OnOk};
 ghost use Rattle.pv_needs.specs.Asking.{IsMoreBy};
-ghost use Rattle.pv_needs.specs.Granted.{demand, demands_in, is_refused as is_refused_by_definition, lines_of_demands};
+ghost use Rattle.pv_needs.specs.Granted.{demand, demands_in, lines_of_demands};
 ghost use Rattle.pv_needs.specs.ProcessImages.{Keeps};
-ghost use Rattle.pv_needs.specs.Restraints.{restraints};
 ghost use Rattle.pv_laws_states.specs.States.{is_call};
-ghost use Rattle.pv_model.specs.Answers.Lines.{answer_bytes};
-ghost use Rattle.pv_model.specs.Answers.Needs.{Asked as AskedByDefinition, needs_lines};
-ghost use Rattle.pv_model.specs.CallRef.{call_of};
+ghost use Rattle.pv_model.specs.Machine.{answer_bytes, Asked as AskedByDefinition, is_refused as is_refused_by_definition, call_of, program_of, process_at, steps_of};
+ghost use Rattle.pv_model.specs.Answers.Needs.{needs_lines};
 ghost use Rattle.pv_model.specs.declared.limits.TheConstants.{SCHEDULE_LINES};
-ghost use Rattle.pv_model.specs.Grammar.Programs.{program_of};
-ghost use Rattle.pv_model.specs.State.{process_at};
-ghost use Rattle.pv_model.specs.Step.{steps_of};
 ghost use Rattle.pv_procs.specs.Turns.{CallsNext};
 ghost use Rattle.pv_session.specs.Running.{FailsBy, run_of, stepped, turn};
 ghost use Rattle.pv_session.specs.declared.session.Stop.TheVariants.{Memory};
@@ -19,14 +14,13 @@ ghost use Rattle.pv_streams.specs.Sinks.{WritesOr};
 
 use crate::asking::{begins_program, judged_walks, promises_needed};
 use crate::process_images::{Asked, Recorded};
-use crate::restraints::restraints_text;
 use crate::wording::TargetTexts;
 use crate::writing::write_recorded;
 use pv_model::{CallRef, Cause, Outcome};
 use pv_procs::Fetched;
 use pv_script::CallTexts;
 use pv_session::{Session, Stop};
-use pv_streams::{Sink, write_whole};
+use pv_streams::Sink;
 use std::alloc::Global;
 
 // Returns whether a promise or a table refused the call with this outcome.
@@ -40,8 +34,9 @@ fn is_refused(outcome: Outcome) -> bool
     }
 }
 
-// Returns whether the call with this outcome does not count: only granted calls do, and it was refused.
-fn is_left_out(granted: bool, outcome: Outcome) -> bool
+/// Returns whether the call with this outcome does not count: only granted calls do, and a promise or a table refused
+/// it.
+pub fn is_left_out(granted: bool, outcome: Outcome) -> bool
     ensures { result ≡ (granted && is_refused_by_definition outcome) }
 {
     granted && is_refused(outcome)
@@ -208,35 +203,4 @@ pub fn write_needs<W: Sink>(
     ensures nothing { IsErrOf result Stop.Memory → W.written out.new ≡ W.written out.old }
 {
     write_demands(alloc, session, schedule, false, out)
-}
-
-/// Runs a schedule, and writes the calls of pledge(2) and unveil(2) by which each process image can restrict itself to
-/// its demands in that run: its targets, the lock of the table, and its promises, first in C and then as instructions
-/// of a program. With `granted`, the calls that a promise or a table refused do not count.
-///
-/// # Errors
-///
-/// - `Memory`, if there is no memory for a step, as for `run_schedule`, for the records, or for the text. Nothing was
-///   written.
-/// - `Write`, if a write failed. The sink received a prefix of the text.
-pub fn write_restraints<W: Sink>(
-    alloc: Global,
-    session: &mut Session,
-    schedule: &[(u32, u32)],
-    granted: bool,
-    out: &mut W,
-) -> Result<(), Stop>
-    requires { length schedule.now ≤ SCHEDULE_LINES }
-    ensures after { OnOk result (session.new ≡ (run_of session.old schedule.now).final) }
-    ensures written { WritesOr W.Sink FailsBy (restraints program_of granted (steps_of schedule.now) session.old) out.old out.new result }
-    ensures nothing { IsErrOf result Stop.Memory → W.written out.new ≡ W.written out.old }
-{
-    // The contract of `parts` states that the state satisfies the invariant.
-    let _ = session.parts();
-    let recorded = ask_schedule(alloc, session, schedule, granted)?;
-    let Ok(text) = restraints_text(alloc, &recorded) else {
-        return Err(Stop::Memory);
-    };
-    write_whole(out, &text)?;
-    Ok(())
 }

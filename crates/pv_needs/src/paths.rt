@@ -1,7 +1,6 @@
 //! Guessed paths. To check a guess is cheaper than to compute a path.
 ghost use Rattle.std.specs.Prelude.{◌≡◌, ◌++◌, ◌∷◌, IfSome, IsTrue, Some};
-ghost use Rattle.pv_model.specs.Answers.Nodes.{node_path};
-ghost use Rattle.pv_model.specs.Tree.{is_directory_at};
+ghost use Rattle.pv_model.specs.Machine.{node_path, is_directory_at};
 
 use pv_model::limits::ROOT;
 use pv_tree::Tree;

@@ -1,9 +1,7 @@
 //! Records of the demands of calls, by process and process image.
 ghost use Rattle.std.specs.Prelude.{◌≡◌, ◌≤◌, ◌<◌, if◌then◌else◌, ℕ, None, [], length, IfOk, OnOk, option_to_list};
 ghost use Rattle.std.specs.List.{list_any};
-ghost use Rattle.pv_model.specs.Answers.Needs.{same_judged as same_by_definition, same_promise};
-ghost use Rattle.pv_model.specs.Promise.{all_promises};
-ghost use Rattle.pv_model.specs.Unveil.{same_target as same_target_by_definition};
+ghost use Rattle.pv_model.specs.Machine.{same_judged as same_by_definition, same_promise, all_promises, same_target as same_target_by_definition};
 ghost use Rattle.pv_needs.specs.ProcessImages.{IsProcessMore, call_more, first_walk, first_walks, index_of as index_of_target, nothing_asked, once_more, open_at, process_more, promises_more, process_images_at, target_more, walk_more, walks_more};
 
 use pv_model::{Perms, Promise, Target};
@@ -127,7 +125,7 @@ impl<'a> Model for Asked<'a> {
 }
 
 /// A count of calls or walks, and the line of the last.
-#[derive(Clone, Copy, Debug, PartialEq, Eq)]
+#[derive(Clone, Copy)]
 pub(crate) struct Times {
     /// The count, which saturates at `MANY`.
     pub(crate) count: u64,

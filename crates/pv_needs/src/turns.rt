@@ -1,8 +1,8 @@
 //! A fair schedule of a session.
 ghost use Rattle.std.specs.Prelude.{◌≡◌, ◌≤◌, ◌*◌, ℕ, IfErr, IfOk, IsErrOf, OnErr, OnOk};
 ghost use Rattle.pv_needs.specs.Turning.{IsMade, IsTaken, TurnsWritten, first_between};
-ghost use Rattle.pv_model.specs.Answers.Turns.{continues as continues_by_definition, next_turn, schedule_text, turns};
-ghost use Rattle.pv_model.specs.Grammar.Programs.{program_of};
+ghost use Rattle.pv_model.specs.Machine.{continues as continues_by_definition, next_turn, turns, program_of};
+ghost use Rattle.pv_model.specs.Answers.Turns.{schedule_text};
 ghost use Rattle.pv_session.specs.Running.{FailsBy, run_of};
 ghost use Rattle.pv_session.specs.Stopping.{NextLoads};
 ghost use Rattle.pv_session.specs.declared.session.Stop.TheVariants.{Memory};

@@ -4,8 +4,7 @@
 //! the same directory, the path is probably the same, and to check this is cheaper.
 ghost use Rattle.std.specs.Prelude.{◌≡◌, ◌<◌, ◌++◌, [], codes, length, IsTrue, OnOk};
 ghost use Rattle.std.specs.Fmt.{decimal};
-ghost use Rattle.pv_model.specs.Answers.Nodes.{target_words};
-ghost use Rattle.pv_model.specs.Trace.{quote};
+ghost use Rattle.pv_model.specs.Machine.{target_words, quote};
 ghost use Rattle.pv_needs.specs.KnownWords.{IsKnown, directory_in, known_words};
 
 use crate::paths::{around_last, is_path_of};

@@ -1,7 +1,7 @@
 //! The lines of the records.
 ghost use Rattle.std.specs.Prelude.{◌≡◌, ◌≤◌, flat_map, length};
 ghost use Rattle.pv_needs.specs.RecordedLines.{recorded_lines, recorded_process_lines, recorded_promise_lines, recorded_promises_lines, recorded_image_lines, recorded_target_lines, recorded_times_text};
-ghost use Rattle.pv_model.specs.Answers.Lines.{answer_bytes};
+ghost use Rattle.pv_model.specs.Machine.{answer_bytes};
 ghost use Rattle.pv_streams.specs.Sinks.{Writes};
 
 use crate::process_images::{ProcessImage, ProcessImages, Recorded, RecordedTarget, Times};

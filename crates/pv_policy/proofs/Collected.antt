@@ -21,23 +21,13 @@ use Rattle.pv_model.specs.declared.open_flags.OpenFlags.{OpenFlags}
 use Rattle.pv_model.specs.declared.perms.Perms.{Perms}
 use Rattle.pv_model.specs.declared.promise.Promise.{Promise}
 use Rattle.pv_model.specs.declared.promise.Promise.TheVariants.{Stdio, Rpath, Wpath, Cpath, Proc, Exec, Unveil}
-use Rattle.pv_model.specs.Answers.Explain.{need_text, permissions_lacked}
-use Rattle.pv_model.specs.Answers.Explore.{by_line, new_ones}
-use Rattle.pv_model.specs.Answers.Lines.{AnswerLine, answer_line, answer_bytes, answer_line_bytes, counted_from}
-use Rattle.pv_model.specs.Answers.Needs.{Judged, same_promise}
-use Rattle.pv_model.specs.Answers.Nodes.{first_of}
-use Rattle.pv_model.specs.Answers.Numbers.{Numbers}
-use Rattle.pv_model.specs.Answers.Observed.{Observation, groups, observed, with_alike}
-use Rattle.pv_model.specs.Answers.Policy.{Granted, Request, Requests, all_used, entries_held, first_need, idle_at, idle_line, idle_permission_line, idle_permission_lines, idle_promise_lines, is_idle, is_none_of, is_pledged_call, is_promised, is_restricted_call, joined, need_lines, needs_with, new_permissions, new_permissions_lines, permissions_text, permissions_used, program_key, promise_lines, promises_in_use, restricted, same_need, target_lines, walks_asked, with_need}
+use Rattle.pv_model.specs.Machine.{permissions_lacked, new_ones, AnswerLine, answer_line, answer_bytes, answer_line_bytes, counted_from, Judged, same_promise, first_of, Numbers, Observation, groups, observed, Granted, Request, Requests, Bytes, needs, needs_cpath, needs_of_mode, join_permissions, no_permissions, promise_name, Need, program_of, Program, Tree}
+use Rattle.pv_model.specs.Answers.Explain.{need_text}
+use Rattle.pv_model.specs.Answers.Explore.{by_line}
+use Rattle.pv_model.specs.Answers.Observed.{with_alike}
+use Rattle.pv_model.specs.Answers.Policy.{all_used, entries_held, first_need, idle_at, idle_line, idle_permission_line, idle_permission_lines, idle_promise_lines, is_idle, is_none_of, is_pledged_call, is_promised, is_restricted_call, joined, need_lines, needs_with, new_permissions, new_permissions_lines, permissions_text, permissions_used, program_key, promise_lines, promises_in_use, restricted, same_need, target_lines, walks_asked, with_need}
 use Rattle.pv_model.specs.Answers.ProgramNames.{program_line}
-use Rattle.pv_model.specs.Bytes.{Bytes}
-use Rattle.pv_model.specs.Needs.{needs, needs_cpath, needs_of_mode, needs_of_open}
-use Rattle.pv_model.specs.Perms.{join_permissions, no_permissions}
-use Rattle.pv_model.specs.Promise.{promise_name}
-use Rattle.pv_model.specs.Promises.{Need}
-use Rattle.pv_model.specs.Grammar.Programs.{program_of}
-use Rattle.pv_model.specs.State.{Program}
-use Rattle.pv_model.specs.Tree.{Tree}
+use Rattle.pv_model.specs.Needs.{needs_of_open}
 use Rattle.pv_policy.specs.Groups.{and_more, and_one}
 use Rattle.pv_needs.specs.Asking.{either_need, has_need, promises_of}
 use Rattle.pv_policy.specs.Usage.{Noted, UsedPromise, UsedTarget, Usage, Walked, all_used_by, and_all_granted, and_calls, and_granted, and_walks, bytes_or_none, first_bytes, granted_more, has_promise, idle_granted, idle_of, idle_promise, if_restricted, is_held, is_rpath, need_bytes, new_bytes, noted, noted_key, nothing_at, permissions_at, permissions_in, promise_bytes, promise_more, target_more, target_words, unused, unused_by, unused_promise, unused_target, usage_bytes, usage_key, usage_more, walked, walked_words, words_of}

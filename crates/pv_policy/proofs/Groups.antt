@@ -5,9 +5,8 @@ use Rattle.std.specs.List.{list_any, position_from}
 use Rattle.std.proofs.lemmas.Iterator.Adapters.{position_from-zero}
 use Rattle.std.proofs.lemmas.List.Quantifiers.{position-Some}
 use Rattle.pv_laws_trees.proofs.Entries.{bytes_eq-itself, bytes_eq-same}
-use Rattle.pv_model.specs.Answers.Explore.{new_ones}
-use Rattle.pv_model.specs.Answers.Numbers.{Numbers}
-use Rattle.pv_model.specs.Answers.Observed.{groups, with_alike}
+use Rattle.pv_model.specs.Machine.{new_ones, Numbers, groups}
+use Rattle.pv_model.specs.Answers.Observed.{with_alike}
 use Rattle.pv_policy.specs.Groups.{and_more, and_one, is_row_of, row_at}
 
 -- ---- the rest of a list without a group

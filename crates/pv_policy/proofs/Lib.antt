@@ -10,3 +10,4 @@ pub mod NextCalls
 pub mod Nexts
 pub mod Using
 pub mod Recording
+pub use Rattle.pv_needs.proofs.OfAnswers

@@ -1,9 +1,8 @@
 -- The next step of a process is an instruction on registers, or a call.
 use Rattle.std.proofs.Common.{◌≡◌, ◌∙◌, ap, sym, Option, None, Some}
 use Rattle.pv_model.specs.declared.call.Call.{Call}
-use Rattle.pv_answers.proofs.NextOnes.{register-next}
-use Rattle.pv_model.specs.Program.{calls_for, inside, next}
-use Rattle.pv_model.specs.State.{Process}
+use Rattle.pv_needs.proofs.OfAnswers.NextOnes.{register-next}
+use Rattle.pv_model.specs.Machine.{calls_for, inside, next, Process}
 use Rattle.pv_procs.specs.Turns.{RegisterNext}
 
 -- an instruction on registers is no call

@@ -4,9 +4,7 @@ use Rattle.std.specs.Prelude.{find, fold}
 use Rattle.std.proofs.lemmas.Grind.{flat_map-append}
 use Rattle.std.proofs.lemmas.List.{length-take-le, map-append, take_all, take_more}
 use Rattle.std.proofs.lemmas.List.Sums.{fold-append}
-use Rattle.pv_model.specs.Answers.Lines.{counted_from}
-use Rattle.pv_model.specs.Answers.Policy.{Granted}
-use Rattle.pv_model.specs.Bytes.{Bytes}
+use Rattle.pv_model.specs.Machine.{counted_from, Granted, Bytes}
 use Rattle.pv_policy.specs.Usage.{permissions_at, permissions_in}
 
 module _ {A B : Type 0} (f : B → A → B) (b : B) where

@@ -3,16 +3,8 @@ use Rattle.std.proofs.Common.{◌≡◌, ◌∙◌, refl, sym, ap, ap₂, ℕ, B
 use Rattle.pv_model.specs.declared.call.Call.{Call}
 use Rattle.pv_model.specs.declared.perms.Perms.{Perms}
 use Rattle.pv_model.specs.declared.target.Target.{Target}
-use Rattle.pv_model.specs.Answer.{answer}
-use Rattle.pv_model.specs.Answers.Needs.{Judged, judged_walks}
-use Rattle.pv_model.specs.Answers.Observed.{is_unveil}
-use Rattle.pv_model.specs.Answers.Policy.{Granted, Request, at_entry as at_entry_by_definition, at_governor as at_governor_by_definition, permissions_used, place_of}
-use Rattle.pv_model.specs.Answers.Reach.{is_allowed}
-use Rattle.pv_model.specs.Bytes.{Bytes}
-use Rattle.pv_model.specs.Calls.Restraints.{entries_of_table}
-use Rattle.pv_model.specs.Grammar.Programs.{program_of}
-use Rattle.pv_model.specs.State.{Process, State, process_at}
-use Rattle.pv_model.specs.Unveil.{governing_entry, judgement}
+use Rattle.pv_model.specs.Machine.{answer, Judged, judged_walks, is_unveil, Granted, Request, is_allowed, Bytes, entries_of_table, program_of, Process, State, process_at, governing_entry, judgement}
+use Rattle.pv_model.specs.Answers.Policy.{at_entry as at_entry_by_definition, at_governor as at_governor_by_definition, permissions_used, place_of}
 use Rattle.pv_needs.specs.Asking.{walks_begun}
 use Rattle.pv_needs.proofs.Walks.{walks-known}
 use Rattle.pv_policy.specs.Asked.{Has, at_entry, at_governor, entry_granted, used_in}

@@ -1,9 +1,9 @@
 -- The permissions that a walk uses, and the place at which it ends.
 use Rattle.std.proofs.Common.{◌≡◌, ◌∙◌, ℕ, ◌<◌, Bool, true, false, true≢false, cond, IsSome, List, [], ◌∷◌, length, Option, None, Some, Result, Ok, Err, option_map, slice_get, refl, sym, ap, arith}
-use Rattle.pv_calls_path.specs.Ends.{end_begun, if_given}
+use Rattle.pv_needs.specs.OfCallsPath.Ends.{end_begun, if_given}
 use Rattle.pv_laws_states.specs.States.{IsValid}
 use Rattle.pv_laws_states.proofs.Attempts.{Leads}
-use Rattle.pv_laws_states.proofs.Starts.{StartsWell, leads-start}
+use Rattle.pv_laws_states.proofs.WalkStarts.{StartsWell, leads-start}
 use Rattle.pv_model.specs.declared.errno.Errno.{Errno}
 use Rattle.pv_model.specs.declared.judgement.Judgement.TheVariants.{Allowed, Denied}
 use Rattle.pv_model.specs.declared.perms.Perms.{Perms}
@@ -11,20 +11,10 @@ use Rattle.pv_model.specs.declared.place.Place.{Place}
 use Rattle.pv_model.specs.declared.place.Place.TheVariants.{At, Node as Unnamed}
 use Rattle.pv_model.specs.declared.target.Target.{Target}
 use Rattle.pv_model.specs.declared.target.Target.TheVariants.{Directory, Name}
-use Rattle.pv_model.specs.Answers.Needs.{Judged, judged_at}
-use Rattle.pv_model.specs.Answers.Policy.{Granted, place_of}
-use Rattle.pv_model.specs.Answers.Reach.{is_allowed}
-use Rattle.pv_model.specs.Attempt.{Attempt, done, refused}
-use Rattle.pv_model.specs.Calls.Descriptors.{check_start}
-use Rattle.pv_model.specs.Calls.Restraints.{entries_of_table}
-use Rattle.pv_model.specs.Effect.{end_of, start_directory}
-use Rattle.pv_model.specs.Perms.{covers}
-use Rattle.pv_model.specs.State.{Process, State, process_at}
-use Rattle.pv_model.specs.Touch.{place_found}
-use Rattle.pv_model.specs.Tree.{Tree, is_directory_at}
-use Rattle.pv_model.specs.Unveil.{Table, governing_entry, judge_entry, judgement, permissions_at, permissions_of, target_of}
-use Rattle.pv_model.specs.Walk.{resolve}
-use Rattle.pv_model.specs.Walks.{Walk}
+use Rattle.pv_model.specs.Machine.{Judged, Granted, is_allowed, Attempt, done, refused, check_start, entries_of_table, end_of, start_directory, covers, Process, State, process_at, place_found, Tree, is_directory_at, Table, governing_entry, judge_entry, judgement, permissions_at, target_of, resolve, Walk}
+use Rattle.pv_model.specs.Answers.Needs.{judged_at}
+use Rattle.pv_model.specs.Answers.Policy.{place_of}
+use Rattle.pv_model.specs.Unveil.{permissions_of}
 use Rattle.pv_needs.specs.Asking.{judged_begun}
 use Rattle.pv_policy.specs.Asked.{at_entry, at_governor, entry_granted, used_in}
 use Rattle.pv_unveil.proofs.Climbing.{resolve-directory}

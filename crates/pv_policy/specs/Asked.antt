@@ -2,15 +2,8 @@
 use Rattle.std.specs.Prelude.{◌≡◌, ℕ, if◌then◌else◌, List, [], ◌∷◌, ◌++◌, flat_map, slice_get, Bool, Option, None, Some}
 use Rattle.pv_model.specs.declared.perms.Perms.{Perms}
 use Rattle.pv_model.specs.declared.target.Target.{Target}
-use Rattle.pv_model.specs.Answers.Needs.{Judged}
-use Rattle.pv_model.specs.Answers.Nodes.{target_words}
-use Rattle.pv_model.specs.Answers.Policy.{Granted, place_of}
-use Rattle.pv_model.specs.Answers.Reach.{is_allowed}
-use Rattle.pv_model.specs.Calls.Restraints.{entries_of_table}
-use Rattle.pv_model.specs.State.{Process, State}
-use Rattle.pv_model.specs.Tree.{Tree}
-use Rattle.pv_model.specs.Unveil.{Table, governing_entry, judgement}
-use Rattle.pv_model.specs.Walks.{Walk}
+use Rattle.pv_model.specs.Machine.{Judged, target_words, Granted, is_allowed, entries_of_table, Process, State, Tree, Table, governing_entry, judgement, Walk}
+use Rattle.pv_model.specs.Answers.Policy.{place_of}
 use Rattle.pv_needs.specs.Asking.{if_begun}
 use Rattle.pv_policy.specs.declared.asked.Asked.{Asked}
 

@@ -1,6 +1,6 @@
 -- Tables of groups: a row for each key, in the order of the first element that has it.
 use Rattle.std.specs.Prelude.{ℕ, Bool, if◌then◌else◌, List, [], ◌∷◌, fold, position, bytes_eq, Option}
-use Rattle.pv_model.specs.Answers.Numbers.{Numbers}
+use Rattle.pv_model.specs.Machine.{Numbers}
 
 module _ {X Y : Type 0} (key : X → Numbers) (key_of : Y → Numbers) (start : X → Y) (more : Y → X → Y) where
   -- whether a row has the key of an element

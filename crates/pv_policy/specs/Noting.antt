@@ -1,8 +1,7 @@
 -- Calls as the code records them.
 use Rattle.std.specs.Prelude.{ℕ, Option, option_map}
 use Rattle.std.specs.Global.{Vec}
-use Rattle.pv_model.specs.Bytes.{Bytes}
-use Rattle.pv_model.specs.CallRef.{call_of}
+use Rattle.pv_model.specs.Machine.{Bytes, call_of}
 use Rattle.pv_promises.specs.Pledge.{bits_of}
 use Rattle.pv_policy.specs.declared.noted.NotedCall.{NotedCall}
 use Rattle.pv_policy.specs.Usage.{Noted}

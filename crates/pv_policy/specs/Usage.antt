@@ -5,23 +5,13 @@ use Rattle.std.specs.List.{list_any}
 use Rattle.pv_model.specs.declared.call.Call.{Call}
 use Rattle.pv_model.specs.declared.perms.Perms.{Perms}
 use Rattle.pv_model.specs.declared.promise.Promise.{Promise}
-use Rattle.pv_model.specs.Answers.Explain.{need_text, permissions_lacked}
+use Rattle.pv_model.specs.Machine.{permissions_lacked, AnswerLine, answer_line, answer_line_bytes, answer_bytes, answer, Judged, asked_by, same_promise, Numbers, Observation, Granted, Request, program_numbers, Bytes, needs, join_permissions, no_permissions, promise_name, Promises, program_of, Process, Program, State, Tree}
+use Rattle.pv_model.specs.Answers.Explain.{need_text}
 use Rattle.pv_model.specs.Answers.Explore.{by_line}
-use Rattle.pv_model.specs.Answers.Lines.{AnswerLine, answer_line, answer_line_bytes, answer_bytes}
-use Rattle.pv_model.specs.Answer.{answer}
-use Rattle.pv_model.specs.Answers.Needs.{Judged, asked_by, same_promise}
-use Rattle.pv_model.specs.Answers.Numbers.{Numbers}
-use Rattle.pv_model.specs.Answers.Observed.{Observation, is_pledge}
-use Rattle.pv_model.specs.Answers.Policy.{Granted, Request, entries_held, idle_line, idle_permission_line, is_none_of, is_promised, is_restricted_call, permissions_text, permissions_used, promises_in_use}
-use Rattle.pv_model.specs.Answers.ProgramNames.{program_line, program_numbers}
-use Rattle.pv_model.specs.Bytes.{Bytes}
-use Rattle.pv_model.specs.Needs.{needs}
-use Rattle.pv_model.specs.Perms.{join_permissions, no_permissions}
-use Rattle.pv_model.specs.Promise.{promise_bit, promise_name}
-use Rattle.pv_model.specs.Promises.{Promises}
-use Rattle.pv_model.specs.Grammar.Programs.{program_of}
-use Rattle.pv_model.specs.State.{Process, Program, State}
-use Rattle.pv_model.specs.Tree.{Tree}
+use Rattle.pv_model.specs.Answers.Observed.{is_pledge}
+use Rattle.pv_model.specs.Answers.Policy.{entries_held, idle_line, idle_permission_line, is_none_of, is_promised, is_restricted_call, permissions_text, permissions_used, promises_in_use}
+use Rattle.pv_model.specs.Answers.ProgramNames.{program_line}
+use Rattle.pv_model.specs.Promise.{promise_bit}
 use Rattle.pv_needs.specs.Asking.{either_need, has_need, promises_of}
 use Rattle.pv_policy.specs.Groups
 

@@ -1,23 +1,20 @@
 //! The walks of a call, and what they use of a table.
 ghost use Rattle.std.specs.Prelude.{◌≡◌, ◌<◌, [], length, map, option_map, option_to_list, slice_get, IfOk, IsSome, IsTrue, OnOk, Some};
-ghost use Rattle.pv_calls_path.specs.Ends.{end_begun};
+ghost use Rattle.pv_needs.specs.OfCallsPath.Ends.{end_begun};
 ghost use Rattle.pv_laws_states.specs.States.{IsValid};
-ghost use Rattle.pv_model.specs.Answers.Nodes.{target_words as words_of_target};
+ghost use Rattle.pv_model.specs.Machine.{target_words as words_of_target, entries_of_table, call_of, walk_of, Process, process_at, is_directory_at};
 ghost use Rattle.pv_model.specs.Answers.Policy.{place_of};
-ghost use Rattle.pv_model.specs.Calls.Restraints.{entries_of_table};
-ghost use Rattle.pv_model.specs.CallRef.{call_of, walk_of, walks_in};
-ghost use Rattle.pv_model.specs.State.{Process, process_at};
-ghost use Rattle.pv_model.specs.Tree.{is_directory_at};
+ghost use Rattle.pv_model.specs.CallRef.{walks_in};
 ghost use Rattle.pv_needs.specs.Asking.{begun_walks, judged_begun, walks_begun};
 ghost use Rattle.pv_policy.specs.Asked.{Has, HasMore, entry_granted, used_in};
 ghost use Rattle.pv_unveil.specs.Up.{directory_of};
 
 use crate::noted::{AskedWalk, Granted};
-use pv_answers::{TargetWords, is_unveil, text_of};
-use pv_calls_path::ends::end_of;
-use pv_calls_path::unveil::target_of;
-use pv_calls_state::Parts;
 use pv_model::{CallRef, Perms, Target, Walk, Walks};
+use pv_needs::answers::{TargetWords, is_unveil, text_of};
+use pv_needs::calls_path::ends::end_of;
+use pv_needs::calls_path::unveil::target_of;
+use pv_needs::calls_state::Parts;
 use pv_tree::{PlaceRef, Tree};
 use pv_unveil::Table;
 use std::alloc::{AllocError, Global};

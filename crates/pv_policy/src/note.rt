@@ -1,19 +1,15 @@
 //! A call of a process in a state, recorded.
 ghost use Rattle.std.specs.Prelude.{◌≡◌, ◌&&◌, if◌then◌else◌, not, [], is_some, IsSome, OnOk, Some};
 ghost use Rattle.pv_laws_states.specs.States.{IsValid};
-ghost use Rattle.pv_model.specs.Answer.{answer};
-ghost use Rattle.pv_model.specs.Answers.Observed.{is_unveil};
-ghost use Rattle.pv_model.specs.CallRef.{call_of};
-ghost use Rattle.pv_model.specs.Grammar.Programs.{program_of};
-ghost use Rattle.pv_model.specs.State.{Process, process_at};
+ghost use Rattle.pv_model.specs.Machine.{answer, is_unveil, call_of, program_of, Process, process_at};
 ghost use Rattle.pv_policy.specs.Usage.{and_call, noted_by, request_of};
 
 use crate::asked::{asked_by, entries_of};
 use crate::noted::{Granted, NotedCall};
 use crate::program_use::{ProgramUse, keep_call};
-use pv_answers::is_unveil;
-use pv_calls_state::Parts;
 use pv_model::CallRef;
+use pv_needs::answers::is_unveil;
+use pv_needs::calls_state::Parts;
 use pv_unveil::Table;
 use std::alloc::{AllocError, Global};
 

@@ -1,6 +1,6 @@
 //! The use of a sandbox by the calls of a program.
 ghost use Rattle.std.specs.Prelude.{◌≡◌, bytes_eq, position, IfOk, OnOk};
-ghost use Rattle.pv_model.specs.Answers.ProgramNames.{program_numbers};
+ghost use Rattle.pv_model.specs.Machine.{program_numbers};
 ghost use Rattle.pv_policy.specs.Noting.{noted_in};
 ghost use Rattle.pv_policy.specs.Usage.{and_call, unused, usage_more};
 

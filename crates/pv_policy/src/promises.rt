@@ -2,17 +2,16 @@
 ghost use Rattle.std.specs.Prelude.{◌≡◌, ◌&&◌, map, not, option_copied, IfOk, OnOk};
 ghost use Rattle.std.specs.List.{list_any};
 ghost use Rattle.std.specs.Option.{option_or};
-ghost use Rattle.pv_model.specs.Answers.Needs.{same_promise};
+ghost use Rattle.pv_model.specs.Machine.{same_promise, call_of};
 ghost use Rattle.pv_model.specs.Answers.Policy.{promises_in_use};
-ghost use Rattle.pv_model.specs.CallRef.{call_of};
 ghost use Rattle.pv_policy.specs.Noting.{bytes_in, noted_in};
 ghost use Rattle.pv_policy.specs.Usage.{first_bytes, is_held, need_bytes, promise_by, promise_more, unused_promise};
 ghost use Rattle.pv_promises.specs.Pledge.{bits_of};
 
 use crate::noted::NotedCall;
 use crate::text::need_lines;
-use pv_answers::is_pledge;
 use pv_model::{CallRef, Promise, Promises};
+use pv_needs::answers::is_pledge;
 use pv_needs::{needs_either, promises_of};
 use pv_promises::has;
 use std::alloc::{AllocError, Global};

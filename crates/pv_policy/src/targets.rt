@@ -1,7 +1,6 @@
 //! The targets at which the walks of a program's calls were checked.
 ghost use Rattle.std.specs.Prelude.{◌≡◌, [], bytes_eq, map, position, IfOk, OnOk};
-ghost use Rattle.pv_model.specs.Answers.Explain.{permissions_lacked};
-ghost use Rattle.pv_model.specs.Perms.{no_permissions};
+ghost use Rattle.pv_model.specs.Machine.{permissions_lacked, no_permissions};
 ghost use Rattle.pv_policy.specs.Usage.{and_walk, and_walks, target_more, walked};
 
 use crate::noted::AskedWalk;

@@ -1,11 +1,11 @@
 //! The lines of a program, as bytes.
 ghost use Rattle.std.specs.Prelude.{◌≡◌, ◌++◌, codes, IfOk, OnOk};
-ghost use Rattle.pv_model.specs.Answers.Lines.{answer_line, answer_line_bytes};
+ghost use Rattle.pv_model.specs.Machine.{answer_line, answer_line_bytes};
 ghost use Rattle.pv_model.specs.Answers.Policy.{permissions_text};
 ghost use Rattle.pv_policy.specs.Usage.{need_bytes, new_bytes};
 
-use pv_answers::{Decimal, Letters, Line, Plain, text_of};
 use pv_model::Perms;
+use pv_needs::answers::{Decimal, Letters, Line, Plain, text_of};
 use std::alloc::{AllocError, Global};
 
 /// Returns the lines of a call with a need: its line BY, which is given, and the need.

@@ -1,33 +1,41 @@
-//! The number of walks of a call.
+//! The number of walks of a call that counts.
 ghost use Rattle.std.specs.Prelude.{◌≡◌, IfOk, Some};
 ghost use Rattle.pv_model.specs.declared.call.Call.{Call};
-ghost use Rattle.pv_model.specs.Answer.{answer};
-ghost use Rattle.pv_model.specs.Grammar.Programs.{program_of};
-ghost use Rattle.pv_model.specs.Program.{calls_for, next};
-ghost use Rattle.pv_model.specs.State.{Process, process_at};
+ghost use Rattle.pv_model.specs.Machine.{answer, program_of, calls_for, next, Process, process_at};
+ghost use Rattle.pv_policy.specs.Collecting.{walks_counted};
 
 use pv_model::StepFault;
+use pv_needs::is_left_out;
+use pv_needs::session::Session;
 use pv_procs::Fetched;
 use pv_script::CallTexts;
-use pv_session::Session;
 use std::alloc::Global;
 
-/// Makes the next step of a process if it is a call, and returns the number of walks that the call began. Otherwise
-/// returns 0.
+/// Makes the next step of a process if it is a call, and returns the number of walks that the call began. Returns `None`
+/// if the call does not count: only granted calls do, and a promise or a table refused it. If the next step is no call,
+/// returns `None` too.
 ///
 /// # Errors
 ///
 /// `NoMemory`, if there is no memory for a program.
-pub fn walks_of_call(alloc: Global, session: &mut Session, pid: u32) -> Result<u8, StepFault>
-    ensures { IfOk result (λ walks. (me : Process) (call : Call) → process_at session.old pid ≡ Some me → next me ≡ calls_for call → walks ≡ (answer program_of session.old pid call).walks) }
+pub fn walks_of_call(
+    alloc: Global,
+    granted: bool,
+    session: &mut Session,
+    pid: u32,
+) -> Result<Option<u8>, StepFault>
+    ensures { IfOk result (λ walks. (me : Process) (call : Call) → process_at session.old pid ≡ Some me → next me ≡ calls_for call → walks ≡ walks_counted granted (answer program_of session.old pid call)) }
 {
     let mut texts = CallTexts::new();
     match session.fetch(pid, &mut texts) {
         Fetched::Call(call) => {
             let answer = session.call(alloc, pid, call)?;
-            Ok(answer.walks)
+            if is_left_out(granted, answer.outcome) {
+                return Ok(None);
+            }
+            Ok(Some(answer.walks))
         }
-        Fetched::Register => Ok(0),
-        Fetched::Gone => Ok(0),
+        Fetched::Register => Ok(None),
+        Fetched::Gone => Ok(None),
     }
 }

@@ -1,6 +1,6 @@
 //! The lines of a program, as bytes.
 ghost use Rattle.std.specs.Prelude.{◌≡◌, ◌++◌, flat_map, OnOk};
-ghost use Rattle.pv_model.specs.Answers.Lines.{answer_bytes, answer_line_bytes, counted_from};
+ghost use Rattle.pv_model.specs.Machine.{answer_bytes, answer_line_bytes, counted_from};
 ghost use Rattle.pv_model.specs.Answers.Policy.{idle_line, idle_permission_line};
 ghost use Rattle.pv_policy.specs.Usage.{idle_granted, idle_of, idle_promise, promise_bytes, usage_bytes, use_bytes};
 
@@ -9,8 +9,8 @@ use crate::noted::Granted;
 use crate::program_use::ProgramUse;
 use crate::promises::PromiseUse;
 use crate::targets::{TargetUse, lacked};
-use pv_answers::{Fragment, Letters, Line, Plain, append};
 use pv_model::Perms;
+use pv_needs::answers::{Fragment, Letters, Line, Plain, append};
 use pv_programs::append_program_line;
 use pv_streams::Gathered;
 use pv_tree::Tree;

@@ -5,10 +5,7 @@ use Rattle.std.specs.List.{list_all}
 use Rattle.std.specs.Ordering.{nat_cmp}
 use Rattle.std.proofs.Math.ListN.{get_or, set}
 use Rattle.std.proofs.lemmas.Bool.{and_parts, and_from, cases_eq, eq-eqb, ne_eqb, ltb-true}
-use Rattle.pv_model.specs.Calls.Processes.{adopt, is_unclaimed, adopter, end_process}
-use Rattle.pv_model.specs.Numbered.{Numbered}
-use Rattle.pv_model.specs.State.{OpenFile, Program, Process, ProcessRecord, ended_record, State, live_process}
-use Rattle.pv_model.specs.Tree.{Tree}
+use Rattle.pv_model.specs.Machine.{adopt, is_unclaimed, adopter, end_process, Numbered, OpenFile, Program, Process, ProcessRecord, ended_record, State, live_process, Tree}
 use Rattle.pv_procs.specs.declared.slot.ProcessSlot.{ProcessSlot}
 use Rattle.pv_procs.specs.declared.shared.Shared.{Shared}
 use Rattle.pv_procs.specs.Slots.{IsConsistent, process_of, entry_by, entry_of, entries_of, is_above, ascends, is_numbered, uses, users_at, program_at, table_of, adopted, is_claimed}

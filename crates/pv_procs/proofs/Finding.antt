@@ -14,8 +14,7 @@ use Rattle.std.proofs.lemmas.Cmp.{nat_cmp_total}
 use Rattle.std.proofs.lemmas.List.{get_or_default}
 use Rattle.std.proofs.lemmas.List.Quantifiers.{position-Some}
 use Rattle.std.proofs.lemmas.List.Sums.{prefix_len-le-length}
-use Rattle.pv_model.specs.State.{Program, Process, ProcessRecord, live, live_process}
-use Rattle.pv_model.specs.Calls.Processes.{parent_of}
+use Rattle.pv_model.specs.Machine.{Program, Process, ProcessRecord, live, live_process, parent_of}
 use Rattle.pv_files.proofs.Seen.{past}
 use Rattle.pv_procs.specs.declared.slot.ProcessSlot.{ProcessSlot}
 use Rattle.pv_procs.specs.declared.shared.Shared.{Shared}

@@ -9,12 +9,7 @@ use Rattle.std.proofs.lemmas.Bool.{and_parts, and_from, or_left, or_right, cases
 use Rattle.std.proofs.lemmas.List.Folds.{list_all-append}
 use Rattle.std.proofs.lemmas.List.Sums.{count_by-le-length}
 use Rattle.pv_model.specs.declared.errno.Errno.TheVariants.{EAGAIN}
-use Rattle.pv_model.specs.Attempt.{◌>>◌, refuse, refuse_if}
-use Rattle.pv_model.specs.Calls.Processes.{fork, child}
-use Rattle.pv_model.specs.Effect.{answers}
-use Rattle.pv_model.specs.Numbered.{Numbered}
-use Rattle.pv_model.specs.State.{OpenFile, Process, ProcessRecord, live, State, with_process}
-use Rattle.pv_model.specs.Tree.{Tree}
+use Rattle.pv_model.specs.Machine.{◌>>◌, refuse, refuse_if, fork, child, answers, Numbered, OpenFile, Process, ProcessRecord, live, State, with_process, Tree}
 use Rattle.pv_procs.specs.declared.slot.ProcessSlot.{ProcessSlot}
 use Rattle.pv_procs.specs.declared.shared.Shared.{Shared}
 use Rattle.pv_procs.specs.Children.{child_slot}

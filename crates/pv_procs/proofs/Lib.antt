@@ -9,3 +9,5 @@ pub mod Forks
 pub mod Reaps
 pub mod Loads
 pub mod Turning
+pub use Rattle.pv_unveil.proofs as OfUnveil
+pub use Rattle.pv_unveil.proofs.OfTree

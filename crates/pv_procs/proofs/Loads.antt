@@ -8,8 +8,7 @@ use Rattle.std.proofs.lemmas.Bool.{and_parts, cases_eq, eq-eqb, eqb-true, eqb-fa
 use Rattle.std.proofs.lemmas.Bool.Decides.{nat_tests}
 use Rattle.std.proofs.lemmas.List.Quantifiers.{position-Some}
 use Rattle.std.proofs.lemmas.List.Sums.{count_by-le-length, prefix_len-le-length}
-use Rattle.pv_model.specs.Calls.Processes.{with_program}
-use Rattle.pv_model.specs.State.{Program, ProcessRecord, live, State}
+use Rattle.pv_model.specs.Machine.{with_program, Program, ProcessRecord, live, State}
 use Rattle.pv_files.proofs.Seen.{past}
 use Rattle.pv_procs.specs.declared.slot.ProcessSlot.{ProcessSlot}
 use Rattle.pv_procs.specs.declared.shared.Shared.{Shared}

@@ -9,13 +9,7 @@ use Rattle.std.proofs.lemmas.Bool.{and_parts, and_from, eq-eqb, ne_eqb, ltb-true
 use Rattle.std.proofs.lemmas.List.Quantifiers.{position-Some}
 use Rattle.std.proofs.lemmas.List.Sums.{prefix_len-le-length}
 use Rattle.pv_model.specs.declared.errno.Errno.TheVariants.{ECHILD}
-use Rattle.pv_model.specs.Attempt.{Attempt, done, refused, ◌>>◌, give, refuse_if}
-use Rattle.pv_model.specs.Bytes.{is_empty, little_endian}
-use Rattle.pv_model.specs.Calls.Processes.{parent_of, statuses, reap, wait}
-use Rattle.pv_model.specs.Effect.{Effect, Reply, returns_bytes, waits, answers_bytes}
-use Rattle.pv_model.specs.Numbered.{Numbered}
-use Rattle.pv_model.specs.State.{OpenFile, Process, ProcessRecord, State}
-use Rattle.pv_model.specs.Tree.{Tree}
+use Rattle.pv_model.specs.Machine.{Attempt, done, refused, ◌>>◌, give, refuse_if, is_empty, little_endian, parent_of, statuses, reap, wait, Effect, Reply, returns_bytes, waits, answers_bytes, Numbered, OpenFile, Process, ProcessRecord, State, Tree}
 use Rattle.pv_files.proofs.Seen.{past}
 use Rattle.pv_procs.specs.declared.slot.ProcessSlot.{ProcessSlot}
 use Rattle.pv_procs.specs.declared.shared.Shared.{Shared}

@@ -9,9 +9,7 @@ use Rattle.std.specs.FinMap.Entries.{find, find-put}
 use Rattle.std.specs.List.{HoldsAt}
 use Rattle.std.specs.Ordering.{is_eq, nat_cmp}
 use Rattle.pv_model.specs.declared.call_ref.CallRef.{CallRef}
-use Rattle.pv_model.specs.CallRef.{call_of}
-use Rattle.pv_model.specs.Program.{calls_for, next}
-use Rattle.pv_model.specs.State.{Process, Program, live, live_process}
+use Rattle.pv_model.specs.Machine.{call_of, calls_for, next, Process, Program, live, live_process}
 use Rattle.pv_script.specs.Context.{Context, in_context, is_inside}
 use Rattle.pv_script.specs.Passing.{Passes}
 use Rattle.pv_procs.specs.declared.slot.ProcessSlot.{ProcessSlot}

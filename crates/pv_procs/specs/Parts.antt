@@ -1,7 +1,8 @@
 -- The record of a live process as a part of the specification's process.
 use Rattle.std.specs.Prelude.{is_some, ◌&&◌, if◌then◌else◌, [], map, None}
 use Rattle.pv_model.specs.Calls.Processes.{descriptor_after_exec}
-use Rattle.pv_model.specs.State.{Process, first_process, no_registers, no_bytes}
+use Rattle.pv_model.specs.Machine.{Process, first_process}
+use Rattle.pv_model.specs.State.{no_registers, no_bytes}
 use Rattle.pv_procs.specs.declared.record.ProcessRecord.{ProcessRecord}
 
 abbrev pub record_of : Process → ProcessRecord

@@ -4,10 +4,7 @@ use Rattle.std.specs.FinMap.Entries.{find, put, is_sorted}
 use Rattle.std.specs.List.{list_all}
 use Rattle.std.specs.Ordering.{nat_cmp}
 use Rattle.pv_model.specs.declared.limits.TheConstants.{PROCESSES, LAST_PROCESS}
-use Rattle.pv_model.specs.Numbered.{Numbered}
-use Rattle.pv_model.specs.Program.{Next, inside}
-use Rattle.pv_model.specs.State.{OpenFile, Program, Process, ProcessRecord, live, ended_record, State, live_process, first_process}
-use Rattle.pv_model.specs.Tree.{Tree}
+use Rattle.pv_model.specs.Machine.{Numbered, Next, inside, OpenFile, Program, Process, ProcessRecord, live, ended_record, State, live_process, first_process, Tree}
 
 -- the processes by number, and the last number that was assigned: these parts of the specification's state
 pub record ProcessTable : Type 0 where

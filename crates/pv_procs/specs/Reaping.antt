@@ -1,9 +1,6 @@
 -- The result of wait(2).
 use Rattle.pv_model.specs.declared.errno.Errno.TheVariants.{ECHILD}
-use Rattle.pv_model.specs.Attempt.{Attempt, give, refuse}
-use Rattle.pv_model.specs.Bytes.{little_endian}
-use Rattle.pv_model.specs.Effect.{Effect, waits, answers_bytes}
-use Rattle.pv_model.specs.State.{State}
+use Rattle.pv_model.specs.Machine.{Attempt, give, refuse, little_endian, Effect, waits, answers_bytes, State}
 use Rattle.pv_procs.specs.declared.processes.Reap.{Reap}
 use Rattle.pv_procs.specs.declared.processes.Reap.TheVariants.{Child, Blocked, NoChild}
 

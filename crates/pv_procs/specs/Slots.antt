@@ -2,7 +2,7 @@
 use Rattle.std.specs.Prelude.{◌≡◌, ℕ, ◌≤◌, ◌+◌, ◌&&◌, ◌==◌, not, Bool, true, List, [], ◌∷◌, map, length, count_by, nat_le, nat_lt, if◌then◌else◌, slice_get, is_none, is_some, Option, None, Some}
 use Rattle.std.specs.List.{list_all}
 use Rattle.pv_model.specs.declared.limits.TheConstants.{PROCESSES, LAST_PROCESS}
-use Rattle.pv_model.specs.State.{Program, Process, ProcessRecord, live, ended_record}
+use Rattle.pv_model.specs.Machine.{Program, Process, ProcessRecord, live, ended_record}
 use Rattle.pv_procs.specs.declared.slot.ProcessSlot.{ProcessSlot}
 use Rattle.pv_procs.specs.declared.shared.Shared.{Shared}
 use Rattle.pv_procs.specs.ProcessTable.{ProcessTable}

@@ -1,9 +1,7 @@
 -- The next step of a process.
 use Rattle.std.specs.Prelude.{◌≡◌, ℕ, zero, suc, true, false, Option, None, Some}
 use Rattle.pv_model.specs.declared.call_ref.CallRef.{CallRef}
-use Rattle.pv_model.specs.CallRef.{call_of}
-use Rattle.pv_model.specs.Program.{inside, calls_for, next}
-use Rattle.pv_model.specs.State.{Process}
+use Rattle.pv_model.specs.Machine.{call_of, inside, calls_for, next, Process}
 use Rattle.pv_script.specs.Context.{Context, is_inside}
 use Rattle.pv_script.specs.Passing.{Passes}
 use Rattle.pv_procs.specs.declared.processes.Fetched.{Fetched}

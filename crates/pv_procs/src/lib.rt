@@ -14,4 +14,7 @@ mod shared;
 mod slot;
 
 pub use processes::{Fetched, Processes, Reap};
+pub use pv_promises as promises;
+pub use pv_script as script;
+pub use pv_unveil as unveil;
 pub use record::ProcessRecord;

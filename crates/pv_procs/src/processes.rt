@@ -5,14 +5,7 @@ ghost use Rattle.std.specs.Borrow.{sem};
 ghost use Rattle.std.specs.Ordering.{nat_cmp};
 ghost use Rattle.pv_model.specs.declared.limits.TheConstants.{BUFFER};
 ghost use Rattle.pv_model.specs.declared.errno.Errno.TheVariants.{EAGAIN};
-ghost use Rattle.pv_model.specs.Answer.{at_next_line, with_front};
-ghost use Rattle.pv_model.specs.Attempt.{give, refuse};
-ghost use Rattle.pv_model.specs.Calls.Processes.{parent_of, with_result, end_process, fork, wait, with_program};
-ghost use Rattle.pv_model.specs.Effect.{answers, waits};
-ghost use Rattle.pv_model.specs.Numbered.{Numbered};
-ghost use Rattle.pv_model.specs.Program.{next, calls_for};
-ghost use Rattle.pv_model.specs.State.{OpenFile, Process, State};
-ghost use Rattle.pv_model.specs.Tree.{Tree};
+ghost use Rattle.pv_model.specs.Machine.{at_next_line, with_front, give, refuse, parent_of, with_result, end_process, fork, wait, with_program, answers, waits, Numbered, next, calls_for, OpenFile, Process, State, Tree};
 
 use crate::ProcessRecord;
 use crate::ending::settle;
@@ -40,7 +33,7 @@ pub enum Fetched<'a> {
 }
 
 /// The result of wait(2).
-#[derive(Clone, Copy, Debug, PartialEq, Eq)]
+#[derive(Clone, Copy)]
 pub enum Reap {
     /// The number of the ended child that was waited for, and its exit status.
     Child(u32, u32),

@@ -2,7 +2,7 @@
 ghost use Rattle.std.specs.Prelude.{◌≡◌, ◌+◌, ◌-◌, ◌<◌, ◌≤◌, ◌==◌, nat_lt, min, length, true, find as first_where, List, option_map, position, is_some, IsSome, IfSome, Some, None, IfOk, vec_len, vec_capacity, if◌then◌else◌};
 ghost use Rattle.std.specs.FinMap.Entries.{find};
 ghost use Rattle.std.specs.Ordering.{nat_cmp};
-ghost use Rattle.pv_model.specs.State.{live_process};
+ghost use Rattle.pv_model.specs.Machine.{live_process};
 ghost use Rattle.pv_procs.specs.declared.shared.Shared.{Shared};
 ghost use Rattle.pv_procs.specs.Children.{child_slot};
 ghost use Rattle.pv_procs.specs.Parts.{first_record};

@@ -4,7 +4,7 @@ use Rattle.std.proofs.lemmas.Grind.{flat_map-append}
 use Rattle.std.proofs.lemmas.List.{take_more}
 use Rattle.std.proofs.lemmas.Option.{get_or_from_slice_get, slice_get_within}
 use Rattle.std.proofs.Math.Seq.{take-length}
-use Rattle.pv_model.specs.Answers.Numbers.{Numbers}
+use Rattle.pv_model.specs.Machine.{Numbers}
 use Rattle.pv_programs.specs.Appending.{Appends}
 
 pub appends_one : (n : ℕ) (old new : Numbers) → new ≡ old ++ n ∷ [] → Appends (n ∷ []) old new

@@ -2,13 +2,9 @@
 use Rattle.std.proofs.Common.{◌≡◌, ◌∙◌, sym, ap, ap₂, ℕ, zero, suc, ◌-◌, ◌<◌, Bool, true, false, cond, if◌then◌else◌, List, [], ◌∷◌, ◌++◌, length, flat_map, filter, append_assoc, append-nil, codes, Option, None, Some, option_map, refl, arith}
 use Rattle.pv_model.specs.declared.place.Place.{Place}
 use Rattle.pv_model.specs.declared.place.Place.TheVariants.{At, Node as Unnamed}
-use Rattle.pv_model.specs.Answers.Nodes.{first_of, with_name}
-use Rattle.pv_model.specs.Answers.ProgramNames.{holds_program, is_program, program_numbers, program_words}
-use Rattle.pv_model.specs.Answers.Reach.{ListedName, listed_names, names_within}
-use Rattle.pv_model.specs.Bytes.{Bytes}
-use Rattle.pv_model.specs.Grammar.Programs.{program_of}
-use Rattle.pv_model.specs.State.{Program}
-use Rattle.pv_model.specs.Tree.{Entries, Tree, root, entries_at}
+use Rattle.pv_model.specs.Machine.{first_of, with_name, program_numbers, ListedName, Bytes, program_of, Program, Entries, Tree, root, entries_at}
+use Rattle.pv_model.specs.Answers.ProgramNames.{holds_program, is_program, program_words}
+use Rattle.pv_model.specs.Answers.Reach.{listed_names, names_within}
 use Rattle.pv_programs.specs.Naming.{below, first_under, first_within, has_numbers, holds_numbers, or_next, path_words, program_at}
 
 -- ---- the first of filtered elements

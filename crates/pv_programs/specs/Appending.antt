@@ -1,6 +1,6 @@
 -- Lists of numbers, appended to.
 use Rattle.std.specs.Prelude.{◌≡◌, ◌++◌}
-use Rattle.pv_model.specs.Answers.Numbers.{Numbers}
+use Rattle.pv_model.specs.Machine.{Numbers}
 
 -- numbers are appended
 pub record Appends (ns old new : Numbers) : Type 0 where

@@ -1,14 +1,6 @@
 -- The first name of a node that satisfies a condition, in the order of the listing.
 use Rattle.std.specs.Prelude.{ℕ, zero, suc, Bool, false, if◌then◌else◌, List, [], ◌∷◌, ◌++◌, bytes_eq, codes, Option, None, Some, option_map, option_and_then}
-use Rattle.pv_model.specs.Answers.Numbers.{Numbers}
-use Rattle.pv_model.specs.Answers.ProgramNames.{program_numbers}
-use Rattle.pv_model.specs.Bytes.{Bytes}
-use Rattle.pv_model.specs.Calls.Processes.{executable_bytes}
-use Rattle.pv_model.specs.Grammar.Programs.{program_of}
-use Rattle.pv_model.specs.Listing.{listed_path}
-use Rattle.pv_model.specs.State.{Program}
-use Rattle.pv_model.specs.Trace.{quote}
-use Rattle.pv_model.specs.Tree.{Entries, Tree, entries_at, node_at}
+use Rattle.pv_model.specs.Machine.{Numbers, program_numbers, Bytes, executable_bytes, program_of, listed_path, Program, quote, Entries, Tree, entries_at, node_at}
 
 -- ---- the program of a file
 

@@ -1,6 +1,6 @@
 //! Instructions as lists of numbers.
 ghost use Rattle.std.specs.Prelude.{◌≡◌, OnOk};
-ghost use Rattle.pv_model.specs.Answers.Numbers.{instruction_numbers};
+ghost use Rattle.pv_model.specs.Machine.{instruction_numbers};
 ghost use Rattle.pv_programs.specs.Appending.{Appends};
 
 use crate::numbers::Numbered;

@@ -14,3 +14,5 @@ mod program;
 
 pub use line::append_program_line;
 pub use program::{program_numbers, same_program};
+pub use pv_answers as answers;
+pub use pv_answers::calls_state;

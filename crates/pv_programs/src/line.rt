@@ -1,16 +1,14 @@
 //! The line of a program.
 ghost use Rattle.std.specs.Prelude.{◌≡◌, ◌++◌, codes, decimal, option_map, OnOk};
-ghost use Rattle.pv_model.specs.Answers.Lines.{answer_line, answer_line_bytes};
+ghost use Rattle.pv_model.specs.Machine.{answer_line, answer_line_bytes, program_of, listed_path};
 ghost use Rattle.pv_model.specs.Answers.ProgramNames.{program_line};
-ghost use Rattle.pv_model.specs.Grammar.Programs.{program_of};
-ghost use Rattle.pv_model.specs.Listing.{listed_path};
 ghost use Rattle.pv_programs.specs.Naming.{path_words};
 
 use crate::naming::path_of_program;
+use pv_answers::tree::Tree;
 use pv_answers::{Count, Fragment, Line, Plain, Quoted, append};
 use pv_script::Program;
 use pv_streams::{Failed, Gathered, Sink};
-use pv_tree::Tree;
 use std::alloc::{AllocError, Global};
 
 // Returns a path as a listing has it: the path of the root is a slash.

@@ -1,18 +1,14 @@
 //! The first name of a program, in the order of a listing.
 ghost use Rattle.std.specs.Prelude.{◌≡◌, ◌++◌, codes, length, option_map, IfOk, IsSome, IsTrue};
-ghost use Rattle.pv_model.specs.Answers.ProgramNames.{program_numbers};
-ghost use Rattle.pv_model.specs.Effect.{bytes_of};
-ghost use Rattle.pv_model.specs.Grammar.Programs.{read_program as program_encoded};
-ghost use Rattle.pv_model.specs.Sealed.{is_file};
-ghost use Rattle.pv_model.specs.Tree.{IsWellFormed, node_at, root};
+ghost use Rattle.pv_model.specs.Machine.{program_numbers, bytes_of, read_program as program_encoded, is_file, IsWellFormed, node_at, root};
 ghost use Rattle.pv_programs.specs.Naming.{first_within, holds_numbers, program_at};
 ghost use Rattle.pv_script.specs.Reading.{GivesProgram};
 
 use crate::program::program_numbers;
+use pv_answers::tree::Tree;
 use pv_model::limits::ROOT;
 use pv_model::{Kind, ParseFault};
 use pv_script::Program;
-use pv_tree::Tree;
 use std::alloc::{AllocError, Global};
 
 // Parses the bytes of a file as a program.

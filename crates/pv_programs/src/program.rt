@@ -1,7 +1,6 @@
 //! Programs as lists of numbers.
 ghost use Rattle.std.specs.Prelude.{◌≡◌, bytes_eq, flat_map, IfOk, OnOk};
-ghost use Rattle.pv_model.specs.Answers.Numbers.{instruction_numbers};
-ghost use Rattle.pv_model.specs.Answers.ProgramNames.{program_numbers};
+ghost use Rattle.pv_model.specs.Machine.{instruction_numbers, program_numbers};
 ghost use Rattle.pv_programs.specs.Appending.{Appends};
 
 use crate::instructions::push_instruction;

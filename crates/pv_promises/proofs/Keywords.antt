@@ -6,9 +6,9 @@ use Rattle.std.proofs.lemmas.List.{at_drop_more, at_drop_all}
 use Rattle.std.proofs.lemmas.Nat.Bits.{same_from_bits, bit_at_or}
 use Rattle.std.proofs.lemmas.Bool.{ne_eqb}
 use Rattle.std.specs.Int.Bits.{or_zero_l, or_zero_r}
-use Rattle.pv_model.specs.Bytes.{Bytes, is_empty, onto_first}
+use Rattle.pv_model.specs.Machine.{Bytes, is_empty, onto_first, Promises}
 use Rattle.pv_model.specs.declared.promise.Promise.{Promise}
-use Rattle.pv_model.specs.Promises.{Promises, mask, split_spaces, keywords, promise_of, add_promise, set_of_keywords}
+use Rattle.pv_model.specs.Promises.{mask, split_spaces, keywords, promise_of, add_promise, set_of_keywords}
 
 abbrev pub is_space : ℕ → Bool
 is_space b = b == 32

@@ -1,7 +1,7 @@
 -- The promise that two lists of needs lack.
 use Rattle.std.proofs.Common.{◌≡◌, cond, true, false, Option, Some, List, [], ◌∷◌, ◌++◌, refl}
 use Rattle.std.specs.Option.{option_or}
-use Rattle.pv_model.specs.Promises.{Promises, Need, is_met, missing_promise}
+use Rattle.pv_model.specs.Machine.{Promises, Need, is_met, missing_promise}
 
 -- the promise that the first list lacks comes first
 pub missing_promise-append : (held : Option Promises) (a b : List Need) → missing_promise held (a ++ b) ≡ option_or (missing_promise held a) (missing_promise held b)

@@ -1,7 +1,7 @@
 -- The decision about a call: pledge(2).
 use Rattle.std.specs.Prelude.{Bool, true, false, Option, Some, None, List}
 use Rattle.pv_model.specs.declared.promise.Promise.{Promise}
-use Rattle.pv_model.specs.Promises.{Promises, Need, is_lenient, missing_promise}
+use Rattle.pv_model.specs.Machine.{Promises, Need, is_lenient, missing_promise}
 use Rattle.pv_promises.specs.declared.pledge.Decision.{Decision}
 use Rattle.pv_promises.specs.declared.pledge.Decision.TheVariants.{Allowed, Kill, Refuse}
 

@@ -2,7 +2,7 @@
 use Rattle.std.specs.Prelude.{◌≡◌, refl, Option, Some, None, Result, Ok, Err}
 use Rattle.pv_model.specs.declared.promise.Promise.{Promise}
 use Rattle.pv_model.specs.declared.promises.Promises.{Promises as Set}
-use Rattle.pv_model.specs.Promises.{Promises, narrow_promises, is_lenient}
+use Rattle.pv_model.specs.Machine.{Promises, narrow_promises, is_lenient}
 
 -- the promises of a process, and those that it gets with execve(2), each absent until it is set
 pub record Pledged : Type 0 where

@@ -1,8 +1,8 @@
 //! The promise that a call lacks.
 ghost use Rattle.std.specs.Prelude.{◌≡◌, [], ◌∷◌};
-ghost use Rattle.pv_model.specs.CallRef.{call_of};
-ghost use Rattle.pv_model.specs.Needs.{needs, needs_of_mode, needs_of_open};
-ghost use Rattle.pv_model.specs.Promises.{holds, is_lenient, missing_promise};
+ghost use Rattle.pv_model.specs.Machine.{call_of, needs, needs_of_mode, is_lenient, missing_promise};
+ghost use Rattle.pv_model.specs.Needs.{needs_of_open};
+ghost use Rattle.pv_model.specs.Promises.{holds};
 ghost use Rattle.pv_promises.specs.Pledge.{bits_of};
 
 use crate::order::has;

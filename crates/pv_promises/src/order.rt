@@ -1,7 +1,7 @@
 //! The promises in order, and their bits.
 ghost use Rattle.std.specs.Prelude.{◌≡◌, ◌&&◌, not, find, bytes_eq};
-ghost use Rattle.pv_model.specs.Promise.{all_promises, promise_name};
-ghost use Rattle.pv_model.specs.Promises.{mask, contains, first_increase, promise_of};
+ghost use Rattle.pv_model.specs.Machine.{all_promises, promise_name, contains};
+ghost use Rattle.pv_model.specs.Promises.{mask, first_increase, promise_of};
 
 use bitflags::Flags;
 use pv_model::{Promise, Promises};

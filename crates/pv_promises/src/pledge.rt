@@ -1,6 +1,6 @@
 //! The pledge of a process.
 ghost use Rattle.std.specs.Prelude.{◌≡◌, OnOk, OnErr, IfErr, None};
-ghost use Rattle.pv_model.specs.Promises.{is_lenient, narrow_promises};
+ghost use Rattle.pv_model.specs.Machine.{is_lenient, narrow_promises};
 ghost use Rattle.pv_promises.specs.Pledge.{bits_of, bits_of_result};
 
 use crate::missing::{is_lenient, missing_for};
@@ -10,7 +10,7 @@ use pv_model::{CallRef, Promise, Promises};
 use std::marker::Model;
 
 /// The outcome of a call, pledge(2).
-#[derive(Clone, Copy, Debug, PartialEq, Eq)]
+#[derive(Clone, Copy)]
 pub enum Decision {
     /// No promise is missing.
     Allowed,
@@ -23,7 +23,7 @@ pub enum Decision {
 /// The promises of a process, and those that it will have after execve(2): pledge(2).
 ///
 /// A set is absent until it is set for the first time.
-#[derive(Clone, Copy, Debug)]
+#[derive(Clone, Copy)]
 pub struct Pledge {
     promises: Option<Promises>,
     execpromises: Option<Promises>,

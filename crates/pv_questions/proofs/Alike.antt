@@ -4,17 +4,12 @@ use Rattle.std.proofs.lemmas.List.Concat.{flat_map-append}
 use Rattle.std.specs.List.{AllByRecursion}
 use Rattle.pv_model.specs.declared.fault.ManifestFault.{ManifestFault}
 use Rattle.pv_model.specs.declared.fault.ManifestFault.TheVariants.{Form}
-use Rattle.pv_model.specs.Bytes.{Bytes}
-use Rattle.pv_model.specs.Grammar.Entries.{HasNoForm, IsFirstWithoutForm, Lists, EncodesManifest, at_end, at_schedule, entry, further, no_schedule}
-use Rattle.pv_model.specs.Grammar.Lines.{lines_of}
-use Rattle.pv_model.specs.Grammar.Manifests.{Listed, Manifest, read_bundle, read_manifest, tree_of, with_line_end}
-use Rattle.pv_model.specs.Grammar.Texts.{HasLines, IsLine, ended}
-use Rattle.pv_model.specs.Image.{IsImageOf}
-use Rattle.pv_model.specs.Start.{and_then, bundle_started, image_started, started_on}
-use Rattle.pv_model.specs.Tree.{Tree}
-use Rattle.pv_laws_trees.proofs.Back.{image-mounted}
+use Rattle.pv_model.specs.Machine.{Bytes, EncodesManifest, lines_of, Listed, Manifest, read_bundle, read_manifest, tree_of, with_line_end, ended, IsImageOf, and_then, bundle_started, image_started, started_on, Tree}
+use Rattle.pv_model.specs.Grammar.Entries.{HasNoForm, IsFirstWithoutForm, Lists, at_end, at_schedule, entry, further, no_schedule}
+use Rattle.pv_model.specs.Grammar.Texts.{HasLines, IsLine}
+use Rattle.pv_laws_trees.proofs.MountedImages.{image-mounted}
 use Rattle.pv_laws_grammar.proofs.TextLines.{HasLines-lines_of, lines_from_relation}
-use Rattle.pv_laws_grammar.proofs.WholeManifests.{EncodesManifest-whole, whole-IsFirstWithoutForm, whole-EncodesManifest}
+use Rattle.pv_laws_grammar.proofs.ManifestParsing.{EncodesManifest-whole, whole-IsFirstWithoutForm, whole-EncodesManifest}
 use Rattle.pv_run.specs.Making.{tree_made}
 use Rattle.pv_questions.specs.Laws.{bundle_of}
 use Rattle.pv_questions.specs.Trees.{image_tree, manifest_tree, read_manifest_of}

@@ -4,7 +4,7 @@ use Rattle.std.specs.Prelude.{nat_le, replicate}
 use Rattle.std.proofs.lemmas.Bool.{leb-false, leb-true}
 use Rattle.std.proofs.lemmas.List.{append-nil, length-replicate, take-append-le, take-replicate}
 use Rattle.std.proofs.Math.Seq.{take-append-add}
-use Rattle.pv_model.specs.Step.{Schedule, steps_of}
+use Rattle.pv_model.specs.Machine.{Schedule, steps_of}
 use Rattle.pv_questions.specs.Schedules.{first_steps}
 
 module _ (n pid count : ℕ) (rest : List ℕ) where

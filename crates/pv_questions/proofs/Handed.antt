@@ -1,11 +1,10 @@
 -- What a writer wrote, and what is then flushed, is the report of a text.
 use Rattle.std.proofs.Common.{◌≡◌, ◌⊎◌, ◌∙◌, sym, subst, refl, ℕ, Option, Result, Ok, Err, IfErr, OnOk, OnErr, inl, inr}
 use Rattle.pv_model.specs.declared.stream.Sink.{Ghosts as Writing}
-use Rattle.pv_model.specs.Bytes.{Bytes}
-use Rattle.pv_model.specs.Stream.{Rose}
-use Rattle.pv_session.specs.Running.{FailsBy}
-use Rattle.pv_session.specs.declared.session.Stop.{Stop}
-use Rattle.pv_session.specs.declared.session.Stop.TheVariants.{Memory, Write}
+use Rattle.pv_model.specs.Machine.{Bytes, Rose}
+use Rattle.pv_run.specs.OfSession.Running.{FailsBy}
+use Rattle.pv_run.specs.OfSession.declared.session.Stop.{Stop}
+use Rattle.pv_run.specs.OfSession.declared.session.Stop.TheVariants.{Memory, Write}
 use Rattle.pv_streams.specs.Sinks.{and_all, WritesOr, WritesPrefix}
 use Rattle.pv_streams.proofs.Sinks.{begins_whole}
 use Rattle.pv_listing.specs.Failing.{FailsBy as ListFailsBy}

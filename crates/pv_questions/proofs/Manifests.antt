@@ -4,10 +4,8 @@ use Rattle.pv_image_manifest.specs.Reading.{GivesManifest, RefusesManifest, mani
 use Rattle.pv_image_manifest.specs.declared.manifest.Manifest.{Manifest as ParsedManifest}
 use Rattle.pv_model.specs.declared.fault.ManifestFault.{ManifestFault}
 use Rattle.pv_model.specs.declared.fault.ManifestFault.TheVariants.{Form, Size, Parent, Exists, Source, Room, Memory}
-use Rattle.pv_model.specs.Bytes.{Bytes}
-use Rattle.pv_model.specs.Grammar.Manifests.{read_bundle, read_manifest, tree_of}
+use Rattle.pv_model.specs.Machine.{Bytes, read_bundle, read_manifest, tree_of, Tree}
 use Rattle.pv_model.specs.RunFault.{of_manifest}
-use Rattle.pv_model.specs.Tree.{Tree}
 use Rattle.pv_run.specs.Run.{RefusesStart}
 use Rattle.pv_questions.specs.Trees.{GivesManifestOf, manifest_tree, read_manifest_of}
 

@@ -1,21 +1,14 @@
 -- The answer to a question: a text or a refusal.
-use Rattle.std.specs.Prelude.{◌≡◌, true, false, List, Option, None, Some, option_map, Result, Ok, Err}
+use Rattle.std.specs.Prelude.{◌≡◌, List, Option, None, Some, option_map, Result, Ok, Err}
 use Rattle.pv_model.specs.declared.run_fault.RunFault.{RunFault}
 use Rattle.pv_model.specs.declared.verdict.AuditFault.{AuditFault}
-use Rattle.pv_model.specs.Answers.Lines.{AnswerLine, answer_bytes}
-use Rattle.pv_model.specs.Answers.ProcessRecord.{state_lines}
-use Rattle.pv_model.specs.Answers.Reach.{reach_lines, reach_of_one}
-use Rattle.pv_model.specs.Bytes.{Bytes}
-use Rattle.pv_model.specs.Grammar.Programs.{program_of}
-use Rattle.pv_model.specs.Start.{Started, and_then, bundle_started, image_started}
-use Rattle.pv_model.specs.State.{State}
-use Rattle.pv_model.specs.Step.{steps_of}
+use Rattle.pv_model.specs.Machine.{AnswerLine, answer_bytes, state_lines, reach_lines, Bytes, program_of, Started, and_then, bundle_started, image_started, State, steps_of}
+use Rattle.pv_model.specs.Answers.Reach.{reach_of_one}
 use Rattle.pv_explain.specs.Errors.{explained_lines}
-use Rattle.pv_needs.specs.Granted.{lines_of_demands}
-use Rattle.pv_needs.specs.Restraints.{restraints}
+use Rattle.pv_policy.specs.OfNeeds.Granted.{lines_of_demands}
 use Rattle.pv_run.specs.Auditing.{audit_text}
 use Rattle.pv_run.specs.Run.{text_of}
-use Rattle.pv_session.specs.Running.{run_of}
+use Rattle.pv_run.specs.OfSession.Running.{run_of}
 use Rattle.pv_questions.specs.Reasons.{audit_reasons}
 use Rattle.pv_questions.specs.Schedules.{cut_after}
 use Rattle.pv_questions.specs.declared.question.Question.{Question}
@@ -51,8 +44,7 @@ run_answer asked.State it = of_lines (state_lines (last_state it))
 run_answer (asked.Reach None) it = of_lines (reach_lines (last_state it))
 run_answer (asked.Reach (Some pid)) it = of_process (reach_of_one (last_state it) pid)
 run_answer (asked.Explain errors) it = of_lines (explained_lines errors (steps_of it.schedule) it.state)
-run_answer (asked.Needs granted false) it = of_lines (lines_of_demands program_of granted (steps_of it.schedule) it.state)
-run_answer (asked.Needs granted true) it = Ok (restraints program_of granted (steps_of it.schedule) it.state)
+run_answer (asked.Needs granted) it = of_lines (lines_of_demands program_of granted (steps_of it.schedule) it.state)
 run_answer (asked.Audit path) it = of_audit (audit_text (last_state it) (option_map (λ p. p.now) path))
 run_answer (asked.Reasons path) it = of_audit (audit_reasons (last_state it) (option_map (λ p. p.now) path))
 

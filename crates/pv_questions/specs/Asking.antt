@@ -4,13 +4,12 @@ use Rattle.pv_model.specs.declared.stream.Sink.{Ghosts as Writing}
 use Rattle.pv_model.specs.declared.stream.Source.{Ghosts as Reading}
 use Rattle.pv_model.specs.declared.run_fault.RunFault.{RunFault}
 use Rattle.pv_model.specs.declared.run_fault.RunFault.TheVariants.{Read, Init, Memory}
-use Rattle.pv_model.specs.Bytes.{Bytes}
-use Rattle.pv_model.specs.Stream.{Rose}
+use Rattle.pv_model.specs.Machine.{Bytes, Rose}
 use Rattle.pv_listing.specs.declared.listing.ListStop.{ListStop}
 use Rattle.pv_listing.specs.declared.listing.ListStop.TheVariants.{Memory as NoListMemory, Write as NotListed}
 use Rattle.pv_run.specs.Machines.{IsBundleMachineFault, IsMachineFault}
-use Rattle.pv_session.specs.declared.session.Stop.{Stop}
-use Rattle.pv_session.specs.declared.session.Stop.TheVariants.{Memory as NoMemory, Write as Unwritten}
+use Rattle.pv_run.specs.OfSession.declared.session.Stop.{Stop}
+use Rattle.pv_run.specs.OfSession.declared.session.Stop.TheVariants.{Memory as NoMemory, Write as Unwritten}
 use Rattle.pv_streams.specs.Sinks.{and_all, WritesPrefix}
 use Rattle.pv_streams.specs.Sources.{FailsToGive}
 use Rattle.pv_questions.specs.Answering.{Answer}

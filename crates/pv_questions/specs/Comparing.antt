@@ -5,13 +5,9 @@ use Rattle.pv_compare.specs.declared.compare.Compared.{Compared}
 use Rattle.pv_compare.specs.declared.compare.Compared.TheVariants.{Same, Incomplete as NotComplete, Different as Differs}
 use Rattle.pv_model.specs.declared.run_fault.RunFault.{RunFault}
 use Rattle.pv_model.specs.declared.run_fault.RunFault.TheVariants.{Read, Memory}
-use Rattle.pv_model.specs.Answers.Compare.{Comparison, comparison, comparison_lines}
-use Rattle.pv_model.specs.Bytes.{Bytes}
-use Rattle.pv_model.specs.Grammar.Programs.{program_of}
+use Rattle.pv_model.specs.Machine.{Comparison, comparison, Bytes, program_of, and_then, booted, State, Tree}
+use Rattle.pv_model.specs.Answers.Compare.{comparison_lines}
 use Rattle.pv_model.specs.RunFault.{of_boot}
-use Rattle.pv_model.specs.Start.{and_then, booted}
-use Rattle.pv_model.specs.State.{State}
-use Rattle.pv_model.specs.Tree.{Tree}
 use Rattle.pv_run.specs.Images.{IsImageFault}
 use Rattle.pv_run.specs.Run.{IsStartFault}
 use Rattle.pv_questions.specs.Answering.{Answer, of_lines}

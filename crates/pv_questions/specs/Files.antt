@@ -6,10 +6,7 @@ use Rattle.pv_model.specs.declared.follow.Follow.TheVariants.{Last}
 use Rattle.pv_model.specs.declared.place.Place.{Place}
 use Rattle.pv_model.specs.declared.verdict.AuditFault.{AuditFault}
 use Rattle.pv_model.specs.declared.verdict.AuditFault.TheVariants.{Walk, NotFile}
-use Rattle.pv_model.specs.Bytes.{Bytes}
-use Rattle.pv_model.specs.Effect.{node_of}
-use Rattle.pv_model.specs.Tree.{Node, file_node, Tree, root, node_at}
-use Rattle.pv_model.specs.Walk.{resolve}
+use Rattle.pv_model.specs.Machine.{Bytes, node_of, Node, file_node, Tree, root, node_at, resolve}
 
 abbrev pub bytes_of_file : Option Node → Result Bytes AuditFault
 bytes_of_file (Some (file_node executable bytes)) = Ok bytes

@@ -1,12 +1,8 @@
 -- A bundle or a manifest gives the same answers as the image that is made of it.
 use Rattle.std.specs.Prelude.{◌≡◌, ℕ, take, List, [], ◌∷◌, ◌++◌, codes, Ok}
 use Rattle.std.specs.List.{AllByRecursion}
-use Rattle.pv_model.specs.Bytes.{Bytes}
-use Rattle.pv_model.specs.Grammar.Manifests.{Manifest, read_manifest}
-use Rattle.pv_model.specs.Grammar.Texts.{IsLine, ended}
-use Rattle.pv_model.specs.Image.{IsImageOf}
-use Rattle.pv_model.specs.Step.{Schedule, steps_of}
-use Rattle.pv_model.specs.Tree.{Tree}
+use Rattle.pv_model.specs.Machine.{Bytes, Manifest, read_manifest, ended, IsImageOf, Schedule, steps_of, Tree}
+use Rattle.pv_model.specs.Grammar.Texts.{IsLine}
 use Rattle.pv_run.specs.Making.{tree_made}
 use Rattle.pv_questions.specs.Answering.{bundle_answer, image_answer}
 use Rattle.pv_questions.specs.Schedules.{first_steps}

@@ -6,3 +6,5 @@ pub mod Laws
 pub mod Reasons
 pub mod Schedules
 pub mod Trees
+pub use Rattle.pv_policy.specs.OfReduced
+pub use Rattle.pv_run.specs as OfRun

@@ -9,14 +9,9 @@ use Rattle.pv_model.specs.declared.verdict.AuditFault.TheVariants.{Walk}
 use Rattle.pv_model.specs.declared.verdict.Verdict.{Verdict}
 use Rattle.pv_model.specs.declared.verdict.Verdict.TheVariants.{Exposed}
 use Rattle.pv_model.specs.declared.verdict.Why.{Why}
-use Rattle.pv_model.specs.Bytes.{Bytes}
-use Rattle.pv_model.specs.Effect.{node_of}
-use Rattle.pv_model.specs.Held.{live_processes}
+use Rattle.pv_model.specs.Machine.{Bytes, node_of, live_processes, audit_node, leaks, Process, State, root, resolve}
 use Rattle.pv_model.specs.Listing.{found_line, lines_of_all}
-use Rattle.pv_model.specs.Sealed.{audit_node, leaks, verdict_line}
-use Rattle.pv_model.specs.State.{Process, State}
-use Rattle.pv_model.specs.Tree.{root}
-use Rattle.pv_model.specs.Walk.{resolve}
+use Rattle.pv_model.specs.Sealed.{verdict_line}
 
 -- the line of a verdict, after the path of the file if there is one
 abbrev pub verdict_at : Option Bytes → Verdict → Bytes

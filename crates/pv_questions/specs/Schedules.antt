@@ -1,10 +1,7 @@
 -- The schedule of a run: cut after some steps, or in the text of a witness.
 use Rattle.std.specs.Prelude.{ℕ, ◌-◌, ◌&&◌, nat_le, ◌==◌, if◌then◌else◌, List, [], ◌∷◌, Bool, true, false, Option, None, Some, Result, Ok, Err}
 use Rattle.pv_model.specs.declared.fault.ScheduleFault.{ScheduleFault}
-use Rattle.pv_model.specs.Bytes.{Bytes}
-use Rattle.pv_model.specs.Grammar.Schedules.{read_schedule}
-use Rattle.pv_model.specs.Start.{Started}
-use Rattle.pv_model.specs.Step.{Schedule}
+use Rattle.pv_model.specs.Machine.{Bytes, read_schedule, Started, Schedule}
 
 -- a schedule cut after n steps
 abbrev pub first_steps : ℕ → Schedule → Schedule

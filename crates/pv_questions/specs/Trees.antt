@@ -7,20 +7,9 @@ use Rattle.pv_model.specs.declared.fault.ManifestFault.TheVariants.{Form}
 use Rattle.pv_model.specs.declared.run_fault.RunFault.{RunFault}
 use Rattle.pv_model.specs.declared.verdict.AuditFault.{AuditFault}
 use Rattle.pv_model.specs.declared.kernel_fault.BootFault.{BootFault}
-use Rattle.pv_model.specs.Answers.Explore.{is_complete}
-use Rattle.pv_model.specs.Answers.Graph.{graph_lines}
-use Rattle.pv_model.specs.Answers.Lines.{AnswerLine}
-use Rattle.pv_model.specs.Answers.Turns.{schedule_text, turns}
-use Rattle.pv_model.specs.Bytes.{Bytes}
-use Rattle.pv_model.specs.Grammar.Lines.{lines_of}
-use Rattle.pv_model.specs.Grammar.Manifests.{Manifest, read_bundle, read_manifest, tree_of}
-use Rattle.pv_model.specs.Grammar.Programs.{program_of}
-use Rattle.pv_model.specs.Listing.{listing}
-use Rattle.pv_model.specs.Mount.{mounted}
+use Rattle.pv_model.specs.Machine.{is_complete, graph_lines, AnswerLine, turns, Bytes, lines_of, Manifest, read_bundle, read_manifest, tree_of, program_of, listing, mounted, Started, and_then, booted, started_on, State, Tree}
+use Rattle.pv_model.specs.Answers.Turns.{schedule_text}
 use Rattle.pv_model.specs.RunFault.{of_boot, of_image, of_manifest}
-use Rattle.pv_model.specs.Start.{Started, and_then, booted, started_on}
-use Rattle.pv_model.specs.State.{State}
-use Rattle.pv_model.specs.Tree.{Tree}
 use Rattle.pv_questions.specs.Answering.{Answer, answer_of, of_lines}
 use Rattle.pv_questions.specs.Files.{cat_of}
 use Rattle.pv_questions.specs.declared.question.RunQuestion.{RunQuestion}
@@ -29,7 +18,7 @@ use Rattle.pv_questions.specs.declared.question.TreeQuestion.TheVariants.{Listin
 use Rattle.pv_questions.specs.declared.question.Search.{Search}
 use Rattle.pv_questions.specs.declared.question.Search.TheVariants.{Explore, Access, Exposure, Policy, Graph}
 use Rattle.pv_questions.specs.declared.stop.AskStop.{AskStop}
-use Rattle.pv_reduced.specs.Kinds.{access_lines_by, explore_lines_by, exposure_lines_by, is_complete_by, policy_lines_by}
+use Rattle.pv_policy.specs.OfReduced.Kinds.{access_lines_by, explore_lines_by, exposure_lines_by, is_complete_by, policy_lines_by}
 use Rattle.pv_questions.specs.declared.stop.AskStop.TheVariants.{Machine, File as NoFile}
 
 -- a manifest alone, if there is no line `schedule`
@@ -66,7 +55,7 @@ abbrev pub search_lines : Search → ℕ → State → List AnswerLine
 search_lines (Explore kind) limit s = explore_lines_by kind limit s
 search_lines (Access kind) limit s = access_lines_by kind limit s
 search_lines (Exposure kind) limit s = exposure_lines_by kind limit s
-search_lines (Policy kind) limit s = policy_lines_by kind limit s
+search_lines (Policy kind granted) limit s = policy_lines_by granted kind limit s
 search_lines (Graph tree) limit s = graph_lines program_of limit tree s
 
 -- the answer about a tree; a schedule has at least one step in a turn, and a search visits at least one state
@@ -86,7 +75,7 @@ abbrev pub search_is_complete : Search → ℕ → State → Bool
 search_is_complete (Explore kind) limit s = is_complete_by kind limit s
 search_is_complete (Access kind) limit s = is_complete_by kind limit s
 search_is_complete (Exposure kind) limit s = is_complete_by kind limit s
-search_is_complete (Policy kind) limit s = is_complete_by kind limit s
+search_is_complete (Policy kind granted) limit s = is_complete_by kind limit s
 search_is_complete (Graph tree) limit s = is_complete program_of limit s
 
 -- the search of the states of a machine, if it boots, leaves no state out

@@ -1,8 +1,8 @@
 //! The comparison of two inputs that have a tree.
 ghost use Rattle.std.specs.Prelude.{◌≡◌, ◌≤◌, length, IfErr, IfOk, IfSome, Ok, Err};
 ghost use Rattle.pv_compare.specs.Answering.{compared_of};
-ghost use Rattle.pv_model.specs.Answers.Compare.{comparison, comparison_lines};
-ghost use Rattle.pv_model.specs.Grammar.Programs.{program_of};
+ghost use Rattle.pv_model.specs.Machine.{comparison, program_of};
+ghost use Rattle.pv_model.specs.Answers.Compare.{comparison_lines};
 ghost use Rattle.pv_questions.specs.Answering.{of_lines};
 ghost use Rattle.pv_questions.specs.Asking.{Answers, AnswersTwo};
 ghost use Rattle.pv_questions.specs.Comparing.{IsCompareStop, IsFaultIn, IsResultStop, ReportsCompared, compare_answer, machine_in, result_in, tree_in};
@@ -13,7 +13,7 @@ use crate::stop::AskStop;
 use crate::trees::store_of_bytes;
 use crate::writers::report_comparison;
 use pv_compare::Compared;
-use pv_explore::{FirstMachine, Progress};
+use pv_compare::explore::{FirstMachine, Progress};
 use pv_image_mount::mount;
 use pv_model::RunFault;
 use pv_streams::{SOURCE_BYTES, Sink, Source, read_whole};

@@ -1,8 +1,7 @@
 //! The file at a path, and its bytes.
 ghost use Rattle.std.specs.Prelude.{◌≡◌, false, Ok, Err, IsTrue, IfOk, IfErr};
 ghost use Rattle.pv_dirs.specs.Trees.{bytes_at};
-ghost use Rattle.pv_model.specs.Effect.{node_of};
-ghost use Rattle.pv_model.specs.Tree.{node_at};
+ghost use Rattle.pv_model.specs.Machine.{node_of, node_at};
 ghost use Rattle.pv_questions.specs.Files.{IsFileAt, bytes_of_file, bytes_of_node, cat_of};
 ghost use Rattle.pv_streams.specs.Sinks.{Writes};
 

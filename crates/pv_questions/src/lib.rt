@@ -27,8 +27,9 @@ pub use laws::{
     bundles_answer_as_manifests, cuts_keep_first_steps, images_answer_as_bundles,
     images_answer_as_manifests, images_answer_as_their_manifests, manifests_stand_alone,
 };
-pub use pv_explore::{Progress, Unshown};
-pub use pv_reduced::SearchKind;
+pub use pv_compare::explore::{Progress, Unshown};
+pub use pv_policy::reduced::SearchKind;
+pub use pv_run as run;
 pub use question::{Format, Question, RunQuestion, Search, TreeQuestion};
 pub use runs::{ask, ask_bundle, ask_by, ask_manifest_by, ask_manifest_run};
 pub use schedules::{is_turns, text_of_turns};

@@ -1,9 +1,9 @@
 //! Questions.
 
-use pv_reduced::SearchKind;
+use pv_policy::reduced::SearchKind;
 
 /// A question about the run of a schedule.
-#[derive(Clone, Copy, Debug, PartialEq, Eq)]
+#[derive(Clone, Copy)]
 pub struct RunQuestion<'a> {
     /// The question.
     pub question: Question<'a>,
@@ -12,7 +12,7 @@ pub struct RunQuestion<'a> {
 }
 
 /// A question about a run.
-#[derive(Clone, Copy, Debug, PartialEq, Eq)]
+#[derive(Clone, Copy)]
 pub enum Question<'a> {
     /// The trace of the run.
     Trace,
@@ -29,8 +29,6 @@ pub enum Question<'a> {
     Needs {
         /// Whether the calls that a promise or a table refused are left out.
         granted: bool,
-        /// Whether the calls of pledge(2) and unveil(2) that meet the demands are written, in place of the demands.
-        lines: bool,
     },
     /// The verdict on the file at a path after the run, or on all files.
     Audit(Option<&'a [u8]>),
@@ -39,7 +37,7 @@ pub enum Question<'a> {
 }
 
 /// A question about a tree.
-#[derive(Clone, Copy, Debug, PartialEq, Eq)]
+#[derive(Clone, Copy)]
 pub enum TreeQuestion<'a> {
     /// A line for each name of the tree.
     Listing,
@@ -63,7 +61,7 @@ pub enum TreeQuestion<'a> {
 }
 
 /// The format of an input that has a tree.
-#[derive(Clone, Copy, Debug, PartialEq, Eq)]
+#[derive(Clone, Copy)]
 pub enum Format {
     /// An image.
     Image,
@@ -72,7 +70,7 @@ pub enum Format {
 }
 
 /// What a search of all schedules answers.
-#[derive(Clone, Copy, Debug, PartialEq, Eq)]
+#[derive(Clone, Copy)]
 pub enum Search {
     /// What can happen.
     Explore(SearchKind),
@@ -81,7 +79,12 @@ pub enum Search {
     /// What an attacker gains who takes over a process, at each line of its program.
     Exposure(SearchKind),
     /// What each program needs of its sandbox, and what it holds and never uses.
-    Policy(SearchKind),
+    Policy {
+        /// The search.
+        kind: SearchKind,
+        /// Whether the calls that a promise or a table refused are left out.
+        granted: bool,
+    },
     /// The state graph.
     Graph {
         /// Whether each state is written with its tree and the permissions of its processes.

@@ -1,23 +1,20 @@
 //! Verdicts with every reason.
 ghost use Rattle.std.specs.Prelude.{◌≡◌, ◌∷◌, [], Some, option_map};
-ghost use Rattle.pv_audit.specs.Reasons.{present_reasons};
+ghost use Rattle.pv_run.specs.OfAudit.Reasons.{present_reasons};
 ghost use Rattle.pv_listing.specs.Failing.{FailsBy};
-ghost use Rattle.pv_model.specs.Sealed.{audit_node};
-ghost use Rattle.pv_model.specs.State.{process_at};
-ghost use Rattle.pv_model.specs.Tree.{root};
-ghost use Rattle.pv_model.specs.Walk.{resolve as resolved};
+ghost use Rattle.pv_model.specs.Machine.{audit_node, process_at, root, resolve as resolved};
 ghost use Rattle.pv_model.specs.declared.follow.Follow.TheVariants.{Last};
 ghost use Rattle.pv_questions.specs.Reasons.{all_reasons, file_lines, node_audited, reason_lines, reasons_by, reasons_report, verdict_at, with_reasons};
 ghost use Rattle.pv_streams.specs.Sinks.{Writes, WritesOr};
 
-use pv_audit::leaks;
-use pv_calls_state::Parts;
 use pv_listing::{ListStop, Remarks, write_lines};
 use pv_model::limits::ROOT;
 use pv_model::{AuditFault, Errno, Follow, Leak, Verdict, Why};
 use pv_namei::{PlainLookup, resolve};
+use pv_policy::calls_state::Parts;
+use pv_run::audit::leaks;
+use pv_run::session_crate::Session;
 use pv_run::{write_found, write_verdict};
-use pv_session::Session;
 use pv_streams::{Failed, Sink};
 use pv_tree::{PlaceRef, Tree};
 use std::alloc::Global;

@@ -16,17 +16,17 @@ use crate::starting::{ready_by, ready_on_manifest, ready_on_manifest_by};
 use crate::stop::AskStop;
 use crate::writers::{
     report_audit, report_needs, report_reach, report_reach_of, report_reasons, report_reasons_of,
-    report_restraints, report_state, report_steps, report_trace, report_verdict,
+    report_state, report_steps, report_trace, report_verdict,
 };
 use pv_explain::Explainer;
 use pv_model::RunFault;
+use pv_run::session_crate::{Session, pass_schedule};
 use pv_run::{Ready, ready_on_bundle, ready_on_image};
-use pv_session::{Session, pass_schedule};
 use pv_streams::{Sink, Source};
 use std::alloc::Global;
 
 // Runs the schedule without writing lines.
-fn leave(alloc: Global, session: &mut Session, turns: &[(u32, u32)]) -> Result<(), AskStop>
+fn run_silently(alloc: Global, session: &mut Session, turns: &[(u32, u32)]) -> Result<(), AskStop>
     ensures left { OnOk result (session.new ≡ last_state (started_from session.old turns.now)) }
     ensures kind { IfErr result (λ stop. stop ≡ MachineStop Memory) }
 {
@@ -43,7 +43,7 @@ fn answer_state<W: Sink>(
 ) -> Result<(), AskStop>
     ensures { Answers W.Sink (run_answer Question.State (started_from session.old turns.now)) IsAnswerStop out.old out.new result }
 {
-    leave(alloc, session, turns)?;
+    run_silently(alloc, session, turns)?;
     report_state(session.parts(), out)
 }
 
@@ -57,7 +57,7 @@ fn answer_reach<W: Sink>(
 ) -> Result<(), AskStop>
     ensures { Answers W.Sink (run_answer (Question.Reach pid) (started_from session.old turns.now)) IsAnswerStop out.old out.new result }
 {
-    leave(alloc, session, turns)?;
+    run_silently(alloc, session, turns)?;
     let parts = session.parts();
     let Some(pid) = pid else {
         return report_reach(parts, out);
@@ -78,7 +78,7 @@ fn answer_audit<W: Sink>(
 ) -> Result<(), AskStop>
     ensures { Answers W.Sink (run_answer (Question.Audit path.entry) (started_from session.old turns.now)) IsAnswerStop out.old out.new result }
 {
-    leave(alloc, session, turns)?;
+    run_silently(alloc, session, turns)?;
     let Some(path) = path else {
         return report_audit(alloc, session, out);
     };
@@ -96,7 +96,7 @@ fn answer_reasons<W: Sink>(
 ) -> Result<(), AskStop>
     ensures { Answers W.Sink (run_answer (Question.Reasons path.entry) (started_from session.old turns.now)) IsAnswerStop out.old out.new result }
 {
-    leave(alloc, session, turns)?;
+    run_silently(alloc, session, turns)?;
     let Some(path) = path else {
         return report_reasons(alloc, session, out);
     };
@@ -120,25 +120,6 @@ fn answer_steps<W: Sink>(
     report_steps(alloc, &mut explainer, session, turns, errors, out)
 }
 
-// Writes the demands of each program in the run, or the calls that meet them.
-fn answer_needs<W: Sink>(
-    alloc: Global,
-    granted: bool,
-    lines: bool,
-    session: &mut Session,
-    turns: &[(u32, u32)],
-    out: &mut W,
-) -> Result<(), AskStop>
-    requires { length turns.now ≤ SCHEDULE_LINES }
-    ensures { Answers W.Sink (run_answer (Question.Needs granted lines) (started_from session.old turns.now)) IsAnswerStop out.old out.new result }
-{
-    if lines {
-        report_restraints(alloc, granted, session, turns, out)
-    } else {
-        report_needs(alloc, granted, session, turns, out)
-    }
-}
-
 // Answers a question about a run.
 fn answer<W: Sink>(
     alloc: Global,
@@ -155,9 +136,7 @@ fn answer<W: Sink>(
         Question::State => answer_state(alloc, session, turns, out),
         Question::Reach(pid) => answer_reach(alloc, pid, session, turns, out),
         Question::Explain { errors } => answer_steps(alloc, errors, session, turns, out),
-        Question::Needs { granted, lines } => {
-            answer_needs(alloc, granted, lines, session, turns, out)
-        }
+        Question::Needs { granted } => report_needs(alloc, granted, session, turns, out),
         Question::Audit(path) => answer_audit(alloc, path, session, turns, out),
         Question::Reasons(path) => answer_reasons(alloc, path, session, turns, out),
     }

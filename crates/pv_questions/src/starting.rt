@@ -1,6 +1,6 @@
 //! The starts of runs whose schedule is given beside an image or a manifest.
 ghost use Rattle.std.specs.Prelude.{◌≡◌, ◌⊎◌, ◌≤◌, length, Ok, Err, IfOk, IfErr, IfSome};
-ghost use Rattle.pv_model.specs.Start.{image_started};
+ghost use Rattle.pv_model.specs.Machine.{image_started};
 ghost use Rattle.pv_questions.specs.Trees.{manifest_started};
 ghost use Rattle.pv_run.specs.Machines.{IsBundleMachineFault, IsMachineFault, RefusesMachine};
 ghost use Rattle.pv_run.specs.Run.{IsStartFault, RefusesStart, started_from};

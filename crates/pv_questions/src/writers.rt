@@ -1,27 +1,20 @@
 //! Answers, written and flushed.
 ghost use Rattle.std.specs.Prelude.{◌≡◌, ◌≤◌, [], length, IfOk, None};
-ghost use Rattle.pv_answers.specs.Reaching.{reached_by};
+ghost use Rattle.pv_policy.specs.OfAnswers.Reaching.{reached_by};
 ghost use Rattle.pv_compare.specs.Answering.{compared_of};
 ghost use Rattle.pv_explain.specs.Errors.{explained_lines};
-ghost use Rattle.pv_model.specs.Answers.Compare.{comparison, comparison_lines};
-ghost use Rattle.pv_model.specs.Answers.Lines.{answer_bytes};
-ghost use Rattle.pv_model.specs.Answers.ProcessRecord.{state_lines};
-ghost use Rattle.pv_model.specs.Answers.Reach.{reach_lines};
-ghost use Rattle.pv_model.specs.Answers.Turns.{schedule_text, turns};
-ghost use Rattle.pv_model.specs.Grammar.Programs.{program_of};
-ghost use Rattle.pv_model.specs.Listing.{listing, report};
+ghost use Rattle.pv_model.specs.Machine.{comparison, answer_bytes, state_lines, reach_lines, turns, program_of, listing, report, steps_of, trace_bytes};
+ghost use Rattle.pv_model.specs.Answers.Compare.{comparison_lines};
+ghost use Rattle.pv_model.specs.Answers.Turns.{schedule_text};
 ghost use Rattle.pv_model.specs.Sealed.{verdict_line};
-ghost use Rattle.pv_model.specs.Step.{steps_of};
-ghost use Rattle.pv_model.specs.Trace.{trace_bytes};
 ghost use Rattle.pv_model.specs.declared.limits.TheConstants.{SCHEDULE_LINES};
 ghost use Rattle.pv_dirs.specs.Trees.{bytes_at};
-ghost use Rattle.pv_needs.specs.Granted.{lines_of_demands};
-ghost use Rattle.pv_needs.specs.Restraints.{restraints};
+ghost use Rattle.pv_policy.specs.OfNeeds.Granted.{lines_of_demands};
 ghost use Rattle.pv_questions.specs.Files.{IsFileAt};
 ghost use Rattle.pv_questions.specs.Asking.{Flushes, Reports, end_of_listing};
 ghost use Rattle.pv_questions.specs.Reasons.{reasons_report, with_reasons};
 ghost use Rattle.pv_questions.specs.Trees.{search_is_complete, search_lines};
-ghost use Rattle.pv_session.specs.Running.{FailsBy, run_of};
+ghost use Rattle.pv_run.specs.OfSession.Running.{FailsBy, run_of};
 ghost use Rattle.pv_streams.specs.Sinks.{WritesOr};
 
 use crate::file::write_file;
@@ -29,18 +22,18 @@ use crate::question::Search;
 use crate::reasons::{write_reasons, write_reasons_report};
 use crate::stop::AskStop;
 use pv_access::write_access;
-use pv_answers::{write_reach, write_reach_of, write_state};
-use pv_calls_state::Parts;
+use pv_compare::explore::{FirstMachine, Progress, write_graph};
 use pv_compare::{Compared, write_compare};
 use pv_explain::{Explainer, explain_schedule};
-use pv_explore::{FirstMachine, Progress, write_graph};
 use pv_exposure::write_exposure;
 use pv_listing::{ListStop, write_listing};
 use pv_model::{RunFault, Verdict};
-use pv_needs::{write_demands, write_restraints, write_turns};
+use pv_policy::answers::{write_reach, write_reach_of, write_state};
+use pv_policy::calls_state::Parts;
+use pv_policy::needs::{write_demands, write_turns};
 use pv_policy::write_policy;
+use pv_run::session_crate::{Session, Stop, run_schedule};
 use pv_run::{write_report, write_verdict};
-use pv_session::{Session, Stop, run_schedule};
 use pv_streams::Sink;
 use pv_tree::Tree;
 use std::alloc::Global;
@@ -217,23 +210,6 @@ pub(crate) fn report_needs<W: Sink>(
     flush_buffer(end, out)
 }
 
-// Writes the calls by which each program can restrict itself to its demands in the steps of a schedule, or to those of
-// its granted calls alone.
-#[tactic(auto, using(pv_streams::proofs::Sinks::begins_whole))]
-pub(crate) fn report_restraints<W: Sink>(
-    alloc: Global,
-    granted: bool,
-    session: &mut Session,
-    turns: &[(u32, u32)],
-    out: &mut W,
-) -> Result<(), AskStop>
-    requires { length turns.now ≤ SCHEDULE_LINES }
-    ensures { Reports W.Sink (restraints program_of granted (steps_of turns.now) session.old) out.old out.new result }
-{
-    let end = write_restraints(alloc, session, turns, granted, out);
-    flush_buffer(end, out)
-}
-
 // Writes the listing of a tree.
 #[tactic(auto, using(pv_streams::proofs::Sinks::begins_whole))]
 pub(crate) fn report_listing<W: Sink>(
@@ -280,7 +256,9 @@ fn write_search<W: Sink, P: Progress>(
         Search::Explore(kind) => kind.write_explore(alloc, first_machine, states, progress, out),
         Search::Access(kind) => write_access(alloc, kind, first_machine, states, progress, out),
         Search::Exposure(kind) => write_exposure(alloc, kind, first_machine, states, progress, out),
-        Search::Policy(kind) => write_policy(alloc, kind, first_machine, states, progress, out),
+        Search::Policy { kind, granted } => {
+            write_policy(alloc, kind, granted, first_machine, states, progress, out)
+        }
         Search::Graph { tree } => write_graph(alloc, first_machine, states, tree, progress, out),
     }
 }

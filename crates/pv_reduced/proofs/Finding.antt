@@ -10,15 +10,11 @@ use Rattle.pv_explore.specs.Plan.{endings_after, reported_after, reported_bytes,
 use Rattle.pv_explore.specs.Searches.{move_of}
 use Rattle.pv_explore.proofs.Finding.{witness-stays}
 use Rattle.pv_laws_classes.specs.Reduced.{bound_by}
-use Rattle.pv_model.specs.Answers.Explore.{Move}
-use Rattle.pv_model.specs.Answers.Observed.{Observer}
-use Rattle.pv_model.specs.Bytes.{Bytes}
-use Rattle.pv_model.specs.Grammar.Programs.{program_of}
-use Rattle.pv_model.specs.State.{State}
+use Rattle.pv_model.specs.Machine.{Move, Observer, Bytes, program_of, State}
 use Rattle.pv_reduced.specs.Keys.{reduced_parts, same_parts}
 use Rattle.pv_reduced.specs.Plan.{Visited, and_report, and_visit, bytes_at, first_visited, is_known, reported_from, reported_steps, texts_at, visited_after, visited_after_steps, visited_at, visited_from, with_found_at, with_state_at}
 use Rattle.pv_reduced.specs.Searches.{HaveWitnesses, moving_in, witness_at}
-use Rattle.pv_session.specs.Running.{stepped}
+use Rattle.pv_explore.specs.OfSession.Running.{stepped}
 
 -- a machine, if there is one, is in a state that is equal to the one given
 pub if_some-at : (taken machine : Option State) {s t : State} → s ≡ t → taken ≡ machine → IfSome machine (λ (m : State). m ≡ s) → IfSome taken (λ (m : State). m ≡ t)

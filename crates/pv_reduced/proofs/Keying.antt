@@ -6,23 +6,18 @@ use Rattle.std.specs.Ordering.{nat_cmp}
 use Rattle.std.proofs.lemmas.Bool.{cases_lt, ltb-false, ltb-true}
 use Rattle.std.proofs.lemmas.Grind.{flat_map-append}
 use Rattle.std.proofs.lemmas.List.{ext_get_or, get_or-set_other, get_or-set_same, length-map, length-replicate, length-set, map-append, take-replicate, take_all}
-use Rattle.pv_answers.proofs.Following.{IsNextRecord, Recorded, all-after, none-after, records_after}
+use Rattle.pv_state_encoding.proofs.OfAnswers.Following.{IsNextRecord, Recorded, all-after, none-after, records_after}
 use Rattle.pv_files.specs.Descriptors.{is_marked}
 use Rattle.pv_laws_classes.specs.Canonical.{canonical, index_in, no_file, references}
 use Rattle.pv_laws_classes.specs.Liveness.{cleared, cleared_buffer, cleared_from, cleared_record, cleared_registers, is_live_at, is_live_below, live_bytes, register_variable}
 use Rattle.pv_laws_classes.specs.Reduced.{representative}
 use Rattle.pv_laws_classes.specs.Renumbering.{renumbered_descriptor, renumbered_descriptors, renumbered_processes, renumbered_record}
 use Rattle.pv_model.specs.declared.limits.TheConstants.{OPEN_FILES}
-use Rattle.pv_model.specs.Answers.Numbers.{Numbers, bool_numbers, bytes_numbers, descriptor_numbers, file_numbers, instruction_numbers, list_numbers, option_numbers}
-use Rattle.pv_model.specs.Bytes.{Bytes}
-use Rattle.pv_model.specs.Calls.Processes.{parent_of}
-use Rattle.pv_model.specs.Numbered.{Numbered, at_number}
-use Rattle.pv_model.specs.State.{Descriptor, OpenFile, Program, ProcessRecord, live, ended_record, State, live_process}
-use Rattle.pv_model.specs.Tree.{Tree}
-use Rattle.pv_calls_state.specs.Counts.{processes_of}
-use Rattle.pv_procs.specs.Parts.{record_of}
-use Rattle.pv_procs.specs.ProcessTable.{IsProcessTable, ProcessTable, ended_process, number_after}
-use Rattle.pv_procs.specs.declared.record.ProcessRecord.{ProcessRecord as Owned}
+use Rattle.pv_model.specs.Machine.{Numbers, bool_numbers, bytes_numbers, descriptor_numbers, file_numbers, instruction_numbers, list_numbers, option_numbers, Bytes, parent_of, Numbered, at_number, Descriptor, OpenFile, Program, ProcessRecord, live, ended_record, State, live_process, Tree}
+use Rattle.pv_state_encoding.specs.OfCallsState.Counts.{processes_of}
+use Rattle.pv_state_encoding.specs.OfProcs.Parts.{record_of}
+use Rattle.pv_state_encoding.specs.OfProcs.ProcessTable.{IsProcessTable, ProcessTable, ended_process, number_after}
+use Rattle.pv_state_encoding.specs.OfProcs.declared.record.ProcessRecord.{ProcessRecord as Owned}
 use Rattle.pv_reduced.specs.declared.liveness.LiveLine.{LiveLine}
 use Rattle.pv_reduced.specs.Keys.{files_in, files_of_processes, groups_of_nodes, held_under, parts_under, reduced_parts, with_references}
 use Rattle.pv_reduced.specs.Live.{live_line}

@@ -10,3 +10,8 @@ pub mod Bounds
 pub mod Planned
 pub mod Finding
 pub mod Reported
+pub use Rattle.pv_state_encoding.proofs.OfAnswers
+pub use Rattle.pv_explore.proofs as OfExplore
+pub use Rattle.pv_laws_classes.proofs.OfLawsSteps
+pub use Rattle.pv_explore.proofs.OfSession
+pub use Rattle.pv_explore.proofs.OfStepLines

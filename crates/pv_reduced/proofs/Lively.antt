@@ -8,15 +8,13 @@ use Rattle.std.proofs.lemmas.List.Quantifiers.{position-Some}
 use Rattle.std.proofs.lemmas.Option.{get_or_from_slice_get, slice_get-get_or, slice_get-map, slice_get_within}
 use Rattle.std.proofs.Math.Seq.{drop-cons}
 use Rattle.pv_explore.proofs.VisitedStates.{other-row}
-use Rattle.pv_laws_answers.proofs.Reading.{same-state_numbers}
+use Rattle.pv_laws_classes.proofs.OfLawsAnswers.StateDecoding.{same-state_numbers}
 use Rattle.pv_laws_classes.specs.Liveness.{Variable, bound_if, byte_variable, greatest_bound, has_line, is_live_at, is_needed, next_table, read_bound, register_variable, rounds}
 use Rattle.pv_laws_trees.proofs.Entries.{bytes_eq-same}
 use Rattle.pv_model.specs.declared.instruction.Instruction.{Instruction}
 use Rattle.pv_model.specs.declared.version.Version.TheVariants.{V1}
-use Rattle.pv_model.specs.Answers.Numbers.{Numbers, bool_numbers, bytes_numbers, descriptor_numbers, entry_numbers, file_numbers, instruction_numbers, integer_numbers, list_numbers, number_numbers, option_numbers, process_numbers, state_numbers, tree_numbers}
-use Rattle.pv_model.specs.Bytes.{Bytes}
-use Rattle.pv_model.specs.State.{Process, Program, ProcessRecord, live, ended_record, State, first_process, first_state}
-use Rattle.pv_model.specs.Tree.{Tree}
+use Rattle.pv_model.specs.Machine.{Numbers, bool_numbers, bytes_numbers, descriptor_numbers, entry_numbers, file_numbers, instruction_numbers, integer_numbers, list_numbers, number_numbers, option_numbers, state_numbers, tree_numbers, Bytes, Process, Program, ProcessRecord, live, ended_record, State, first_process, first_state, Tree}
+use Rattle.pv_model.specs.Answers.Numbers.{process_numbers}
 use Rattle.pv_reduced.specs.Live.{AreTables, Bound, bound_in, bound_of, bound_table, bound_tables, bounds_of, greatest_in, last_table, line_in, lines_in, lists_of, live_line, live_lines, numbers_from, program_key, register_tables, registers_in, table_in, table_of, tables_of}
 use Rattle.pv_reduced.specs.declared.liveness.BoundTable.{BoundTable}
 use Rattle.pv_reduced.specs.declared.liveness.LiveLine.{LiveLine}

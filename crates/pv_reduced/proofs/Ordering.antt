@@ -5,14 +5,12 @@ use Rattle.std.specs.Ordering.{nat_cmp}
 use Rattle.std.proofs.lemmas.List.{drop_all, take_all}
 use Rattle.std.proofs.lemmas.List.Folds.{list_any-append}
 use Rattle.std.proofs.Math.Seq.{drop-cons}
-use Rattle.pv_answers.proofs.Following.{IsNextRecord, Recorded, all-after, none-after, records_after}
+use Rattle.pv_state_encoding.proofs.OfAnswers.Following.{IsNextRecord, Recorded, all-after, none-after, records_after}
 use Rattle.pv_laws_classes.specs.Canonical.{first_ones, index_in, references}
 use Rattle.pv_laws_classes.specs.Liveness.{cleared, cleared_record, is_live_below}
 use Rattle.pv_laws_states.specs.Held.{used}
-use Rattle.pv_model.specs.Held.{among}
-use Rattle.pv_model.specs.Numbered.{Numbered, at_number}
-use Rattle.pv_model.specs.State.{Descriptor, ProcessRecord, live, ended_record, State, live_process}
-use Rattle.pv_procs.specs.ProcessTable.{IsProcessTable, ProcessTable, number_after}
+use Rattle.pv_model.specs.Machine.{among, Numbered, at_number, Descriptor, ProcessRecord, live, ended_record, State, live_process}
+use Rattle.pv_state_encoding.specs.OfProcs.ProcessTable.{IsProcessTable, ProcessTable, number_after}
 use Rattle.pv_reduced.specs.Keys.{files_of, files_of_live, files_of_processes, with_reference, with_references}
 use Rattle.pv_state_encoding.proofs.Numbering.{take-at}
 

@@ -8,18 +8,12 @@ use Rattle.std.proofs.lemmas.Grind.{flat_map-append}
 use Rattle.std.proofs.lemmas.List.{length-map, map-append, take_all}
 use Rattle.std.proofs.lemmas.List.Folds.{list_any-append}
 use Rattle.std.proofs.lemmas.Option.{slice_get-map, slice_get_cases}
-use Rattle.pv_model.specs.Answers.Explore.{Found, Move, found_by, move, moves_of, endings}
-use Rattle.pv_model.specs.Answers.Numbers.{same_state, state_numbers}
-use Rattle.pv_model.specs.Answers.Observed.{Observation, Observer, observed}
+use Rattle.pv_model.specs.Machine.{Found, Move, found_by, move, moves_of, endings, same_state, state_numbers, Observation, Observer, observed, Bytes, live_processes, Program, Process, State, Run, step}
 use Rattle.pv_model.specs.Answers.Search
-use Rattle.pv_model.specs.Bytes.{Bytes}
-use Rattle.pv_model.specs.Held.{live_processes}
-use Rattle.pv_model.specs.State.{Program, Process, State}
-use Rattle.pv_model.specs.Step.{Run, step}
 use Rattle.pv_model.proofs.Runs.{run-append}
 use Rattle.pv_laws_trees.proofs.Entries.{bytes_eq-same, bytes_eq-itself}
-use Rattle.pv_laws_answers.proofs.Lists.{each-append}
-use Rattle.pv_laws_answers.proofs.Reading.{reported-apart, same-state_numbers}
+use Rattle.pv_laws_classes.proofs.OfLawsAnswers.Lists.{each-append}
+use Rattle.pv_laws_classes.proofs.OfLawsAnswers.StateDecoding.{reported-apart, same-state_numbers}
 use Rattle.pv_laws_classes.specs.Reduced.{are_identified, bound_after, bound_at, bound_by, is_identified, may_step, reduced_found, reduced_moves, reduced_moves_of, representative}
 use Rattle.std.specs.Cmp.{both_ways}
 use Rattle.pv_state_encoding.specs.Groups.{joined, state_groups}

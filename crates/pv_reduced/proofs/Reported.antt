@@ -14,13 +14,8 @@ use Rattle.pv_explore.proofs.Reported.{HaveEmpty, explored, text_observed, writt
 use Rattle.pv_explore.proofs.Visiting.{states-at}
 use Rattle.pv_laws_classes.specs.Reduced.{reduced_found, reduced_moves, reduced_moves_of, reduced_reported}
 use Rattle.pv_laws_classes.specs.ReducedAnswers.{classes_done_line, classes_line, reduced_lines, reduced_observations, reduced_observations_at}
-use Rattle.pv_model.specs.Answers.Explore.{Found, Move, endings, endings_line, move_lines}
-use Rattle.pv_model.specs.Answers.Lines.{AnswerLine, answer_bytes, answer_line_bytes}
-use Rattle.pv_model.specs.Answers.Observed.{Observation, Observer, observed}
-use Rattle.pv_model.specs.Bytes.{Bytes}
-use Rattle.pv_model.specs.Grammar.Programs.{program_of}
-use Rattle.pv_model.specs.State.{State}
-use Rattle.pv_model.specs.Trace.{trace_bytes}
+use Rattle.pv_model.specs.Machine.{Found, Move, endings, endings_line, AnswerLine, answer_bytes, answer_line_bytes, Observation, Observer, observed, Bytes, program_of, State, trace_bytes}
+use Rattle.pv_model.specs.Answers.Explore.{move_lines}
 
 module _ (limit : ℕ) (s : State) where
   -- ---- the result of a search

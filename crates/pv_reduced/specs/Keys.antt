@@ -1,17 +1,12 @@
 -- The encoding of the representative of a state.
 use Rattle.std.specs.Prelude.{ℕ, ℤ, ◌-◌, if◌then◌else◌, List, [], ◌∷◌, ◌++◌, length, map, flat_map, drop, replicate, bytes_eq, Bool, true, false, ◌&&◌, Option, None, Some}
 use Rattle.pv_model.specs.declared.limits.TheConstants.{OPEN_FILES}
-use Rattle.pv_model.specs.Answers.Numbers.{Numbers, bool_numbers, descriptor_numbers, entry_numbers, integer_numbers, list_numbers, number_numbers, option_numbers}
-use Rattle.pv_model.specs.Bytes.{Bytes}
-use Rattle.pv_model.specs.Held.{among, live_processes, used_files}
-use Rattle.pv_model.specs.Numbered.{Numbered, at_number, present}
-use Rattle.pv_model.specs.State.{Descriptor, OpenFile, Process, ProcessRecord, State}
-use Rattle.pv_model.specs.Tree.{Tree}
+use Rattle.pv_model.specs.Machine.{Numbers, bool_numbers, descriptor_numbers, entry_numbers, integer_numbers, list_numbers, number_numbers, option_numbers, Bytes, among, live_processes, used_files, Numbered, at_number, present, Descriptor, OpenFile, Process, ProcessRecord, State, Tree}
 use Rattle.pv_laws_classes.specs.Canonical.{no_file}
 use Rattle.pv_laws_classes.specs.Liveness.{cleared_record, is_live_below}
 use Rattle.pv_laws_classes.specs.Reduced.{representative}
 use Rattle.pv_laws_classes.specs.Renumbering.{renumbered_descriptors, renumbered_record}
-use Rattle.pv_procs.specs.declared.record.ProcessRecord.{ProcessRecord as Owned}
+use Rattle.pv_state_encoding.specs.OfProcs.declared.record.ProcessRecord.{ProcessRecord as Owned}
 use Rattle.pv_state_encoding.specs.Encoded.{tree_groups}
 use Rattle.pv_state_encoding.specs.Groups.{numbered_parts, state_groups}
 use Rattle.pv_state_encoding.specs.Packed.{packed_all}

@@ -1,18 +1,14 @@
 -- The search of all states and the reduced search, side by side.
-use Rattle.std.specs.Prelude.{ℕ, Bool, List}
+use Rattle.std.specs.Prelude.{ℕ, Bool, true, false, List}
 use Rattle.pv_explore.specs.Observing
 use Rattle.pv_explore.specs.Visiting.{Visits}
 use Rattle.pv_laws_classes.specs.Reduced.{is_reduced_complete, reduced_found}
-use Rattle.pv_laws_classes.specs.ReducedAnswers.{classes_line, reduced_lines, reduced_access_lines, reduced_exposure_lines, reduced_policy_lines}
+use Rattle.pv_laws_classes.specs.ReducedAnswers.{classes_line, reduced_lines, reduced_access_lines, reduced_exposure_lines, reduced_granted_policy_lines, reduced_policy_lines}
 use Rattle.pv_model.specs.Answers.Access.{access_lines}
-use Rattle.pv_model.specs.Answers.Explore.{Found, explore_lines, is_complete, states_found, states_line}
+use Rattle.pv_model.specs.Machine.{Found, is_complete, states_found, AnswerLine, Observer, Bytes, program_of, State}
+use Rattle.pv_model.specs.Answers.Explore.{explore_lines, states_line}
 use Rattle.pv_model.specs.Answers.Exposure.{exposure_lines}
-use Rattle.pv_model.specs.Answers.Lines.{AnswerLine}
-use Rattle.pv_model.specs.Answers.Observed.{Observer}
-use Rattle.pv_model.specs.Answers.Policy.{policy_lines}
-use Rattle.pv_model.specs.Bytes.{Bytes}
-use Rattle.pv_model.specs.Grammar.Programs.{program_of}
-use Rattle.pv_model.specs.State.{State}
+use Rattle.pv_model.specs.Answers.Policy.{granted_policy_lines, policy_lines}
 use Rattle.pv_reduced.specs.declared.kind.SearchKind.{SearchKind}
 use Rattle.pv_reduced.specs.declared.kind.SearchKind.TheVariants.{Full, Reduced}
 use Rattle.pv_reduced.specs.Lines
@@ -55,9 +51,12 @@ abbrev pub access_lines_by : SearchKind → ℕ → State → List AnswerLine
 access_lines_by Full limit s = access_lines program_of limit s
 access_lines_by Reduced limit s = reduced_access_lines program_of limit s
 
-abbrev pub policy_lines_by : SearchKind → ℕ → State → List AnswerLine
-policy_lines_by Full limit s = policy_lines program_of limit s
-policy_lines_by Reduced limit s = reduced_policy_lines program_of limit s
+-- of all calls, or of the granted ones alone
+abbrev pub policy_lines_by : Bool → SearchKind → ℕ → State → List AnswerLine
+policy_lines_by false Full limit s = policy_lines program_of limit s
+policy_lines_by true Full limit s = granted_policy_lines program_of limit s
+policy_lines_by false Reduced limit s = reduced_policy_lines program_of limit s
+policy_lines_by true Reduced limit s = reduced_granted_policy_lines program_of limit s
 
 abbrev pub exposure_lines_by : SearchKind → ℕ → State → List AnswerLine
 exposure_lines_by Full limit s = exposure_lines program_of limit s

@@ -5,3 +5,11 @@ pub mod Plan
 pub mod Searches
 pub mod Lines
 pub mod Kinds
+pub mod SeenProcess
+pub use Rattle.pv_explore.specs.OfAudit
+pub use Rattle.pv_explore.specs.OfCallsPath
+pub use Rattle.pv_explore.specs as OfExplore
+pub use Rattle.pv_laws_classes.specs as OfLawsClasses
+pub use Rattle.pv_laws_classes.specs.OfLawsSteps
+pub use Rattle.pv_state_encoding.specs.OfProcs
+pub use Rattle.pv_explore.specs.OfSession

@@ -4,11 +4,7 @@ use Rattle.pv_explore.specs.Observing.{observation_bytes}
 use Rattle.pv_explore.specs.Visiting.{Visits}
 use Rattle.pv_laws_classes.specs.Reduced.{is_reduced_complete, reduced_found}
 use Rattle.pv_laws_classes.specs.ReducedAnswers.{reduced_observations}
-use Rattle.pv_model.specs.Answers.Explore.{endings}
-use Rattle.pv_model.specs.Answers.Observed.{Observation, Observer, first_observations}
-use Rattle.pv_model.specs.Bytes.{Bytes}
-use Rattle.pv_model.specs.Grammar.Programs.{program_of}
-use Rattle.pv_model.specs.State.{State}
+use Rattle.pv_model.specs.Machine.{endings, Observation, Observer, first_observations, Bytes, program_of, State}
 
 module _ (observe : Observer Bytes) (limit : ℕ) (s : State) where
   -- the texts that no earlier step has, each with its step

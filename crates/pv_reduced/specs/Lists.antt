@@ -2,7 +2,7 @@
 use Rattle.std.specs.Prelude.{◌≡◌, ℕ, ◌≤◌, ◌<◌, true, false, List, [], ◌∷◌, ◌++◌, length, map, get_or}
 use Rattle.std.specs.List.{AllByRecursion, list_any}
 use Rattle.pv_explore.specs.Rows.{IsAmong, group_row, unpacked}
-use Rattle.pv_model.specs.Bytes.{Bytes}
+use Rattle.pv_model.specs.Machine.{Bytes}
 use Rattle.pv_reduced.specs.declared.part_lists.Addition.{Addition}
 use Rattle.pv_reduced.specs.declared.part_lists.Addition.TheVariants.{Known, Full, New}
 use Rattle.pv_reduced.specs.Keys.{same_parts}

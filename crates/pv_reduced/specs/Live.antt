@@ -2,9 +2,7 @@
 use Rattle.std.specs.Prelude.{◌≡◌, ℕ, zero, suc, max, Bool, if◌then◌else◌, List, [], ◌∷◌, map, length, get_or}
 use Rattle.std.specs.Global.{Vec}
 use Rattle.pv_model.specs.declared.instruction.Instruction.{Instruction}
-use Rattle.pv_model.specs.Answers.Numbers.{instruction_numbers, list_numbers}
-use Rattle.pv_model.specs.Bytes.{Bytes}
-use Rattle.pv_model.specs.State.{Program}
+use Rattle.pv_model.specs.Machine.{instruction_numbers, list_numbers, Bytes, Program}
 use Rattle.pv_laws_classes.specs.Liveness.{Variable, byte_variable, has_line, is_live_at, live_bytes, read_bound, register_variable, rounds}
 use Rattle.pv_state_encoding.specs.Packed.{packed_all}
 use Rattle.pv_reduced.specs.declared.liveness.BoundTable.{BoundTable}

@@ -4,10 +4,7 @@ use Rattle.std.specs.List.{list_any}
 use Rattle.pv_reduced.specs.Keys.{reduced_parts, same_parts}
 use Rattle.pv_explore.specs.Plan.{endings_after, live_at, move_at, reported_after, reported_bytes, state_at}
 use Rattle.pv_laws_classes.specs.Reduced.{bound_by, may_step}
-use Rattle.pv_model.specs.Answers.Explore.{Move}
-use Rattle.pv_model.specs.Answers.Observed.{Observer}
-use Rattle.pv_model.specs.Bytes.{Bytes}
-use Rattle.pv_model.specs.State.{Program, State}
+use Rattle.pv_model.specs.Machine.{Move, Observer, Bytes, Program, State}
 
 -- the data of a search: of each visited state the process that must make the next step, or 0, the parts and the witness;
 -- the texts that were observed, the encodings of the trees at ends, and whether no state was left out

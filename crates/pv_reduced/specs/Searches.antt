@@ -3,10 +3,7 @@ use Rattle.std.specs.Prelude.{◌≡◌, ℕ, List, [], get_or, length, slice_in
 use Rattle.pv_reduced.specs.declared.search.ReducedSearch.{ReducedSearch}
 use Rattle.pv_reduced.specs.Plan.{Visited, bytes_at, first_visited, moving_at, reported_from, reported_steps, visited_after_steps, visited_at, visited_from}
 use Rattle.pv_explore.specs.Plan.{state_at}
-use Rattle.pv_model.specs.Answers.Observed.{Observer}
-use Rattle.pv_model.specs.Bytes.{Bytes}
-use Rattle.pv_model.specs.Grammar.Programs.{program_of}
-use Rattle.pv_model.specs.State.{State}
+use Rattle.pv_model.specs.Machine.{Observer, Bytes, program_of, State}
 
 abbrev pub visited_of : {O : Type 0} → ReducedSearch O → Visited
 visited_of s = record { bounds = s.bounds.items; keys = s.lists; witnesses = s.witnesses; reported = s.reported; endings = s.endings; complete = s.complete }

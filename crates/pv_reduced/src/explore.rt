@@ -2,18 +2,16 @@
 ghost use Rattle.std.specs.Prelude.{◌≡◌, ◌≤◌, ◌∷◌, [], IfOk};
 ghost use Rattle.pv_laws_classes.specs.Reduced.{is_reduced_complete};
 ghost use Rattle.pv_laws_classes.specs.ReducedAnswers.{classes_line, reduced_lines};
-ghost use Rattle.pv_model.specs.Answers.Explore.{endings_line};
-ghost use Rattle.pv_model.specs.Answers.Lines.{answer_bytes, answer_line_bytes};
-ghost use Rattle.pv_model.specs.Grammar.Programs.{program_of};
-ghost use Rattle.pv_session.specs.Running.{FailsBy};
+ghost use Rattle.pv_model.specs.Machine.{endings_line, answer_bytes, answer_line_bytes, program_of};
+ghost use Rattle.pv_explore.specs.OfSession.Running.{FailsBy};
 ghost use Rattle.pv_streams.specs.Sinks.{Writes, WritesOr};
 
 use crate::searched::search_reduced;
-use pv_answers::{Fragment, Line, Plain};
+use pv_explore::session::Stop;
 use pv_explore::{
     Count, FirstMachine, Progress, Searched, TraceLines, completeness, write_endings,
 };
-use pv_session::Stop;
+use pv_state_encoding::answers::{Fragment, Line, Plain};
 use pv_streams::{Failed, Sink};
 use std::alloc::Global;
 

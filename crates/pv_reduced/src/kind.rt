@@ -1,18 +1,18 @@
-//! The search of all states and the reduced search, side by side.
+//! The full search and the reduced search.
 ghost use Rattle.std.specs.Prelude.{◌≡◌, ◌≤◌, IfOk};
-ghost use Rattle.pv_model.specs.Answers.Lines.{answer_bytes, answer_line_bytes};
+ghost use Rattle.pv_model.specs.Machine.{answer_bytes, answer_line_bytes};
 ghost use Rattle.pv_reduced.specs.Kinds.{IsSearchedBy, count_line, explore_lines_by, is_complete_by, observed_by, states_by};
-ghost use Rattle.pv_session.specs.Running.{FailsBy};
+ghost use Rattle.pv_explore.specs.OfSession.Running.{FailsBy};
 ghost use Rattle.pv_streams.specs.Sinks.{Writes, WritesOr};
 
 use crate::explore::{write_classes, write_reduced};
 use crate::searched::{reduced_states, search_reduced};
+use pv_explore::session::Stop;
 use pv_explore::{
     FirstMachine, Observer, Progress, Searched, SearchedStates, search_observed, write_explore,
     write_states,
 };
 use pv_model::StepFault;
-use pv_session::Stop;
 use pv_streams::{Failed, Sink};
 use std::alloc::Global;
 
@@ -21,7 +21,7 @@ use std::alloc::Global;
 pub enum SearchKind {
     /// The search that visits each state.
     Full,
-    /// The search that identifies states that are equal but for the numbers of open files and for dead variables, and that
+    /// The search that identifies states that are equal up to the numbers of open files and dead variables, and that
     /// makes the steps of a process on registers directly before its next step.
     Reduced,
 }

@@ -22,3 +22,6 @@ mod search;
 mod searched;
 
 pub use kind::SearchKind;
+pub use pv_explore as explore_crate;
+pub use pv_explore::{audit, calls_path, calls_plain, session};
+pub use pv_state_encoding::{answers, calls_state, procs};

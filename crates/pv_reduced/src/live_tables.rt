@@ -1,14 +1,13 @@
 //! The live variables of each program of a search, computed once for each program.
 ghost use Rattle.std.specs.Prelude.{◌≡◌, ◌<◌, false, bytes_eq, length, slice_get, IfOk, Some};
 ghost use Rattle.std.specs.List.{list_any};
-ghost use Rattle.pv_model.specs.Answers.Numbers.{instruction_numbers, list_numbers};
-ghost use Rattle.pv_model.specs.State.{Program as Instructions};
+ghost use Rattle.pv_model.specs.Machine.{instruction_numbers, list_numbers, Program as Instructions};
 ghost use Rattle.pv_reduced.specs.Live.{AreTables, lists_of, live_line, live_lines, program_key};
 ghost use Rattle.pv_state_encoding.specs.Packed.{packed_all};
 
 use crate::liveness::{LiveLine, live_at, live_lines};
+use pv_explore::step_cache::tables::Keys;
 use pv_script::Program;
-use pv_step_cache::tables::Keys;
 use std::alloc::{AllocError, Global};
 use std::marker::Model;
 

@@ -4,8 +4,8 @@
 //! a line needs the variable if its instruction reads it, or if it does not set it and a next line needs it.
 ghost use Rattle.std.specs.Prelude.{◌≡◌, ◌<◌, ◌||◌, false, length, replicate, IfOk};
 ghost use Rattle.std.specs.List.{list_any};
-ghost use Rattle.pv_laws_classes.specs.Liveness.{bytes_read, following, has_line, is_byte, is_byte_below, is_needed, is_register, is_result, next_table, operand_reads, origin_reads, read_bound, reads, sets, targets};
-ghost use Rattle.pv_model.specs.State.{Program as Instructions};
+ghost use Rattle.pv_laws_classes.specs.Liveness.{bytes_taken, line_after, has_line, is_byte_at, is_byte_below, is_needed, is_register, is_result, next_table, operand_reads, origin_reads, read_bound, reads_variable, sets_variable, targets};
+ghost use Rattle.pv_model.specs.Machine.{Program as Instructions};
 ghost use Rattle.pv_reduced.specs.Live.{bound_in, bound_of, bound_table, bound_tables, bounds_of, greatest_in, last_table, line_in, lines_in, live_line, live_lines, register_tables, registers_in, table_in, table_of, tables_of, variable_of};
 
 use pv_model::limits::{BUFFER, REGISTERS};
@@ -50,7 +50,7 @@ fn is_register(number: usize, variable: Variable) -> bool
 
 // Returns whether a variable is the byte at an offset.
 fn is_byte(offset: usize, variable: Variable) -> bool
-    ensures { result ≡ is_byte offset (variable_of variable) }
+    ensures { result ≡ is_byte_at offset (variable_of variable) }
 {
     match variable {
         Variable::Register(_) => false,
@@ -97,7 +97,7 @@ fn origin_reads(origin: Origin, variable: Variable) -> bool
 
 // Returns the number of bytes that a write may read from the buffer: all if the count is in a register.
 fn bytes_read(count: Operand) -> usize
-    ensures { result ≡ bytes_read count }
+    ensures { result ≡ bytes_taken count }
 {
     match count {
         Operand::Number(number) => { if number < 0 { 0 } else { number as usize } }
@@ -107,7 +107,7 @@ fn bytes_read(count: Operand) -> usize
 
 // Returns whether an instruction may read a variable.
 fn reads(instruction: &Instruction, variable: Variable) -> bool
-    ensures { result ≡ reads instruction.now (variable_of variable) }
+    ensures { result ≡ reads_variable instruction.now (variable_of variable) }
 {
     match instruction {
         Instruction::Add(register, _) => is_register(register.number(), variable),
@@ -142,7 +142,7 @@ fn is_result(variable: Variable) -> bool
 
 // Returns whether an instruction sets a variable whenever the process continues after it.
 fn sets(instruction: &Instruction, variable: Variable) -> bool
-    ensures { result ≡ sets instruction.now (variable_of variable) }
+    ensures { result ≡ sets_variable instruction.now (variable_of variable) }
 {
     match instruction {
         Instruction::Set(register, _) => is_register(register.number(), variable),
@@ -183,7 +183,7 @@ fn has_line(table: &[bool], line: usize) -> bool
 
 // Returns the line after a line, at most the one after the last.
 fn following(program: &Program, line: usize) -> usize
-    ensures { result ≡ following program.now line }
+    ensures { result ≡ line_after program.now line }
 {
     program.len().min(line) + 1
 }

@@ -2,12 +2,12 @@
 ghost use Rattle.std.specs.Prelude.{◌≡◌, ◌∷◌, [], IfOk, OnOk};
 ghost use Rattle.pv_reduced.specs.Keys.{files_of, files_of_live, files_of_processes, with_reference, with_references};
 ghost use Rattle.pv_laws_classes.specs.Canonical.{index_in};
-ghost use Rattle.pv_model.specs.Numbered.{at_number};
-ghost use Rattle.pv_procs.specs.ProcessTable.{process_in};
+ghost use Rattle.pv_model.specs.Machine.{at_number};
+ghost use Rattle.pv_state_encoding.specs.OfProcs.ProcessTable.{process_in};
 
 use pv_files::Descriptors;
 use pv_model::limits::DESCRIPTORS;
-use pv_procs::Processes;
+use pv_state_encoding::procs::Processes;
 use std::alloc::{AllocError, Global};
 
 /// Returns the index of a number, or the length of the list if it does not contain the number.

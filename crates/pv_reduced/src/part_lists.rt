@@ -4,7 +4,7 @@ ghost use Rattle.pv_reduced.specs.Lists.{IsAddedTo};
 ghost use Rattle.pv_explore.specs.Rows.{parts_in};
 
 use pv_explore::learn_row;
-use pv_step_cache::tables::Keys;
+use pv_explore::step_cache::tables::Keys;
 use std::alloc::{AllocError, Global};
 use std::marker::Model;
 

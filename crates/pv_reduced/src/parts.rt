@@ -7,10 +7,8 @@ ghost use Rattle.pv_laws_classes.specs.Canonical.{index_in};
 ghost use Rattle.pv_laws_classes.specs.Liveness.{cleared_buffer, cleared_registers, is_live_below};
 ghost use Rattle.pv_laws_classes.specs.Renumbering.{renumbered_descriptors};
 ghost use Rattle.pv_model.specs.declared.limits.TheConstants.{OPEN_FILES};
-ghost use Rattle.pv_model.specs.Answers.Numbers.{bytes_numbers, descriptor_numbers, file_numbers, list_numbers, option_numbers};
-ghost use Rattle.pv_model.specs.Numbered.{at_number};
-ghost use Rattle.pv_model.specs.State.{Program as Instructions};
-ghost use Rattle.pv_procs.specs.ProcessTable.{process_in};
+ghost use Rattle.pv_model.specs.Machine.{bytes_numbers, descriptor_numbers, file_numbers, list_numbers, option_numbers, at_number, Program as Instructions};
+ghost use Rattle.pv_state_encoding.specs.OfProcs.ProcessTable.{process_in};
 ghost use Rattle.pv_reduced.specs.Keys.{files_in, groups_of_nodes, held_under, location_under, parts_under, promised_under, reduced_parts};
 ghost use Rattle.pv_reduced.specs.Live.{live_line};
 ghost use Rattle.pv_state_encoding.specs.Groups.{counts_part, files_part, parts_of};
@@ -19,15 +17,15 @@ ghost use Rattle.pv_state_encoding.specs.Packed.{IsAdded, packed_all};
 use crate::live_tables::LiveTables;
 use crate::liveness::LiveLine;
 use crate::order::{index_in, references};
-use pv_calls_state::Parts;
 use pv_files::{Descriptors, OpenFiles};
 use pv_model::limits::{BUFFER, DESCRIPTORS, OPEN_FILES, REGISTERS};
-use pv_procs::{ProcessRecord, Processes};
+use pv_state_encoding::calls_state::Parts;
+use pv_state_encoding::procs::{ProcessRecord, Processes};
+use pv_state_encoding::tree::Tree;
 use pv_state_encoding::{
     count, group_ended, part_of_program, part_of_sizes, push_bool, push_file, push_items,
     push_node_groups, push_number, push_promises, push_registers, push_table,
 };
-use pv_tree::Tree;
 use std::alloc::{AllocError, Global};
 
 // ---- variables

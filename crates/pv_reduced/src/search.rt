@@ -6,24 +6,23 @@ ghost use Rattle.pv_reduced.specs.Searches.{HasMoved, HasMovedAll, HaveWitnesses
 ghost use Rattle.pv_explore.specs.Rows.{parts_in};
 ghost use Rattle.pv_explore.specs.Witnesses.{longer};
 ghost use Rattle.pv_laws_classes.specs.Reduced.{bound_by, may_step};
-ghost use Rattle.pv_model.specs.Grammar.Programs.{program_of};
-ghost use Rattle.pv_model.specs.State.{State};
-ghost use Rattle.pv_session.specs.Running.{FailsBy};
+ghost use Rattle.pv_model.specs.Machine.{program_of, State};
+ghost use Rattle.pv_explore.specs.OfSession.Running.{FailsBy};
 ghost use Rattle.pv_streams.specs.Sinks.{WritesOr};
 
 use crate::live_tables::LiveTables;
 use crate::part_lists::{Addition, PartLists};
 use crate::parts::reduced_parts;
-use pv_calls_state::Parts;
+use pv_explore::session::Stop;
+use pv_explore::step_cache::tables::Keys;
 use pv_explore::{
     Checkpoints, FirstMachine, ObservedStep, Observer, Position, Progress, Searched, Witnesses,
     add_ending, first_endings, report,
 };
 use pv_model::StepFault;
-use pv_procs::Fetched;
 use pv_script::CallTexts;
-use pv_session::Stop;
-use pv_step_cache::tables::Keys;
+use pv_state_encoding::calls_state::Parts;
+use pv_state_encoding::procs::Fetched;
 use pv_streams::Sink;
 use std::alloc::{AllocError, Global};
 

@@ -3,13 +3,13 @@ ghost use Rattle.std.specs.Prelude.{◌≡◌, ◌≤◌, IfOk, OnOk};
 ghost use Rattle.pv_reduced.specs.Lines.{IsReducedSearched, observed_bytes, reduced_states};
 ghost use Rattle.pv_reduced.specs.Plan.{first_visited};
 ghost use Rattle.pv_reduced.specs.Searches.{all_reported, all_visited, visited_of};
-ghost use Rattle.pv_session.specs.Running.{FailsBy};
+ghost use Rattle.pv_explore.specs.OfSession.Running.{FailsBy};
 ghost use Rattle.pv_streams.specs.Sinks.{WritesOr};
 
 use crate::search::ReducedSearch;
+use pv_explore::session::Stop;
 use pv_explore::{FirstMachine, Observer, Progress, Searched, SearchedStates, Unheard, Unobserved};
 use pv_model::StepFault;
-use pv_session::Stop;
 use pv_streams::Sink;
 use std::alloc::Global;
 

@@ -2,9 +2,7 @@
 use Rattle.std.proofs.Common.{◌≡◌, refl, Option, None, Some, Result, Ok, Err, IfErr, OnOk, inl, inr}
 use Rattle.pv_model.specs.declared.run_fault.RunFault.{RunFault}
 use Rattle.pv_model.specs.declared.run_fault.RunFault.TheVariants.{Read, Image, Manifest, Schedule, Init, Memory, WriteTrace, WriteImage}
-use Rattle.pv_model.specs.Bytes.{Bytes}
-use Rattle.pv_model.specs.Start.{image_started}
-use Rattle.pv_model.specs.State.{State}
+use Rattle.pv_model.specs.Machine.{Bytes, image_started, State}
 use Rattle.pv_run.specs.Machines.{IsLeftBy, RefusesMachine}
 use Rattle.pv_run.specs.Run.{IfBoth}
 use Rattle.pv_run.specs.declared.auditing.AuditStop.{AuditStop}

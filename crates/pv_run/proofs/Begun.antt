@@ -2,12 +2,8 @@
 use Rattle.std.proofs.Common.{◌≡◌, length, refl, ℕ, Option, Some, Result, Ok, Err, IfOk, IfErr, OnOk, OnErr, inr}
 use Rattle.pv_model.specs.declared.run_fault.RunFault.{RunFault}
 use Rattle.pv_model.specs.declared.run_fault.RunFault.TheVariants.{Read, Image, Manifest, Schedule as ScheduleLine, Init, Memory, WriteTrace, WriteImage}
-use Rattle.pv_model.specs.Bytes.{Bytes}
-use Rattle.pv_model.specs.Grammar.Programs.{program_of}
-use Rattle.pv_model.specs.State.{State}
-use Rattle.pv_model.specs.Step.{Schedule, boot, steps_of}
-use Rattle.pv_model.specs.Start.{Started, bundle_started}
-use Rattle.pv_laws_runs.proofs.Asked.{bundle-asks}
+use Rattle.pv_model.specs.Machine.{Bytes, program_of, State, Schedule, boot, steps_of, Started, bundle_started}
+use Rattle.pv_laws_runs.proofs.RunChecks.{bundle-asks}
 use Rattle.pv_run.specs.Run.{HasBegun, HasRun, HasStopped, IsSummaryOf, AppearsIn, StopsBy, IsOutOfMemoryAtExecve, started_from, text_of}
 use Rattle.pv_run.specs.declared.turns.Summary.{Summary}
 use Rattle.pv_session.specs.Stopping.{StopsAtExecve}

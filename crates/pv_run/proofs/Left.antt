@@ -1,10 +1,7 @@
 -- The machine after a run.
 use Rattle.std.proofs.Common.{◌≡◌, Ok}
-use Rattle.pv_model.specs.Bytes.{Bytes}
-use Rattle.pv_model.specs.Start.{image_started}
-use Rattle.pv_model.specs.State.{State}
-use Rattle.pv_model.specs.Step.{Schedule}
-use Rattle.pv_laws_runs.proofs.Asked.{image-asks}
+use Rattle.pv_model.specs.Machine.{Bytes, image_started, State, Schedule}
+use Rattle.pv_laws_runs.proofs.RunChecks.{image-asks}
 use Rattle.pv_run.specs.Machines.{IsLeftBy}
 use Rattle.pv_run.specs.Run.{started_from}
 use Rattle.pv_session.specs.Running.{run_of}

@@ -4,11 +4,8 @@ use Rattle.pv_model.specs.declared.fault.ManifestFault.{ManifestFault}
 use Rattle.pv_model.specs.declared.fault.ManifestFault.TheVariants.{Form, Size, Parent, Exists, Source, Room, Memory as ManifestMemory}
 use Rattle.pv_model.specs.declared.run_fault.RunFault.{RunFault}
 use Rattle.pv_model.specs.declared.run_fault.RunFault.TheVariants.{Read, Image, Manifest as RunManifest, Schedule, Init, Memory, WriteTrace, WriteImage}
-use Rattle.pv_model.specs.Bytes.{Bytes}
-use Rattle.pv_model.specs.Grammar.Manifests.{Manifest, read_manifest, tree_of}
-use Rattle.pv_model.specs.Held.{named_tree}
+use Rattle.pv_model.specs.Machine.{Bytes, Manifest, read_manifest, tree_of, named_tree, Tree}
 use Rattle.pv_model.specs.RunFault.{of_manifest}
-use Rattle.pv_model.specs.Tree.{Tree}
 use Rattle.pv_image_manifest.specs.Reading.{RefusesManifest}
 use Rattle.pv_image_write.specs.Written.{WritesImage, WritesImageOf, BeginsImage as BeginsWrittenImage}
 use Rattle.pv_laws_trees.specs.Preserved.{EachIsNamed}

@@ -10,15 +10,8 @@ use Rattle.pv_model.specs.declared.kernel_fault.BootFault.{BootFault}
 use Rattle.pv_model.specs.declared.kernel_fault.BootFault.TheVariants.{Init as BootInit, Memory as BootMemory}
 use Rattle.pv_model.specs.declared.run_fault.RunFault.{RunFault}
 use Rattle.pv_model.specs.declared.run_fault.RunFault.TheVariants.{Read, Image as RunImage, Manifest as RunManifest, Schedule as RunSchedule, Init as RunInit, Memory as RunMemory, WriteTrace, WriteImage}
-use Rattle.pv_model.specs.Bytes.{Bytes}
-use Rattle.pv_model.specs.Grammar.Lines.{lines_of}
-use Rattle.pv_model.specs.Grammar.Manifests.{Manifest, read_bundle, tree_of}
-use Rattle.pv_model.specs.Grammar.Schedules.{schedule_of_lines, read_schedule}
-use Rattle.pv_model.specs.Mount.{mounted}
+use Rattle.pv_model.specs.Machine.{Bytes, lines_of, Manifest, read_bundle, tree_of, schedule_of_lines, read_schedule, mounted, booted, bundle_started, image_started, started_on, Schedule, Tree}
 use Rattle.pv_model.specs.RunFault.{of_boot, of_image, of_manifest, of_schedule}
-use Rattle.pv_model.specs.Start.{booted, bundle_started, image_started, started_on}
-use Rattle.pv_model.specs.Step.{Schedule}
-use Rattle.pv_model.specs.Tree.{Tree}
 use Rattle.pv_image_manifest.specs.Reading.{RefusesManifest, manifest_before}
 use Rattle.pv_image_manifest.specs.declared.manifest.Manifest.{Manifest as ParsedManifest}
 use Rattle.pv_laws_states.specs.States.{IsFirstTree}

@@ -2,13 +2,8 @@
 use Rattle.std.proofs.Common.{◌≡◌, ◌∙◌, ap, subst, refl, ℕ, Option, Some, Result, Ok, Err, inl, inr}
 use Rattle.pv_model.specs.declared.run_fault.RunFault.{RunFault}
 use Rattle.pv_model.specs.declared.run_fault.RunFault.TheVariants.{Read, Image, Manifest, Schedule as ScheduleLine, Init, Memory, WriteTrace, WriteImage}
-use Rattle.pv_model.specs.Bytes.{Bytes}
-use Rattle.pv_model.specs.Grammar.Programs.{program_of}
-use Rattle.pv_model.specs.State.{State}
-use Rattle.pv_model.specs.Start.{Started, image_started}
-use Rattle.pv_model.specs.Step.{Schedule, boot}
-use Rattle.pv_model.specs.Tree.{Tree}
-use Rattle.pv_laws_runs.proofs.Asked.{image-asks}
+use Rattle.pv_model.specs.Machine.{Bytes, program_of, State, Started, image_started, Schedule, boot, Tree}
+use Rattle.pv_laws_runs.proofs.RunChecks.{image-asks}
 use Rattle.pv_run.proofs.Begun.{has_begun, has_stopped}
 use Rattle.pv_run.specs.Images.{BeginsImage, HasRunOn, IsWriteFault, AppearsOn, WrittenImage, last_tree}
 use Rattle.pv_run.specs.Run.{IsSummaryOf, IsTextOf, StopsBy, IsOutOfMemoryAtExecve, started_from, text_of}

@@ -5,12 +5,8 @@ use Rattle.pv_model.specs.declared.stream.Sink.{Ghosts as Writing}
 use Rattle.pv_model.specs.declared.stream.Source.{Ghosts as Reading}
 use Rattle.pv_model.specs.declared.verdict.AuditFault.{AuditFault}
 use Rattle.pv_model.specs.declared.verdict.Verdict.{Verdict}
-use Rattle.pv_model.specs.Bytes.{Bytes}
-use Rattle.pv_model.specs.Listing.{report}
+use Rattle.pv_model.specs.Machine.{Bytes, report, image_started, State, Rose}
 use Rattle.pv_model.specs.Sealed.{audit, verdict_line}
-use Rattle.pv_model.specs.Start.{image_started}
-use Rattle.pv_model.specs.State.{State}
-use Rattle.pv_model.specs.Stream.{Rose}
 use Rattle.pv_run.specs.Machines.{IsLeftBy, IsMachineFault, RefusesMachine}
 use Rattle.pv_run.specs.Run.{EitherFailsToGive, IfBoth}
 use Rattle.pv_streams.specs.Sinks.{and_all, WritesPrefix}

@@ -5,11 +5,7 @@ use Rattle.pv_model.specs.declared.fault.ImageFault.TheVariants.{Memory as Image
 use Rattle.pv_model.specs.declared.run_fault.RunFault.TheVariants.{Read, Image, Schedule as ScheduleLine, Init, Memory, WriteTrace, WriteImage}
 use Rattle.pv_model.specs.declared.stream.Sink.{Ghosts as Writing}
 use Rattle.pv_model.specs.declared.stream.Source.{Ghosts as Reading}
-use Rattle.pv_model.specs.Bytes.{Bytes}
-use Rattle.pv_model.specs.Held.{named_tree}
-use Rattle.pv_model.specs.Start.{Started, image_started}
-use Rattle.pv_model.specs.Stream.{Rose}
-use Rattle.pv_model.specs.Tree.{Tree}
+use Rattle.pv_model.specs.Machine.{Bytes, named_tree, Started, image_started, Rose, Tree}
 use Rattle.pv_run.specs.Run.{BufferedOnlyIfCut, EitherFailsToGive, HasBegun, HasStopped, IfBoth, IsSummaryOf, IsTextOf, text_of}
 use Rattle.pv_run.specs.declared.turns.Summary.{Summary}
 use Rattle.pv_laws_runs.specs.Asked.{AsksOfImage}

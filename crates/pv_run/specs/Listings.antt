@@ -6,11 +6,7 @@ use Rattle.pv_model.specs.declared.store_fault.ListFault.{ListFault}
 use Rattle.pv_model.specs.declared.store_fault.ListFault.TheVariants.{Read, Image, Memory, Write}
 use Rattle.pv_model.specs.declared.stream.Sink.{Ghosts as Writing}
 use Rattle.pv_model.specs.declared.stream.Source.{Ghosts as Reading}
-use Rattle.pv_model.specs.Bytes.{Bytes}
-use Rattle.pv_model.specs.Listing.{listing}
-use Rattle.pv_model.specs.Mount.{mounted}
-use Rattle.pv_model.specs.Stream.{Rose}
-use Rattle.pv_model.specs.Tree.{Tree}
+use Rattle.pv_model.specs.Machine.{Bytes, listing, mounted, Rose, Tree}
 use Rattle.pv_listing.specs.declared.listing.ListStop.{ListStop}
 use Rattle.pv_listing.specs.declared.listing.ListStop.TheVariants.{Memory as NoMemory, Write as NotWritten}
 use Rattle.pv_streams.specs.Sinks.{and_all, WritesPrefix}

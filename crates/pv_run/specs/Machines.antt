@@ -2,9 +2,7 @@
 use Rattle.std.specs.Prelude.{◌≡◌, ⊤, Result, Ok}
 use Rattle.pv_model.specs.declared.run_fault.RunFault.{RunFault}
 use Rattle.pv_model.specs.declared.run_fault.RunFault.TheVariants.{Read}
-use Rattle.pv_model.specs.Bytes.{Bytes}
-use Rattle.pv_model.specs.Start.{Started, image_started}
-use Rattle.pv_model.specs.State.{State}
+use Rattle.pv_model.specs.Machine.{Bytes, Started, image_started, State}
 use Rattle.pv_laws_runs.specs.Asked.{AsksOfImage}
 use Rattle.pv_run.specs.Images.{IsImageFault}
 use Rattle.pv_run.specs.Run.{IsStartFault, RefusesStart}

@@ -6,11 +6,7 @@ use Rattle.pv_model.specs.declared.run_fault.RunFault.{RunFault}
 use Rattle.pv_model.specs.declared.run_fault.RunFault.TheVariants.{Read, Manifest, Memory, WriteImage}
 use Rattle.pv_model.specs.declared.stream.Sink.{Ghosts as Writing}
 use Rattle.pv_model.specs.declared.stream.Source.{Ghosts as Reading}
-use Rattle.pv_model.specs.Bytes.{Bytes}
-use Rattle.pv_model.specs.Grammar.Manifests.{read_manifest, tree_of}
-use Rattle.pv_model.specs.Start.{and_then}
-use Rattle.pv_model.specs.Stream.{Rose}
-use Rattle.pv_model.specs.Tree.{Tree}
+use Rattle.pv_model.specs.Machine.{Bytes, read_manifest, tree_of, and_then, Rose, Tree}
 use Rattle.pv_streams.specs.Sources.{FailsToGive}
 use Rattle.pv_image_write.specs.Written.{WritesImageOf, BeginsImageOf}
 

@@ -5,9 +5,7 @@ use Rattle.pv_model.specs.declared.store_fault.MigrateFault.{MigrateFault}
 use Rattle.pv_model.specs.declared.store_fault.MigrateFault.TheVariants.{Image, Memory}
 use Rattle.pv_model.specs.declared.stream.Sink.{Ghosts as Writing}
 use Rattle.pv_model.specs.declared.stream.Source.{Ghosts as Reading}
-use Rattle.pv_model.specs.Bytes.{Bytes}
-use Rattle.pv_model.specs.Stream.{Rose}
-use Rattle.pv_model.specs.Tree.{Tree}
+use Rattle.pv_model.specs.Machine.{Bytes, Rose, Tree}
 use Rattle.pv_image.specs.Migrated.{migrated}
 use Rattle.pv_streams.specs.Sources.{FailsToGive}
 use Rattle.pv_image_write.specs.Written.{WritesImageOf, BeginsImageOf}

@@ -5,13 +5,7 @@ use Rattle.pv_model.specs.declared.run_fault.RunFault.{RunFault}
 use Rattle.pv_model.specs.declared.run_fault.RunFault.TheVariants.{Read, Manifest, Schedule as ScheduleLine, Init, Memory, WriteTrace}
 use Rattle.pv_model.specs.declared.stream.Sink.{Ghosts as Writing}
 use Rattle.pv_model.specs.declared.stream.Source.{Ghosts as Reading}
-use Rattle.pv_model.specs.Bytes.{Bytes}
-use Rattle.pv_model.specs.Grammar.Programs.{program_of}
-use Rattle.pv_model.specs.Start.{Started, bundle_started}
-use Rattle.pv_model.specs.State.{State}
-use Rattle.pv_model.specs.Step.{Schedule, boot, steps_of}
-use Rattle.pv_model.specs.Stream.{Rose}
-use Rattle.pv_model.specs.Trace.{trace_bytes}
+use Rattle.pv_model.specs.Machine.{Bytes, program_of, Started, bundle_started, State, Schedule, boot, steps_of, Rose, trace_bytes}
 use Rattle.pv_laws_runs.specs.Asked.{AsksOfBundle}
 use Rattle.pv_session.specs.Running.{run_of}
 use Rattle.pv_session.specs.Stopping.{StopsAtExecve}

@@ -1,8 +1,7 @@
 //! Audits of images.
 ghost use Rattle.std.specs.Prelude.{◌≡◌, IfErr, OnOk, OnErr, Err, option_map};
-ghost use Rattle.pv_model.specs.Listing.{report};
+ghost use Rattle.pv_model.specs.Machine.{report, Rose};
 ghost use Rattle.pv_model.specs.Sealed.{verdict_line};
-ghost use Rattle.pv_model.specs.Stream.{Rose};
 ghost use Rattle.pv_streams.specs.Sinks.{and_all, WritesPrefix};
 ghost use Rattle.pv_run.specs.Listings.{WritesFlushed};
 ghost use Rattle.pv_run.specs.Auditing.{AppearsInState, AuditsImage, BufferedOnlyIfUnwritten, WritesAudit};

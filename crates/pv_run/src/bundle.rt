@@ -1,8 +1,6 @@
 //! Runs of bundles.
 ghost use Rattle.std.specs.Prelude.{◌≡◌, ◌≤◌, length, Some, Ok, Err, IfOk, IfErr, IfSome};
-ghost use Rattle.pv_model.specs.Grammar.Programs.{program_of};
-ghost use Rattle.pv_model.specs.Start.{bundle_started};
-ghost use Rattle.pv_model.specs.Step.{boot};
+ghost use Rattle.pv_model.specs.Machine.{program_of, bundle_started, boot};
 ghost use Rattle.pv_run.specs.Machines.{IsBundleMachineFault, RefusesMachine};
 ghost use Rattle.pv_run.specs.Run.{IsStartFault, RefusesStart, RunsBundle, RunsGiven, started_from};
 ghost use Rattle.pv_streams.specs.Sources.{FailsToGive};

@@ -1,10 +1,6 @@
 //! Runs on images.
 ghost use Rattle.std.specs.Prelude.{◌≡◌, ◌⊎◌, ◌≤◌, length, Some, Ok, Err, IfOk, IfErr, IfSome, OnOk};
-ghost use Rattle.pv_model.specs.Grammar.Programs.{program_of};
-ghost use Rattle.pv_model.specs.Mount.{mounted};
-ghost use Rattle.pv_model.specs.Start.{image_started};
-ghost use Rattle.pv_model.specs.Step.{boot};
-ghost use Rattle.pv_model.specs.Stream.{Rose};
+ghost use Rattle.pv_model.specs.Machine.{program_of, mounted, image_started, boot, Rose};
 ghost use Rattle.pv_run.specs.Images.{BeginsImage, IsImageFault, IsWriteFault, RunsGivenImage, RunsImage, WrittenImage};
 ghost use Rattle.pv_run.specs.Machines.{IsMachineFault, RefusesMachine};
 ghost use Rattle.pv_run.specs.Run.{RefusesStart, started_from};

@@ -31,6 +31,7 @@ pub use machine::machine_after;
 pub use making::make_image;
 pub use migrating::{MigrateStop, migrate_image};
 pub use pv_listing::write_verdict;
-pub use pv_session::Session;
+pub use pv_session as session_crate;
+pub use pv_session::{Session, audit};
 pub use report::{write_found, write_report};
 pub use turns::{Ready, Summary, start_on};

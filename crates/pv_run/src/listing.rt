@@ -1,5 +1,5 @@
 //! Listings of images.
-ghost use Rattle.pv_model.specs.Listing.{listing};
+ghost use Rattle.pv_model.specs.Machine.{listing};
 ghost use Rattle.pv_run.specs.Listings.{ListsGiven, ListsImage, WritesFlushed};
 
 use pv_image_mount::mount;

@@ -1,7 +1,6 @@
 //! The machine after a run on an image.
 ghost use Rattle.std.specs.Prelude.{◌≡◌, ◌⊎◌, ◌≤◌, length, Err, IfOk, IfErr, IfSome};
-ghost use Rattle.pv_model.specs.Start.{image_started};
-ghost use Rattle.pv_model.specs.Stream.{Rose};
+ghost use Rattle.pv_model.specs.Machine.{image_started, Rose};
 ghost use Rattle.pv_run.specs.Images.{IsImageFault};
 ghost use Rattle.pv_run.specs.Machines.{IsLeftBy, IsMachineFault, RefusesMachine};
 ghost use Rattle.pv_run.specs.Run.{RefusesStart};

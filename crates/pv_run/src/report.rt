@@ -1,8 +1,8 @@
 //! Reports on all files.
 ghost use Rattle.std.specs.Prelude.{◌≡◌, Some, Ok};
 ghost use Rattle.pv_listing.specs.Failing.{FailsBy};
-ghost use Rattle.pv_model.specs.Listing.{found_line, report};
-ghost use Rattle.pv_model.specs.Sealed.{audit_node};
+ghost use Rattle.pv_model.specs.Machine.{report, audit_node};
+ghost use Rattle.pv_model.specs.Listing.{found_line};
 ghost use Rattle.pv_streams.specs.Sinks.{Writes, WritesOr};
 
 use pv_listing::{ListStop, Remarks, write_lines, write_path, write_verdict};

@@ -1,11 +1,6 @@
 //! The start of a run, and the turns of its schedule.
 ghost use Rattle.std.specs.Prelude.{◌≡◌, Some, Ok, IfOk, IfErr, OnOk, OnErr};
-ghost use Rattle.pv_model.specs.Grammar.Lines.{lines_of};
-ghost use Rattle.pv_model.specs.Grammar.Programs.{program_of};
-ghost use Rattle.pv_model.specs.Start.{started_on};
-ghost use Rattle.pv_model.specs.Step.{boot};
-ghost use Rattle.pv_model.specs.Stream.{Rose};
-ghost use Rattle.pv_model.specs.Trace.{trace_bytes};
+ghost use Rattle.pv_model.specs.Machine.{lines_of, program_of, started_on, boot, Rose, trace_bytes};
 ghost use Rattle.pv_run.specs.Run.{IsFaultOnTree, IsSummaryOf, RefusesStart, StopsBy, BufferedOnlyIfCut, IsOutOfMemoryAtExecve, started_from};
 ghost use Rattle.pv_session.specs.Running.{run_of};
 ghost use Rattle.pv_streams.specs.Sinks.{WritesOr};

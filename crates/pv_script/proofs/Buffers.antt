@@ -4,7 +4,7 @@ use Rattle.std.specs.Prelude.{max, replicate}
 use Rattle.std.proofs.lemmas.List.{drop-drop, drop_all, drop-replicate, length-replicate, length-take-le, replicate-append-replicate, take-append-drop}
 use Rattle.std.proofs.lemmas.Slice.{drop-append-drop}
 use Rattle.pv_model.specs.declared.limits.TheConstants.{BUFFER}
-use Rattle.pv_model.specs.Bytes.{Bytes}
+use Rattle.pv_model.specs.Machine.{Bytes}
 use Rattle.pv_script.specs.Written.{IsZeroAfter}
 
 -- bytes that are all zero count as not written

@@ -5,10 +5,8 @@ use Rattle.std.specs.Int.{w32, saturate_signed}
 use Rattle.std.proofs.lemmas.Bool.{cases_lt, lt-ltb, le-ltb}
 use Rattle.pv_model.specs.declared.instruction.Instruction.{Instruction}
 use Rattle.pv_model.specs.declared.instruction.Instruction.TheVariants.{Set, Add, Put, Peek, JumpIfZero, JumpIfNotZero, JumpIfNegative}
-use Rattle.pv_model.specs.Answer.{at_next_line, with_front}
-use Rattle.pv_model.specs.Bytes.{Bytes}
-use Rattle.pv_model.specs.Program.{clamp, is_zero, is_negative, register, with_register, jump_if, inside, perform, next}
-use Rattle.pv_model.specs.State.{Program, Process}
+use Rattle.pv_model.specs.Machine.{at_next_line, with_front, Bytes, jump_if, inside, perform, next, Program, Process}
+use Rattle.pv_model.specs.Program.{clamp, is_zero, is_negative, register, with_register}
 use Rattle.pv_script.specs.Context.{Context, in_context, Changes, is_some_on_registers, is_inside}
 use Rattle.pv_script.specs.Passing.{Passes}
 

@@ -7,10 +7,8 @@ use Rattle.pv_model.specs.declared.fault.ParseFault.TheVariants.{Line}
 use Rattle.pv_model.specs.declared.fault.What.{What}
 use Rattle.pv_model.specs.declared.fault.What.TheVariants.{TooMany}
 use Rattle.pv_model.specs.declared.instruction.Instruction.{Instruction}
-use Rattle.pv_model.specs.Bytes.{Bytes}
-use Rattle.pv_model.specs.Grammar.Lines.{lines_of}
+use Rattle.pv_model.specs.Machine.{Bytes, lines_of, Program}
 use Rattle.pv_model.specs.Grammar.Programs.{onto_program, or_line, program_from}
-use Rattle.pv_model.specs.State.{Program}
 
 -- a line parser
 abbrev pub Reader : Type 0

@@ -4,10 +4,8 @@ use Rattle.std.proofs.lemmas.Bool.{eq-eqb, ne_eqb}
 use Rattle.std.proofs.lemmas.List.{append-nil}
 use Rattle.pv_model.specs.declared.fault.ScheduleFault.{ScheduleFault}
 use Rattle.pv_model.specs.declared.fault.ScheduleFault.TheVariants.{Line}
-use Rattle.pv_model.specs.Bytes.{Bytes}
-use Rattle.pv_model.specs.Grammar.Lines.{lines_of}
-use Rattle.pv_model.specs.Grammar.Schedules.{turn_of, onto_schedule, or_schedule_line, schedule_from, read_schedule}
-use Rattle.pv_model.specs.Step.{Schedule}
+use Rattle.pv_model.specs.Machine.{Bytes, lines_of, read_schedule, Schedule}
+use Rattle.pv_model.specs.Grammar.Schedules.{turn_of, onto_schedule, or_schedule_line, schedule_from}
 
 -- the turns that were parsed, before those that remain
 abbrev pub after_schedule : Schedule → Result Schedule ScheduleFault → Result Schedule ScheduleFault

@@ -3,10 +3,8 @@ use Rattle.std.specs.Prelude.{◌≡◌, ℕ, ◌-◌, ℤ, Bool, true, false, L
 use Rattle.pv_model.specs.declared.call_ref.CallRef.{CallRef}
 use Rattle.pv_model.specs.declared.instruction.Instruction.{Instruction}
 use Rattle.pv_model.specs.declared.instruction.Instruction.TheVariants.{Set, Add, Put, Peek, Jump, JumpIfZero, JumpIfNotZero, JumpIfNegative, Fork, Wait, GetPid, GetPpid, Exit, Close, Dup, Fstat, Getdents, Fchdir, Dup2, Read, Write, Ftruncate, Lseek}
-use Rattle.pv_model.specs.Bytes.{Bytes}
-use Rattle.pv_model.specs.CallRef.{call_of}
-use Rattle.pv_model.specs.Program.{calls_for, next}
-use Rattle.pv_model.specs.State.{Program, Process, no_registers, no_bytes}
+use Rattle.pv_model.specs.Machine.{Bytes, call_of, calls_for, next, Program, Process}
+use Rattle.pv_model.specs.State.{no_registers, no_bytes}
 
 pub record Context : Type 0 where
   pub line : ℕ

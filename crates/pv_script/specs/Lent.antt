@@ -1,7 +1,7 @@
 -- The effect of lending the buffer of a context for writing.
 use Rattle.std.specs.Prelude.{◌++◌, length, take, drop}
 use Rattle.std.specs.Borrow.{Array, Lends, MutBor, Fml, u8}
-use Rattle.pv_model.specs.Bytes.{Bytes}
+use Rattle.pv_model.specs.Machine.{Bytes}
 use Rattle.pv_script.specs.contracts.buffer.Buffer.{the_row as buffer_row}
 use Rattle.pv_script.specs.contracts.context.Context.{the_row}
 use Rattle.pv_script.specs.Context.{Context}

@@ -1,7 +1,6 @@
 -- Sequences of instructions on registers and jumps.
 use Rattle.std.specs.Prelude.{◌≡◌, ℕ, zero, suc}
-use Rattle.pv_model.specs.Program.{inside, next}
-use Rattle.pv_model.specs.State.{Process}
+use Rattle.pv_model.specs.Machine.{inside, next, Process}
 
 -- n such instructions lead from one process to another
 abbrev pub Passes : ℕ → Process → Process → Type 0

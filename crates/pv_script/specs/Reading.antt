@@ -4,8 +4,7 @@ use Rattle.pv_model.specs.declared.fault.ParseFault.{ParseFault}
 use Rattle.pv_model.specs.declared.fault.ParseFault.TheVariants.{Line as ParseLine, Memory as ParseMemory}
 use Rattle.pv_model.specs.declared.fault.ScheduleFault.{ScheduleFault}
 use Rattle.pv_model.specs.declared.fault.ScheduleFault.TheVariants.{Line as ScheduleLine, Memory as ScheduleMemory}
-use Rattle.pv_model.specs.State.{Program}
-use Rattle.pv_model.specs.Step.{Schedule}
+use Rattle.pv_model.specs.Machine.{Program, Schedule}
 
 -- the error agrees with the grammar's result; out of memory agrees with every result
 abbrev pub RefusesProgram : ParseFault → Result Program ParseFault → Type 0

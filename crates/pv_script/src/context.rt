@@ -3,11 +3,8 @@ ghost use Rattle.std.specs.Prelude.{◌≡◌, ◌-◌, ◌<◌, ◌≤◌, ◌+
 ghost use Rattle.std.specs.Option.{IfNone, option_copied, is_some};
 ghost use Rattle.std.specs.Borrow.{sem};
 ghost use Rattle.pv_model.specs.declared.limits.TheConstants.{BUFFER};
-ghost use Rattle.pv_model.specs.Answer.{at_next_line, with_front};
-ghost use Rattle.pv_model.specs.CallRef.{call_of};
-ghost use Rattle.pv_model.specs.Calls.Processes.{with_result};
-ghost use Rattle.pv_model.specs.Program.{operand, clamp, is_zero, is_negative, register, start_of_origin, with_register, jump_if, inside, calls_for, perform, next};
-ghost use Rattle.pv_model.specs.State.{Process, Program as Instructions};
+ghost use Rattle.pv_model.specs.Machine.{at_next_line, with_front, call_of, with_result, jump_if, inside, calls_for, perform, next, Process, Program as Instructions};
+ghost use Rattle.pv_model.specs.Program.{operand, clamp, is_zero, is_negative, register, start_of_origin, with_register};
 
 use crate::buffer::Buffer;
 use crate::{CallTexts, Program};

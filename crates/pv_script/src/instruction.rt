@@ -3,8 +3,9 @@ ghost use Rattle.std.specs.Prelude.{◌≡◌, ℕ, Some, Result, Ok, Err, Match
 ghost use Rattle.pv_model.specs.declared.fault.What.TheVariants.{Argument};
 ghost use Rattle.pv_model.specs.declared.instruction.Instruction.{Instruction};
 ghost use Rattle.pv_model.specs.declared.instruction.Instruction.TheVariants.{JumpIfZero as JumpIfZeroLine, JumpIfNotZero as JumpIfNotZeroLine, JumpIfNegative as JumpIfNegativeLine};
-ghost use Rattle.pv_model.specs.Grammar.Arguments.{number_at, register_at, no_argument, one_argument, two_arguments};
-ghost use Rattle.pv_model.specs.Grammar.Instructions.{or_argument, line_within, peek_by, jump_by, jump_if_by, on_registers, on_processes, on_descriptors, on_paths, instruction_by, instruction_of};
+ghost use Rattle.pv_model.specs.Machine.{one_argument, two_arguments, instruction_of};
+ghost use Rattle.pv_model.specs.Grammar.Arguments.{number_at, register_at, no_argument};
+ghost use Rattle.pv_model.specs.Grammar.Instructions.{or_argument, line_within, peek_by, jump_by, jump_if_by, on_registers, on_processes, on_descriptors, on_paths, instruction_by};
 
 use pv_model::limits::BUFFER;
 use pv_model::{Instruction, Register, What};

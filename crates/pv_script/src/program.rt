@@ -1,7 +1,7 @@
 //! Programs.
 ghost use Rattle.std.specs.Prelude.{◌≡◌, ◌-◌, ◌≤◌, ◌↔◌, [], length, slice_get, vec_len, IsTrue, IfOk};
 ghost use Rattle.std.specs.Option.{option_copied};
-ghost use Rattle.pv_model.specs.Grammar.Programs.{read_program};
+ghost use Rattle.pv_model.specs.Machine.{read_program};
 ghost use Rattle.pv_script.specs.Reading.{GivesProgram};
 
 use crate::instruction::instruction;

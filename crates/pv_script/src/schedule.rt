@@ -1,8 +1,8 @@
 //! Schedules: sequences of turns, each with a process and its number of steps.
 ghost use Rattle.std.specs.Prelude.{◌≡◌, ◌<◌, ◌≤◌, ◌↔◌, [], length, slice_get, IsTrue, Some};
 ghost use Rattle.pv_model.specs.declared.limits.TheConstants.{SCHEDULE_LINES};
-ghost use Rattle.pv_model.specs.Grammar.Arguments.{word_at, one_argument};
-ghost use Rattle.pv_model.specs.Grammar.Schedules.{count_of, turn_of, read_schedule};
+ghost use Rattle.pv_model.specs.Machine.{word_at, one_argument, read_schedule};
+ghost use Rattle.pv_model.specs.Grammar.Schedules.{count_of, turn_of};
 ghost use Rattle.pv_script.specs.Reading.{GivesSchedule};
 ghost use Rattle.pv_text.specs.Reading.{Reads};
 

@@ -8,17 +8,12 @@ use Rattle.pv_model.specs.declared.verdict.AuditFault.{AuditFault}
 use Rattle.pv_model.specs.declared.verdict.AuditFault.TheVariants.{NotFile}
 use Rattle.pv_model.specs.declared.verdict.Verdict.{Verdict}
 use Rattle.pv_model.specs.declared.verdict.Verdict.TheVariants.{Sealed as SealedVerdict, Frozen, Exposed}
-use Rattle.pv_model.specs.Bytes.{Bytes}
-use Rattle.pv_model.specs.Effect.{node_of}
-use Rattle.pv_model.specs.Grammar.Programs.{program_of}
+use Rattle.pv_model.specs.Machine.{Bytes, node_of, program_of, State, root, node_at, resolve}
 use Rattle.pv_model.specs.Sealed
-use Rattle.pv_model.specs.State.{State}
-use Rattle.pv_model.specs.Tree.{root, node_at}
-use Rattle.pv_model.specs.Walk.{resolve}
 use Rattle.pv_laws_states.specs.States.{IsValid}
-use Rattle.pv_laws_access.proofs.Verdicts.{verdicts-exact}
-use Rattle.pv_laws_runs.proofs.Ranges.{program_of-encodes}
-use Rattle.pv_laws_access.proofs.ForEver.{sealed-for_ever, frozen-for_ever}
+use Rattle.pv_calls.proofs.OfLawsAccess.Verdicts.{verdicts-exact}
+use Rattle.pv_calls.proofs.OfLawsRuns.Ranges.{program_of-encodes}
+use Rattle.pv_calls.proofs.OfLawsAccess.SealedRuns.{sealed-for_ever, frozen-for_ever}
 use Rattle.pv_session.specs.Audits.{node_there, node_named, IsSecret, IsUnchanging, KeepsSecret, KeepsSecretAt}
 
 module _ (s : State) (whole : IsValid s) where

@@ -9,3 +9,6 @@ pub mod Stepping
 pub mod Stopped
 pub mod Turns
 pub mod Writes
+pub use Rattle.pv_calls.proofs.OfCallsPath
+pub use Rattle.pv_calls.proofs.OfLawsAccess
+pub use Rattle.pv_calls.proofs.OfLawsRuns

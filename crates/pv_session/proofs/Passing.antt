@@ -1,11 +1,9 @@
 -- Several steps inside a process, as a run.
 use Rattle.std.proofs.Common.{◌≡◌, ◌∙◌, ℕ, zero, suc, [], ap, sym, add-one, Some}
 use Rattle.pv_laws_states.proofs.Processes.{process_at-same, with_process-twice}
-use Rattle.pv_model.specs.Program.{inside, next}
-use Rattle.pv_model.specs.State.{Process, State, process_at, with_process}
-use Rattle.pv_model.specs.Step.{Run, Stepped}
-use Rattle.pv_calls_state.specs.Changes.{PassesInside}
-use Rattle.pv_script.specs.Passing.{Passes}
+use Rattle.pv_model.specs.Machine.{inside, next, Process, State, process_at, with_process, Run, Stepped}
+use Rattle.pv_calls.specs.OfCallsState.Changes.{PassesInside}
+use Rattle.pv_calls.specs.OfScript.Passing.{Passes}
 use Rattle.pv_session.specs.Running.{turn}
 use Rattle.pv_session.proofs.Stepping.{step-inside}
 use Rattle.pv_session.proofs.Turns.{following, one_step, single, turn_more}

@@ -4,10 +4,9 @@ use Rattle.std.specs.Prelude.{IfOk, OnOk}
 use Rattle.pv_laws_states.specs.States.{IsValid}
 use Rattle.pv_model.specs.declared.kernel_fault.StepFault.{StepFault}
 use Rattle.pv_model.specs.declared.outcome.Outcome.{Outcome}
-use Rattle.pv_model.specs.Grammar.Programs.{program_of}
-use Rattle.pv_model.specs.State.{State}
-use Rattle.pv_laws_access.proofs.Ends.{whole-in_order}
-use Rattle.pv_laws_access.proofs.Images.{child-same, grows-never, others-keep}
+use Rattle.pv_model.specs.Machine.{program_of, State}
+use Rattle.pv_calls.proofs.OfLawsAccess.Ends.{whole-in_order}
+use Rattle.pv_calls.proofs.OfLawsAccess.ProgramImages.{child-same, grows-never, others-keep}
 use Rattle.pv_session.specs.Restraints.{ChildBeginsAlike, GainsNothing, LeavesOthers}
 use Rattle.pv_session.specs.Running.{stepped}
 

@@ -1,20 +1,15 @@
 -- A step of the machine, by the fetched instruction and the answer.
 use Rattle.std.proofs.Common.{◌≡◌, ◌∙◌, ℕ, ℤ, List, [], ap, sym, refl, Option, None, Some, Result, Ok, Err}
 use Rattle.std.specs.Prelude.{IfOk, OnOk}
-use Rattle.pv_calls_state.specs.Changes.{StepsInside}
+use Rattle.pv_calls.specs.OfCallsState.Changes.{StepsInside}
 use Rattle.pv_calls.specs.Kernel.{Running}
 use Rattle.pv_model.specs.declared.kernel_fault.StepFault.{StepFault}
 use Rattle.pv_model.specs.declared.call.Call.{Call}
 use Rattle.pv_model.specs.declared.call.Call.TheVariants.{Write}
 use Rattle.pv_model.specs.declared.outcome.Outcome.{Outcome}
 use Rattle.pv_model.specs.declared.outcome.Outcome.TheVariants.{Value, Text, Failed, Killed, Exited, Blocked, Gone}
-use Rattle.pv_model.specs.Answer.{Answered, answer}
-use Rattle.pv_model.specs.Grammar.Programs.{program_of}
-use Rattle.pv_model.specs.Program.{inside, calls_for, next}
-use Rattle.pv_model.specs.State.{Process, State, process_at, with_process}
-use Rattle.pv_model.specs.Step.{Stepped, step, step_of, step_by}
-use Rattle.pv_model.specs.Trace.{Line, buffer_of, call_lines, gone_lines, moved_words}
-use Rattle.pv_model.specs.Bytes.{Bytes}
+use Rattle.pv_model.specs.Machine.{Answered, answer, program_of, inside, calls_for, next, Process, State, process_at, with_process, Stepped, step, step_of, step_by, Line, buffer_of, call_lines, moved_words, Bytes}
+use Rattle.pv_model.specs.Trace.{gone_lines}
 use Rattle.std.proofs.lemmas.List.{append-nil}
 use Rattle.pv_session.specs.Running.{BeginsLines, WrittenLines, stepped}
 use Rattle.pv_session.proofs.Writes.{write-keeps}

@@ -7,10 +7,7 @@ use Rattle.pv_calls.specs.Loading.{LoadsProgram}
 use Rattle.pv_model.specs.declared.call.Call.{Call}
 use Rattle.pv_model.specs.declared.kernel_fault.StepFault.{StepFault}
 use Rattle.pv_model.specs.declared.outcome.Outcome.{Outcome}
-use Rattle.pv_model.specs.Bytes.{Bytes}
-use Rattle.pv_model.specs.Grammar.Programs.{program_of}
-use Rattle.pv_model.specs.State.{State}
-use Rattle.pv_model.specs.Step.{Run, Schedule, run, steps_of}
+use Rattle.pv_model.specs.Machine.{Bytes, program_of, State, Run, Schedule, run, steps_of}
 use Rattle.pv_model.proofs.Runs.{run-append}
 use Rattle.pv_session.specs.declared.session.Stop.{Stop}
 use Rattle.pv_session.specs.declared.session.Stop.TheVariants.{Memory, Write}

@@ -3,11 +3,8 @@ use Rattle.std.proofs.Common.{◌≡◌, ◌<◌, ◌≤◌, ◌+◌, ◌-◌, �
 use Rattle.std.specs.Prelude.{replicate}
 use Rattle.std.proofs.lemmas.List.{take_more, take-append-drop, append-nil, replicate-append-replicate}
 use Rattle.std.proofs.lemmas.Grind.{flat_map-append}
-use Rattle.pv_model.specs.Bytes.{Bytes}
-use Rattle.pv_model.specs.Grammar.Programs.{program_of}
-use Rattle.pv_model.specs.State.{State}
-use Rattle.pv_model.specs.Step.{Run, Schedule, run, steps_of}
-use Rattle.pv_model.specs.Trace.{line_bytes, trace_bytes}
+use Rattle.pv_model.specs.Machine.{Bytes, program_of, State, Run, Schedule, run, steps_of, trace_bytes}
+use Rattle.pv_model.specs.Trace.{line_bytes}
 use Rattle.pv_model.proofs.Runs.{run-append}
 use Rattle.pv_streams.specs.Sinks.{and_all, WritesPrefix}
 use Rattle.pv_streams.proofs.Reporting.{written_both, begins_first, begins_then}

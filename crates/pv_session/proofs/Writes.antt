@@ -4,14 +4,7 @@ use Rattle.pv_model.specs.declared.call.Call.TheVariants.{Write}
 use Rattle.pv_model.specs.declared.errno.Errno.TheVariants.{EBADF, EINVAL, EFBIG}
 use Rattle.pv_model.specs.declared.outcome.Outcome.TheVariants.{Value}
 use Rattle.pv_model.specs.declared.limits.TheConstants.{BUFFER}
-use Rattle.pv_model.specs.Answer.{Answered, answer, answer_by_attempt, at_next_line, effect, update}
-use Rattle.pv_model.specs.Attempt.{Attempt, done, refused}
-use Rattle.pv_model.specs.Bytes.{Bytes}
-use Rattle.pv_model.specs.Calls.Descriptors.{open_file_for, within, write, write_end, after_write, is_past_greatest}
-use Rattle.pv_model.specs.Calls.Processes.{with_result}
-use Rattle.pv_model.specs.Effect.{Effect, answers, returns, returns_bytes, ends, waits}
-use Rattle.pv_model.specs.State.{OpenFile, Program, Process, State, writes, process_at, with_process}
-use Rattle.pv_model.specs.Trace.{buffer_of}
+use Rattle.pv_model.specs.Machine.{Answered, answer, answer_by_attempt, at_next_line, effect, update, Attempt, done, refused, Bytes, open_file_for, within, write, write_end, after_write, is_past_greatest, with_result, Effect, answers, returns, returns_bytes, ends, waits, OpenFile, Program, Process, State, writes, process_at, with_process, buffer_of}
 use Rattle.pv_laws_states.proofs.Attempts.{Leads, leads-demand, leads-refuse_if, leads-room}
 use Rattle.pv_laws_states.proofs.Outcomes.{at_call, by_answer}
 use Rattle.pv_laws_states.proofs.Processes.{process_at-same, update-is}

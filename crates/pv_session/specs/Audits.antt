@@ -6,15 +6,8 @@ use Rattle.pv_model.specs.declared.place.Place.{Place}
 use Rattle.pv_model.specs.declared.verdict.AuditFault.{AuditFault}
 use Rattle.pv_model.specs.declared.verdict.Verdict.{Verdict}
 use Rattle.pv_model.specs.declared.verdict.Verdict.TheVariants.{Sealed, Frozen, Exposed}
-use Rattle.pv_model.specs.Bytes.{Bytes}
-use Rattle.pv_model.specs.Effect.{node_of}
-use Rattle.pv_model.specs.Grammar.Programs.{program_of}
-use Rattle.pv_model.specs.State.{State}
-use Rattle.pv_model.specs.Step.{run}
-use Rattle.pv_model.specs.Touch.{file_bytes}
-use Rattle.pv_model.specs.Tree.{root}
-use Rattle.pv_model.specs.Walk.{resolve}
-use Rattle.pv_laws_access.specs.Sealing.{IsLeftFrozen, WritesNothing}
+use Rattle.pv_model.specs.Machine.{Bytes, node_of, program_of, State, run, file_bytes, root, resolve}
+use Rattle.pv_calls.specs.OfLawsAccess.Sealing.{IsLeftFrozen, WritesNothing}
 
 abbrev pub node_there : Result Place Errno → Option ℕ
 node_there (Ok place) = node_of place

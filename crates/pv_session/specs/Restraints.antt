@@ -3,9 +3,8 @@ use Rattle.std.specs.Prelude.{◌≡◌, ◌≢◌, ℕ, IsFalse, Some}
 use Rattle.pv_model.specs.declared.call.Call.TheVariants.{Fork}
 use Rattle.pv_model.specs.declared.outcome.Outcome.{Outcome}
 use Rattle.pv_model.specs.declared.outcome.Outcome.TheVariants.{Value}
-use Rattle.pv_model.specs.Program.{calls_for, next}
-use Rattle.pv_model.specs.State.{Process, State, process_at}
-use Rattle.pv_laws_access.specs.Growth.{HasTheSame, IsLeftAlone, MayDoNoMore, begins_image}
+use Rattle.pv_model.specs.Machine.{calls_for, next, Process, State, process_at}
+use Rattle.pv_calls.specs.OfLawsAccess.Growth.{HasTheSame, IsLeftAlone, MayDoNoMore, begins_image}
 
 module _ (before : State) (pid : ℕ) (outcome : Outcome) (after : State) where
   -- within one program image, a process that stays live and whose step is not a successful execve gains no right

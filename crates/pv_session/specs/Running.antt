@@ -1,11 +1,6 @@
 -- The state after a step and a run of the machine, and the lines that they write.
 use Rattle.std.specs.Prelude.{◌≡◌, ℕ, List, take, replicate, Option}
-use Rattle.pv_model.specs.Bytes.{Bytes}
-use Rattle.pv_model.specs.Grammar.Programs.{program_of}
-use Rattle.pv_model.specs.State.{State}
-use Rattle.pv_model.specs.Step.{Run, Schedule, Stepped, run, step, steps_of}
-use Rattle.pv_model.specs.Trace.{Line, trace_bytes}
-use Rattle.pv_model.specs.Stream.{Rose}
+use Rattle.pv_model.specs.Machine.{Bytes, program_of, State, Run, Schedule, Stepped, run, step, steps_of, Line, trace_bytes, Rose}
 use Rattle.pv_session.specs.declared.session.Stop.{Stop}
 use Rattle.pv_session.specs.declared.session.Stop.TheVariants.{Memory, Write}
 use Rattle.pv_streams.specs.Sinks.{and_all, WritesPrefix}

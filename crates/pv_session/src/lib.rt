@@ -11,5 +11,6 @@
 mod running;
 mod session;
 
+pub use pv_calls::{audit, calls_path, calls_plain};
 pub use running::{pass_schedule, run_schedule, step_count};
 pub use session::{Session, Stop};

@@ -1,8 +1,7 @@
 //! Runs of schedules, with or without a trace.
 ghost use Rattle.std.specs.Prelude.{◌≡◌, ◌*◌, ◌≤◌, length, replicate, IfOk, IfErr, OnOk, OnErr};
 ghost use Rattle.pv_model.specs.declared.limits.TheConstants.{SCHEDULE_LINES};
-ghost use Rattle.pv_model.specs.Step.{steps_of};
-ghost use Rattle.pv_model.specs.Trace.{trace_bytes};
+ghost use Rattle.pv_model.specs.Machine.{steps_of, trace_bytes};
 ghost use Rattle.pv_session.specs.Stopping.{StopsOn, StopsUnread};
 ghost use Rattle.pv_session.specs.Running.{FailsBy, turn, run_of};
 ghost use Rattle.pv_streams.specs.Sinks.{WritesOr};

@@ -1,20 +1,15 @@
 //! The machine, step by step.
 ghost use Rattle.std.specs.Prelude.{◌≡◌, ◌⊎◌, ◌<◌, ◌≤◌, ◌∷◌, IfOk, IfErr, IsTrue, OnOk, OnErr, Ok, Err, Some, [], length};
 ghost use Rattle.pv_laws_states.specs.States.{IsFirstTree, IsValid, is_call};
-ghost use Rattle.pv_model.specs.CallRef.{call_of};
+ghost use Rattle.pv_model.specs.Machine.{call_of, program_of, audit_node as audit_of, booted, process_at, buffer_of, trace_bytes, answer};
 ghost use Rattle.pv_model.specs.declared.limits.TheConstants.{BUFFER};
-ghost use Rattle.pv_model.specs.Grammar.Programs.{program_of};
-ghost use Rattle.pv_model.specs.Sealed.{audit as audit_by_definition, audit_node as audit_of};
-ghost use Rattle.pv_model.specs.Start.{booted};
-ghost use Rattle.pv_model.specs.State.{process_at};
+ghost use Rattle.pv_model.specs.Sealed.{audit as audit_by_definition};
 ghost use Rattle.pv_model.specs.Touch.{IsJustified};
-ghost use Rattle.pv_model.specs.Trace.{buffer_of, trace_bytes};
 ghost use Rattle.pv_calls.specs.Kernel.{IsCallable};
-ghost use Rattle.pv_calls_plain.specs.Performed.{answered};
-ghost use Rattle.pv_model.specs.Answer.{answer};
-ghost use Rattle.pv_calls_state.specs.Changes.{StepsInside};
-ghost use Rattle.pv_procs.specs.Turns.{AwaitsCall, CallsNext, IsFetched, RegisterNext};
-ghost use Rattle.pv_tree.specs.Sizes.{HaveSameSizes};
+ghost use Rattle.pv_calls.specs.OfCallsPlain.Performed.{answered};
+ghost use Rattle.pv_calls.specs.OfCallsState.Changes.{StepsInside};
+ghost use Rattle.pv_calls.specs.OfProcs.Turns.{AwaitsCall, CallsNext, IsFetched, RegisterNext};
+ghost use Rattle.pv_calls.specs.OfTree.Sizes.{HaveSameSizes};
 ghost use Rattle.pv_session.specs.Audits.{KeepsSecret, KeepsSecretAt};
 ghost use Rattle.pv_session.specs.Restraints.{ChildBeginsAlike, GainsNothing, LeavesOthers};
 ghost use Rattle.pv_session.specs.declared.session.Stop.TheVariants.{Memory, Write};
@@ -22,22 +17,22 @@ ghost use Rattle.pv_session.specs.Stopping.{NextLoads, StopsOn};
 ghost use Rattle.pv_session.specs.Running.{FailsBy, stepped, turn};
 ghost use Rattle.pv_streams.specs.Sinks.{WritesOr};
 
-use pv_audit::{audit, audit_node};
 use pv_calls::Kernel;
-use pv_calls_plain::answer::Answer;
-use pv_calls_state::Parts;
+use pv_calls::audit::{audit, audit_node};
+use pv_calls::calls_plain::answer::Answer;
+use pv_calls::calls_state::Parts;
+use pv_calls::namei::CachedLookup;
+use pv_calls::procs::Fetched;
+use pv_calls::script::CallTexts;
+use pv_calls::tree::{Store, Tree};
 use pv_model::{AuditFault, BootFault, CallRef, Outcome, StepFault, Verdict};
-use pv_namei::CachedLookup;
-use pv_procs::Fetched;
-use pv_script::CallTexts;
 use pv_streams::{Failed, Sink};
 use pv_trace::{LineBuffer, write_call_lines, write_gone_line};
-use pv_tree::{Store, Tree};
 use std::alloc::{AllocError, Global};
 use std::marker::Model;
 
 /// The reason why a run stops before its end.
-#[derive(Clone, Copy, Debug, PartialEq, Eq)]
+#[derive(Clone, Copy)]
 pub enum Stop {
     /// There is no memory for a step. The step was not made.
     Memory,

@@ -3,15 +3,11 @@ use Rattle.std.proofs.Common.{◌≡◌, ◌≢◌, ◌∙◌, ap, ℕ, ◌+◌,
 use Rattle.std.specs.List.{cons_option}
 use Rattle.std.specs.Prelude.{drop, map}
 use Rattle.std.proofs.lemmas.List.{append-nil, map-append}
-use Rattle.pv_model.specs.Answers.Lines.{counted_from, spaced}
-use Rattle.pv_model.specs.Bytes.{Bytes}
-use Rattle.pv_model.specs.Grammar.Lines.{lines_of}
-use Rattle.pv_model.specs.Grammar.Texts.{ended}
-use Rattle.pv_model.specs.Source.Blocks.{Block, single, program, taken, cut_off, schedule}
+use Rattle.pv_model.specs.Machine.{counted_from, spaced, Bytes, lines_of, ended, Block, single, taken, LabelledLine, program_line_of, program_lines, taken_lines, instructions_of, instruction_text, NumberedLine, between, words_from, written_lines}
+use Rattle.pv_model.specs.Source.Blocks.{program, cut_off, schedule}
 use Rattle.pv_model.specs.Source.Judged.{exec_path, is_exec_block}
-use Rattle.pv_model.specs.Source.Programs.{LabelledLine, ProgramLine, program_line_of, program_lines, taken_lines, instructions_of, count_instruction, count_words, instruction_text, without_labels}
-use Rattle.pv_model.specs.Source.Words.{NumberedLine, between, words_from}
-use Rattle.pv_model.specs.Source.Written.{bytes_of_lines, written_lines}
+use Rattle.pv_model.specs.Source.Programs.{ProgramLine, count_instruction, count_words, without_labels}
+use Rattle.pv_model.specs.Source.Written.{bytes_of_lines}
 use Rattle.pv_source.specs.declared.blocks.Block.{Block as ReadBlock}
 use Rattle.pv_source.specs.declared.blocks.Kind.{Kind}
 use Rattle.pv_source.specs.declared.blocks.Kind.TheVariants.{Single, Program, Taken, CutOff, Schedule}

@@ -2,19 +2,14 @@
 use Rattle.std.proofs.Common.{◌≡◌, ◌≢◌, ◌∙◌, Ok, Err, ap, ℕ, suc, ◌+◌, ◌≤◌, Bool, true, false, List, [], ◌∷◌, ◌++◌, length, take, refl, sym, arith, append_assoc}
 use Rattle.std.specs.Prelude.{map, IsTrue, ◌↔◌}
 use Rattle.std.proofs.lemmas.List.{append-nil, length-map, map_push, take_all, take-append-le}
-use Rattle.pv_model.specs.Bytes.{Bytes}
-use Rattle.pv_model.specs.Grammar.Lines.{lines_of}
+use Rattle.pv_model.specs.Machine.{Bytes, lines_of, Block, blocks_of, faults_of_blocks, read_source, between, words_from, text_of_blocks, reported_if}
 use Rattle.pv_source.specs.declared.blocks.Block.{Block as ReadBlock}
 use Rattle.pv_source.specs.declared.blocks.Kind.{Kind}
 use Rattle.pv_source.specs.declared.blocks.Kind.TheVariants.{Single, Program, Taken, CutOff, Schedule}
 use Rattle.pv_source.specs.Outcome.{reported_of as reported_of_fault}
 use Rattle.pv_source.specs.Reading.{numbered_text}
 use Rattle.pv_source.specs.ReadBlocks.{block_by, block_of}
-use Rattle.pv_model.specs.Source.Blocks.{Block, blocks_of}
-use Rattle.pv_model.specs.Source.Judged.{REPORTED, TreeSoFar, Judgement, number_of, faults_in, reported_of, judged_first, faults_from, faults_of_blocks, or_faults, read_source}
-use Rattle.pv_model.specs.Source.Words.{between, words_from}
-use Rattle.pv_model.specs.Source.Written.{text_of_blocks}
-use Rattle.pv_model.specs.Source.Programs.{reported_if}
+use Rattle.pv_model.specs.Source.Judged.{REPORTED, TreeSoFar, Judgement, number_of, faults_in, reported_of, judged_first, faults_from, or_faults}
 use Rattle.pv_source.specs.declared.faults.Fault.{Fault}
 use Rattle.pv_source.specs.Reporting.{Reports, line_of}
 

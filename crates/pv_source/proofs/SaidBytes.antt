@@ -3,7 +3,7 @@ use Rattle.std.proofs.Common.{◌≡◌, ◌∙◌, ap, ℕ, ◌<◌, true, [], 
 use Rattle.std.specs.Prelude.{◌&&◌}
 use Rattle.std.proofs.lemmas.Bool.Decides.{nat_tests}
 use Rattle.std.proofs.lemmas.List.Folds.{list_all-append}
-use Rattle.pv_model.specs.Bytes.{Bytes}
+use Rattle.pv_model.specs.Machine.{Bytes}
 use Rattle.pv_model.specs.Trace.{hex_digit}
 use Rattle.pv_source.specs.Saying.{is_printable, IsPrintable}
 

@@ -2,15 +2,13 @@
 use Rattle.std.proofs.Common.{◌≡◌, ◌∙◌, ap, ℕ, zero, suc, ◌+◌, ◌<◌, true, false, List, [], ◌∷◌, length, drop, Option, None, Some, refl, sym, inl, inr, min, arith}
 use Rattle.std.specs.Prelude.{codes, bytes_eq, nat_le, option_map}
 use Rattle.std.proofs.lemmas.Bool.{cases_lt, le-leb, lt-leb}
-use Rattle.pv_model.specs.Bytes.{Bytes}
-use Rattle.pv_model.specs.Grammar.Lines.{lines_of}
+use Rattle.pv_model.specs.Machine.{Bytes, lines_of, Block, single, taken, blocks_from, NumberedLine, NumberedWords, words_of}
 use Rattle.pv_text.specs.Reading.{up_to_greatest}
 use Rattle.pv_source.specs.declared.blocks.Block.{Block as ReadBlock}
 use Rattle.pv_source.specs.declared.lines.Lines.{Lines}
 use Rattle.pv_source.specs.Reading.{BeginsWith, numbered_text, numbered, if_words, first_that_counts, Ends, Takes}
 use Rattle.pv_source.specs.ReadBlocks.{block_of, Reads}
-use Rattle.pv_model.specs.Source.Blocks.{Block, single, program, taken, schedule, lines_up_to, exec_by, exec_block, or_cut_off, blocks_at, blocks_from}
-use Rattle.pv_model.specs.Source.Words.{NumberedLine, NumberedWords, words_of}
+use Rattle.pv_model.specs.Source.Blocks.{program, schedule, lines_up_to, exec_by, exec_block, or_cut_off, blocks_at}
 use Rattle.pv_source.proofs.SourceLines.{length-counted}
 
 -- lines that belong to the previous block are skipped

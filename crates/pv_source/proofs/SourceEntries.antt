@@ -3,18 +3,14 @@ use Rattle.std.proofs.Common.{◌≡◌, ◌∙◌, ap, ℕ, ◌+◌, ◌<◌, �
 use Rattle.std.proofs.lemmas.Bool.{le-leb, lt-leb}
 use Rattle.std.specs.Prelude.{nat_le, option_map}
 use Rattle.pv_image_manifest.specs.Reading.{held_sizes}
-use Rattle.pv_model.specs.Answers.Lines.{spaced}
-use Rattle.pv_model.specs.Bytes.{Bytes}
-use Rattle.pv_model.specs.Grammar.Lines.{lines_of}
-use Rattle.pv_model.specs.Grammar.Manifests.{Taking, entry_of}
+use Rattle.pv_model.specs.Machine.{spaced, Bytes, lines_of, entry_of, single, between, words_from}
+use Rattle.pv_model.specs.Grammar.Manifests.{Taking}
 use Rattle.pv_source.specs.declared.blocks.Block.{Block as ReadBlock}
 use Rattle.pv_source.specs.declared.blocks.Kind.TheVariants.{Taken}
 use Rattle.pv_source.specs.Reading.{numbered_text}
 use Rattle.pv_source.specs.ReadBlocks.{block_by, block_of}
 use Rattle.pv_source.specs.ReadEntries.{numbered_entry}
-use Rattle.pv_model.specs.Source.Blocks.{single}
 use Rattle.pv_model.specs.Source.Judged.{exec_path, executable, entry_of_block}
-use Rattle.pv_model.specs.Source.Words.{between, words_from}
 use Rattle.pv_source.proofs.SourceLines.{length-counted}
 use Rattle.pv_source.proofs.WrittenTexts.{bytes_counted}
 

@@ -3,13 +3,11 @@ use Rattle.std.proofs.Common.{◌≡◌, ◌≢◌, ◌∙◌, ap, ℕ, suc, ◌
 use Rattle.std.specs.Prelude.{option_map}
 use Rattle.std.proofs.Math.Seq.{take-append_seam, drop-append-add}
 use Rattle.std.proofs.lemmas.List.{append-nil, length-append, append_cancel_right}
-use Rattle.pv_model.specs.Answers.Lines.{counted_from}
-use Rattle.pv_model.specs.Bytes.{Bytes, onto_first}
-use Rattle.pv_model.specs.Grammar.Lines.{lines_of}
+use Rattle.pv_model.specs.Machine.{counted_from, Bytes, onto_first, lines_of, NumberedLine, words_of}
 use Rattle.pv_source.specs.declared.lines.Lines.{Lines}
 use Rattle.pv_source.specs.Reading.{numbered_text, if_words, first_that_counts, Ends, Takes}
 use Rattle.pv_model.specs.Source.Blocks.{lines_up_to}
-use Rattle.pv_model.specs.Source.Words.{NumberedLine, words_of, is_alone}
+use Rattle.pv_model.specs.Source.Words.{is_alone}
 use Rattle.pv_text.specs.Lines.{IsSplit}
 
 -- ---- lines with words

@@ -3,17 +3,14 @@ use Rattle.std.proofs.Common.{◌≡◌, ◌≢◌, ◌∙◌, ap, ℕ, suc, ◌
 use Rattle.std.specs.List.{cons_option}
 use Rattle.std.specs.Prelude.{◌||◌, MatchBool, bytes_eq, not, map}
 use Rattle.std.proofs.lemmas.List.{append-nil}
-use Rattle.pv_model.specs.Bytes.{Bytes, is_empty}
+use Rattle.pv_model.specs.Machine.{Bytes, is_empty, LabelledLine, labelled_lines, labels_from, instruction_text, program_line_of, taken_lines, instructions_of, reported_if, invalid_lines, program_faults, spaced, counted_from, lines_of, NumberedLine, NumberedWords, words_of, lines_that_count}
 use Rattle.pv_source.specs.declared.programs.Label.{Label}
 use Rattle.pv_source.specs.Reading.{numbered_text, if_words, first_that_counts}
 use Rattle.pv_source.specs.ReadPrograms.{label_value}
-use Rattle.pv_model.specs.Source.Programs.{LabelledLine, labelled_words, or_exit, with_exit, labelled_lines, count_words, onto_labels, labels_from, number_of_label, without_labels, instruction_text, program_line_of, taken_lines, instructions_of, is_set_in, and_label, count_instruction, is_invalid, reported_if, invalid_lines, program_faults}
+use Rattle.pv_model.specs.Source.Programs.{labelled_words, or_exit, with_exit, count_words, onto_labels, number_of_label, without_labels, is_set_in, and_label, count_instruction, is_invalid}
 use Rattle.pv_model.specs.Source.Judged.{invalid_turn, invalid_turns}
 use Rattle.pv_source.specs.Reporting.{Reports}
 use Rattle.pv_source.proofs.ReportedLines.{ReportedSoFar, ReportedSoFar-start, ReportedSoFar-step}
-use Rattle.pv_model.specs.Answers.Lines.{spaced, counted_from}
-use Rattle.pv_model.specs.Grammar.Lines.{lines_of}
-use Rattle.pv_model.specs.Source.Words.{NumberedLine, NumberedWords, words_of, lines_that_count}
 
 -- ---- optional words
 

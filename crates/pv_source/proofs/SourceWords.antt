@@ -5,10 +5,9 @@ use Rattle.std.specs.Borrow.{Bor}
 use Rattle.std.specs.List.{list_any, position_or_len}
 use Rattle.std.proofs.lemmas.Bool.{eq-eqb, ne_eqb}
 use Rattle.std.proofs.lemmas.List.{append-nil}
-use Rattle.pv_model.specs.Answers.Lines.{spaced}
-use Rattle.pv_model.specs.Bytes.{Bytes, onto_first}
+use Rattle.pv_model.specs.Machine.{spaced, Bytes, onto_first, between, words_from}
 use Rattle.pv_source.specs.Reading.{BeginsNoBlank, spaced_more}
-use Rattle.pv_model.specs.Source.Words.{between, in_word, in_text, is_blank, begun, words_from, with_last_word, before_last}
+use Rattle.pv_model.specs.Source.Words.{in_word, in_text, is_blank, begun, with_last_word, before_last}
 
 -- ---- the last byte
 

@@ -1,10 +1,8 @@
 -- Reports of errors and of warnings that were written.
 use Rattle.std.proofs.Common.{◌≡◌, ◌∙◌, Err, ap, subst, ℕ, suc, Bool, false, List, [], length, take, sym}
 use Rattle.std.specs.Prelude.{IsTrue, Option, map, ◌↔◌}
-use Rattle.pv_model.specs.Bytes.{Bytes}
-use Rattle.pv_model.specs.Grammar.Lines.{lines_of}
-use Rattle.pv_model.specs.Source.Blocks.{blocks_of}
-use Rattle.pv_model.specs.Source.Judged.{REPORTED, faults_of_blocks, read_source}
+use Rattle.pv_model.specs.Machine.{Bytes, lines_of, blocks_of, faults_of_blocks, read_source}
+use Rattle.pv_model.specs.Source.Judged.{REPORTED}
 use Rattle.pv_streams.specs.Sinks.{WritesPrefix, and_all}
 use Rattle.pv_source.specs.declared.faults.Fault.{Fault}
 use Rattle.pv_source.specs.Outcome.{AreLines, BeginsFaults, ReportsFaults, fault_lines, reported_of}

@@ -1,12 +1,9 @@
 -- The translation of a source.
 use Rattle.std.proofs.Common.{◌≡◌, ◌∙◌, ap, ℕ, List, [], ◌∷◌, ◌++◌, ◌+◌, refl, sym, append_assoc}
 use Rattle.std.specs.Prelude.{map}
-use Rattle.pv_model.specs.Answers.Lines.{counted_from}
+use Rattle.pv_model.specs.Machine.{counted_from, Bytes, with_line_end, ended}
 use Rattle.std.proofs.lemmas.List.{append-nil}
 use Rattle.std.proofs.lemmas.List.Concat.{flat_map-append}
-use Rattle.pv_model.specs.Bytes.{Bytes}
-use Rattle.pv_model.specs.Grammar.Manifests.{with_line_end}
-use Rattle.pv_model.specs.Grammar.Texts.{ended}
 
 -- one more line
 pub ended_more : (out line : Bytes) (lines : List Bytes) → ((out ++ line) ++ 10 ∷ []) ++ ended lines ≡ out ++ ended (line ∷ lines)

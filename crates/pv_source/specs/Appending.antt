@@ -1,8 +1,7 @@
 -- Text that is appended.
 use Rattle.std.specs.Prelude.{◌≡◌, ℕ, ◌++◌, List, Result, OnOk}
 use Rattle.std.specs.Global.{Vec}
-use Rattle.pv_model.specs.Bytes.{Bytes}
-use Rattle.pv_model.specs.Grammar.Texts.{ended}
+use Rattle.pv_model.specs.Machine.{Bytes, ended}
 
 -- success: exactly this text was appended
 abbrev pub Appends : {T E : Type 0} → Bytes → (before after : Vec ℕ) → Result T E → Type 0

@@ -3,11 +3,7 @@ use Rattle.std.specs.Prelude.{◌≡◌, ◌⊎◌, ℕ, [], Result, Ok, Err, If
 use Rattle.std.specs.Global.{Vec}
 use Rattle.pv_model.specs.declared.stream.Sink.{Ghosts as Writing}
 use Rattle.pv_model.specs.declared.stream.Source.{Ghosts as Reading}
-use Rattle.pv_model.specs.Bytes.{Bytes}
-use Rattle.pv_model.specs.Source.Blocks.{blocks_of}
-use Rattle.pv_model.specs.Source.Judged.{read_source}
-use Rattle.pv_model.specs.Source.Written.{text_of_blocks}
-use Rattle.pv_model.specs.Stream.{Rose}
+use Rattle.pv_model.specs.Machine.{Bytes, blocks_of, read_source, text_of_blocks, Rose}
 use Rattle.pv_streams.specs.Sinks.{WritesPrefix, and_all}
 use Rattle.pv_streams.specs.Sources.{FailsToGive}
 use Rattle.pv_source.specs.declared.source.Output.{Output}

@@ -2,14 +2,10 @@
 use Rattle.std.specs.Prelude.{◌≡◌, ℕ, ◌+◌, true, List, [], ◌∷◌, ◌++◌, map, drop, flat_map, codes, Option, None, Some, Result}
 use Rattle.std.specs.Fmt.{decimal}
 use Rattle.std.specs.Global.{Vec}
-use Rattle.pv_model.specs.Answers.Lines.{counted_from}
-use Rattle.pv_model.specs.Bytes.{Bytes}
-use Rattle.pv_model.specs.Grammar.Texts.{ended}
-use Rattle.pv_model.specs.Source.Blocks.{Block, program, taken, blocks_of}
+use Rattle.pv_model.specs.Machine.{counted_from, Bytes, ended, Block, taken, blocks_of, program_lines, taken_lines, written_lines, quote}
+use Rattle.pv_model.specs.Source.Blocks.{program}
 use Rattle.pv_model.specs.Source.Judged.{exec_path, is_exec_block}
-use Rattle.pv_model.specs.Source.Programs.{ProgramLine, program_lines, taken_lines, count_instruction}
-use Rattle.pv_model.specs.Source.Written.{written_lines}
-use Rattle.pv_model.specs.Trace.{quote}
+use Rattle.pv_model.specs.Source.Programs.{ProgramLine, count_instruction}
 use Rattle.pv_source.specs.Appending.{AppendsLines}
 
 -- an instruction: its line in the source, its line in its program, and its text

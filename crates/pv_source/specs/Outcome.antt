@@ -4,13 +4,12 @@ use Rattle.std.specs.Fmt.{decimal}
 use Rattle.std.specs.List.{AllByRecursion}
 use Rattle.pv_model.specs.declared.run_fault.RunFault.{RunFault}
 use Rattle.pv_model.specs.declared.run_fault.RunFault.TheVariants.{Memory as MemoryFault}
-use Rattle.pv_model.specs.Bytes.{Bytes}
+use Rattle.pv_model.specs.Machine.{Bytes, read_source}
 use Rattle.pv_source.specs.declared.faults.Fault.{Fault}
 use Rattle.pv_source.specs.declared.source.Output.{Output}
 use Rattle.pv_source.specs.declared.source.Output.TheVariants.{Translation, ProgramLines}
 use Rattle.pv_source.specs.declared.source.SourceStop.{SourceStop}
 use Rattle.pv_source.specs.declared.source.SourceStop.TheVariants.{Read, Memory}
-use Rattle.pv_model.specs.Source.Judged.{read_source}
 use Rattle.pv_source.specs.Located.{located_lines}
 use Rattle.pv_source.specs.Saying.{IsPrintable}
 use Rattle.pv_streams.specs.Sinks.{and_all, WritesPrefix}

@@ -5,8 +5,8 @@ use Rattle.pv_source.specs.declared.blocks.Kind.{Kind}
 use Rattle.pv_source.specs.declared.blocks.Kind.TheVariants.{Single, Program, Taken, CutOff, Schedule}
 use Rattle.pv_source.specs.declared.lines.Lines.{Lines}
 use Rattle.pv_source.specs.Reading.{IsWithin, numbered, numbered_text, words_in}
-use Rattle.pv_model.specs.Source.Blocks.{Block, single, program, taken, cut_off, schedule, blocks_from}
-use Rattle.pv_model.specs.Source.Words.{NumberedLine}
+use Rattle.pv_model.specs.Machine.{Block, single, taken, blocks_from, NumberedLine}
+use Rattle.pv_model.specs.Source.Blocks.{program, cut_off, schedule}
 
 abbrev pub block_by : Kind → ℕ → List (List ℕ) → List NumberedLine → Block
 block_by Single n words body = single n words

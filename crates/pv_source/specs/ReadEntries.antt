@@ -2,7 +2,7 @@
 use Rattle.std.specs.Prelude.{◌≡◌, ℕ, Option, option_map}
 use Rattle.pv_image_manifest.specs.Entries.{entry_of_line}
 use Rattle.pv_image_manifest.specs.declared.entry.Entry.{Entry as ReadEntry}
-use Rattle.pv_model.specs.Manifest.{Entry}
+use Rattle.pv_model.specs.Machine.{Entry}
 
 -- an entry with the number of its line
 abbrev pub numbered_entry : ℕ → Option Entry → Option (ℕ × Entry)

@@ -1,12 +1,12 @@
 -- The lines of a program in a source.
 use Rattle.std.specs.Prelude.{ℕ, List, [], ◌∷◌, map, Option, None, Some, option_map}
 use Rattle.std.specs.Borrow.{Bor}
-use Rattle.pv_model.specs.Bytes.{Bytes}
+use Rattle.pv_model.specs.Machine.{Bytes, LabelledLine, instruction_text, labelled_lines, program_lines, taken_lines}
 use Rattle.pv_source.specs.declared.lines.Lines.{Lines}
 use Rattle.pv_source.specs.declared.programs.Label.{Label}
 use Rattle.pv_source.specs.declared.programs.Labelled.{Labelled}
 use Rattle.pv_source.specs.Reading.{numbered, words_in}
-use Rattle.pv_model.specs.Source.Programs.{LabelledLine, ProgramLine, instruction_text, labelled_lines, program_lines, taken_lines}
+use Rattle.pv_model.specs.Source.Programs.{ProgramLine}
 
 abbrev pub bytes_of : Bor Bytes → Bytes
 bytes_of bytes = bytes.now

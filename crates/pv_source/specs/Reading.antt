@@ -1,12 +1,10 @@
 -- Words and lines of a source.
 use Rattle.std.specs.Prelude.{◌≡◌, ℕ, suc, ◌+◌, ◌≤◌, false, List, [], ◌∷◌, ◌++◌, length, take, drop, flat_map, codes, Option, None, Some}
-use Rattle.pv_model.specs.Answers.Lines.{counted_from}
-use Rattle.pv_model.specs.Bytes.{Bytes}
-use Rattle.pv_model.specs.Grammar.Lines.{lines_of}
+use Rattle.pv_model.specs.Machine.{counted_from, Bytes, lines_of, NumberedLine, NumberedWords, between, lines_that_count, words_from, words_of}
 use Rattle.pv_source.specs.declared.lines.Line.{Line}
 use Rattle.pv_source.specs.declared.lines.Lines.{Lines}
 use Rattle.pv_model.specs.Source.Blocks.{lines_up_to}
-use Rattle.pv_model.specs.Source.Words.{NumberedLine, NumberedWords, is_blank, between, lines_that_count, words_from, words_of}
+use Rattle.pv_model.specs.Source.Words.{is_blank}
 
 -- ---- words
 

@@ -2,8 +2,7 @@
 use Rattle.std.specs.Prelude.{◌≡◌, ℕ, ◌++◌, [], ◌∷◌, Bool, true, ◌&&◌, if◌then◌else◌, nat_le, flat_map, codes}
 use Rattle.std.specs.Fmt.{decimal}
 use Rattle.std.specs.List.{list_all}
-use Rattle.pv_model.specs.Bytes.{Bytes}
-use Rattle.pv_model.specs.Trace.{hex_byte}
+use Rattle.pv_model.specs.Machine.{Bytes, hex_byte}
 use Rattle.pv_source.specs.declared.explaining.saying.Part.{Part}
 use Rattle.pv_source.specs.declared.explaining.saying.Part.TheVariants.{Plain, Marked, Number, Hex}
 

@@ -1,17 +1,15 @@
--- The warnings about a source without errors: the lines with a pledge(2) that names a promise which does not exist.
+-- The warnings about a source without errors: the lines with a pledge(2) that names a promise which does not exist, or
+-- with an unveil(2) with a letter that is not a permission.
 use Rattle.std.specs.Prelude.{◌≡◌, ℕ, Bool, false, ◌||◌, if◌then◌else◌, List, [], map, flat_map, take, is_none, Option, None, Some, Result, Ok}
 use Rattle.pv_model.specs.declared.fault.What.{What}
 use Rattle.pv_model.specs.declared.instruction.Instruction.{Instruction}
-use Rattle.pv_model.specs.declared.instruction.Instruction.TheVariants.{Pledge}
+use Rattle.pv_model.specs.declared.instruction.Instruction.TheVariants.{Pledge, Unveil}
 use Rattle.pv_model.specs.declared.limits.TheConstants.{LINES}
-use Rattle.pv_model.specs.Answers.Lines.{spaced}
-use Rattle.pv_model.specs.Bytes.{Bytes}
-use Rattle.pv_model.specs.Grammar.Instructions.{instruction_of}
+use Rattle.pv_model.specs.Machine.{spaced, Bytes, instruction_of, Block, taken, blocks_of, LabelledLine, labelled_lines, reported_if, NumberedLine}
+use Rattle.pv_model.specs.Perms.{read_permissions}
 use Rattle.pv_model.specs.Promises.{read_promises}
-use Rattle.pv_model.specs.Source.Blocks.{Block, program, taken, blocks_of}
+use Rattle.pv_model.specs.Source.Blocks.{program}
 use Rattle.pv_model.specs.Source.Judged.{REPORTED, is_init, second_text}
-use Rattle.pv_model.specs.Source.Programs.{LabelledLine, labelled_lines, reported_if}
-use Rattle.pv_model.specs.Source.Words.{NumberedLine}
 use Rattle.pv_source.specs.Outcome.{AreLines, fault_lines}
 use Rattle.pv_streams.specs.Sinks.{WritesPrefix, and_all}
 
@@ -20,11 +18,17 @@ abbrev pub lacks_keyword : Option Bytes → Bool
 lacks_keyword None = false
 lacks_keyword (Some text) = is_none (read_promises text)
 
+-- a letter of a permissions argument is no permission
+abbrev pub lacks_permission : Option Bytes → Bool
+lacks_permission None = false
+lacks_permission (Some text) = is_none (read_permissions text)
+
 abbrev pub is_warned : Result Instruction What → Bool
 is_warned (Ok (Pledge promises execpromises)) = lacks_keyword promises || lacks_keyword execpromises
+is_warned (Ok (Unveil path permissions)) = lacks_permission permissions
 is_warned instruction = false
 
--- the line with this number, if its instruction is a pledge(2) with such a word
+-- the line with this number, if its instruction is a pledge(2) with such a word or an unveil(2) with such a letter
 abbrev pub warned_line : ℕ → Bytes → List ℕ
 warned_line n text = reported_if (is_warned (instruction_of LINES text)) n []
 

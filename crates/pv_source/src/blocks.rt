@@ -1,6 +1,7 @@
 //! The blocks of a source: each is a line with the lines after it that belong to it.
 ghost use Rattle.std.specs.Prelude.{◌≡◌, ◌+◌, ◌<◌, ◌^◌, [], length, None, Some, IfSome};
-ghost use Rattle.pv_model.specs.Source.Blocks.{exec_by, exec_block, blocks_from};
+ghost use Rattle.pv_model.specs.Machine.{blocks_from};
+ghost use Rattle.pv_model.specs.Source.Blocks.{exec_by, exec_block};
 ghost use Rattle.pv_source.specs.Reading.{numbered, words_in};
 ghost use Rattle.pv_source.specs.ReadBlocks.{blocks_read, Reads, IsInside};
 

@@ -1,13 +1,8 @@
 //! The entries of blocks of a source.
 ghost use Rattle.std.specs.Prelude.{◌≡◌, ◌+◌, ◌<◌, ◌^◌, List, [], length, IfOk, option_map};
 ghost use Rattle.pv_image_manifest.specs.Entries.{entry_of_line};
-ghost use Rattle.pv_model.specs.Bytes.{Bytes};
-ghost use Rattle.pv_model.specs.Grammar.Lines.{lines_of};
-ghost use Rattle.pv_model.specs.Grammar.Manifests.{entry_of};
-ghost use Rattle.pv_model.specs.Grammar.Texts.{ended};
-ghost use Rattle.pv_model.specs.Source.Blocks.{single};
+ghost use Rattle.pv_model.specs.Machine.{Bytes, lines_of, entry_of, ended, single, instructions_of};
 ghost use Rattle.pv_model.specs.Source.Judged.{second_text, has_three_words, exec_path, executable, entry_of_block};
-ghost use Rattle.pv_model.specs.Source.Programs.{instructions_of};
 ghost use Rattle.pv_source.specs.Reading.{words_in};
 ghost use Rattle.pv_source.specs.ReadBlocks.{block_of};
 ghost use Rattle.pv_source.specs.ReadEntries.{IsEntryOf};

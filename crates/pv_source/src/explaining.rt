@@ -11,5 +11,5 @@ mod texts;
 mod words;
 
 pub use entries::{line, no_image, turn};
-pub use instructions::{instruction, second_label, taken_instruction, unknown_promise};
+pub use instructions::{instruction, second_label, taken_instruction, unknown_word};
 pub use saying::Saying;

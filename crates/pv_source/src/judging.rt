@@ -1,7 +1,8 @@
 //! Checking the lines that belong to blocks: programs and schedules.
 ghost use Rattle.std.specs.Prelude.{◌≡◌, ◌+◌, ◌<◌, ◌^◌, ◌||◌, [], length, map, IfOk, OnOk, Some};
 ghost use Rattle.pv_model.specs.Source.Judged.{is_init, second_text, faults_in, invalid_turns, invalid_turn};
-ghost use Rattle.pv_model.specs.Source.Programs.{is_set_in, and_label, is_invalid, reported_if, program_faults};
+ghost use Rattle.pv_model.specs.Machine.{reported_if, program_faults};
+ghost use Rattle.pv_model.specs.Source.Programs.{is_set_in, and_label, is_invalid};
 ghost use Rattle.pv_source.specs.Reading.{words_in, worded_in};
 ghost use Rattle.pv_source.specs.ReadBlocks.{block_of};
 ghost use Rattle.pv_source.specs.ReadPrograms.{bytes_of, name_value, instruction_with, program_in, taken_in};

@@ -1,6 +1,6 @@
 //! The lines of a source.
 ghost use Rattle.std.specs.Prelude.{◌≡◌, ◌+◌, ◌<◌, ◌≤◌, ◌^◌, length, None, MatchOption, IfSome, option_map};
-ghost use Rattle.pv_model.specs.Grammar.Lines.{lines_of};
+ghost use Rattle.pv_model.specs.Machine.{lines_of};
 ghost use Rattle.pv_model.specs.Source.Blocks.{lines_up_to};
 ghost use Rattle.pv_source.specs.Reading.{first_that_counts, numbered, worded, BeginsWith, Ends, Takes, IsWithin, words_in};
 

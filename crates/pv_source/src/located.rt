@@ -1,6 +1,6 @@
 //! The instructions of the programs of a source, each with its line in the source and its line in the program.
 ghost use Rattle.std.specs.Prelude.{◌≡◌, ◌+◌, ◌<◌, ◌^◌, length, IfOk};
-ghost use Rattle.pv_model.specs.Trace.{quote, quote_byte};
+ghost use Rattle.pv_model.specs.Machine.{quote, quote_byte};
 ghost use Rattle.pv_source.specs.Located.{NumbersAreOfTranslation, located_from, located_in, located_instruction, located_lines, place_text, AppendsLocated};
 ghost use Rattle.pv_source.specs.ReadBlocks.{block_of};
 ghost use Rattle.pv_source.specs.ReadPrograms.{instruction_with, program_in, taken_in};

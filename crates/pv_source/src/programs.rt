@@ -1,9 +1,9 @@
 //! Programs in a source: labels and instructions.
 ghost use Rattle.std.specs.Prelude.{◌≡◌, ◌+◌, ◌<◌, ◌≤◌, ◌^◌, ◌++◌, [], length, IfOk, IfSome, OnOk, option_map};
 ghost use Rattle.std.specs.List.{list_all};
-ghost use Rattle.pv_model.specs.Answers.Lines.{spaced};
-ghost use Rattle.pv_model.specs.Source.Programs.{is_label_byte, is_label, label_of, labelled_words, or_exit, count_words, onto_labels, labels_from, number_of_label, is_jump, begins_with_letter, target_word, without_labels, instructions_of};
-ghost use Rattle.pv_model.specs.Source.Words.{last_word, with_last_word};
+ghost use Rattle.pv_model.specs.Machine.{spaced, labels_from, instructions_of, last_word};
+ghost use Rattle.pv_model.specs.Source.Programs.{is_label_byte, is_label, label_of, labelled_words, or_exit, count_words, onto_labels, number_of_label, is_jump, begins_with_letter, target_word, without_labels};
+ghost use Rattle.pv_model.specs.Source.Words.{with_last_word};
 ghost use Rattle.pv_source.specs.Reading.{spaced_more, IsWithin, words_in};
 ghost use Rattle.pv_source.specs.ReadPrograms.{name_value, labelled_value, then_labelled, program_in, labelled_in, label_values};
 ghost use Rattle.pv_source.specs.Appending.{Appends, AppendsLines};

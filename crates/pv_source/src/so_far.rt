@@ -1,11 +1,11 @@
 //! The tree that is built while the blocks of a manifest are checked.
-ghost use Rattle.std.specs.Prelude.{◌≡◌, ◌+◌, ◌<◌, ◌==◌, ◌^◌, ℕ, length, None, Some, IfOk, IfErr, option_map};
+ghost use Rattle.std.specs.Prelude.{◌≡◌, ◌+◌, ◌<◌, ◌==◌, ◌^◌, ℕ, length, Option, None, Some, IfOk, IfErr, MatchResult, option_map};
 ghost use Rattle.pv_image_manifest.specs.Entries.{entry_of_line};
 ghost use Rattle.pv_image_manifest.specs.Reading.{held_sizes};
-ghost use Rattle.pv_model.specs.Answers.Lines.{spaced};
-ghost use Rattle.pv_model.specs.Grammar.Manifests.{path_of, add_entry, sizes_of};
+ghost use Rattle.pv_model.specs.Machine.{spaced, path_of, add_entry, sizes_of, Entry as MadeEntry};
 ghost use Rattle.pv_model.specs.Source.Judged.{image_so_far, judged_first, judged_block, is_init, made_or_reported, with_entry_made, with_entry_of};
 ghost use Rattle.pv_source.specs.ReadBlocks.{block_of};
+ghost use Rattle.pv_source.specs.ReadEntries.{IsEntryOf};
 ghost use Rattle.pv_source.specs.LineCheck.{so_far_of, Finds};
 ghost use Rattle.pv_source.specs.Reading.{words_in};
 
@@ -121,6 +121,22 @@ fn judged_entry(
     }
 }
 
+// Checks the line of an entry, or a line that does not have the form of one.
+fn judged_form(
+    alloc: Global,
+    so_far: TreeSoFar,
+    is_exec: bool,
+    entry: Option<Entry>,
+) -> Result<(TreeSoFar, LineCheck), ManifestFault>
+    ensures { (number : ℕ) (made : Option MadeEntry) → IsEntryOf number made entry
+        → MatchResult result (Finds (with_entry_of (so_far_of so_far) number is_exec made)) (λ fault. fault ≡ ManifestFault.Memory) }
+{
+    match entry {
+        Some(entry) => judged_entry(alloc, so_far, is_exec, entry),
+        None => Ok((TreeSoFar::unknown(so_far.lacked_room), LineCheck::Form)),
+    }
+}
+
 // Returns whether there is exactly one word.
 fn has_one_word(words: &[u8]) -> bool
     ensures { result ≡ (length (words_in words.now) == 1) }
@@ -154,10 +170,8 @@ pub fn judged_block(
         return Ok((so_far, found));
     }
     let is_exec = block.kind == Kind::Program || block.kind == Kind::Taken;
-    match entry_of_block(alloc, block)? {
-        Some(entry) => judged_entry(alloc, so_far, is_exec, entry),
-        None => Ok((TreeSoFar::unknown(so_far.lacked_room), LineCheck::Form)),
-    }
+    let entry = entry_of_block(alloc, block)?;
+    judged_form(alloc, so_far, is_exec, entry)
 }
 
 // Checks the sizes of the first line, and returns the result with a tree that has only a root.

@@ -17,7 +17,7 @@ use pv_streams::{SOURCE_BYTES, Sink, Source, read_whole, write_through};
 use std::alloc::{AllocError, Global};
 
 /// The output for a source without errors.
-#[derive(Clone, Copy, Debug, PartialEq, Eq)]
+#[derive(Clone, Copy)]
 pub enum Output {
     /// The manifest or bundle that the source translates to.
     Translation,
@@ -27,7 +27,7 @@ pub enum Output {
 }
 
 /// Why the output for a source was not written.
-#[derive(Clone, Copy, Debug, PartialEq, Eq)]
+#[derive(Clone, Copy, Debug)]
 pub enum SourceStop {
     /// The source cannot be read, or has more than 67,108,864 bytes.
     Read,
@@ -161,8 +161,8 @@ fn write_bytes<W: Sink, E: Sink>(
 }
 
 /// Reads a source to its end, and writes its output to `out`: the manifest or bundle that it translates to, or the
-/// lines of its programs. Then the first twenty lines with a pledge(2) that names a promise which does not exist are
-/// reported in order on `reported`, each in a line `pvsim: NAME:LINE: WHAT`. If lines have errors, nothing is written
+/// lines of its programs. Then the first twenty lines with a pledge(2) that names a promise which does not exist, or
+/// with an unveil(2) with a letter that is not a permission, are reported in order on `reported`, each in a line `pvsim: NAME:LINE: WHAT`. If lines have errors, nothing is written
 /// to `out`, and the first twenty of them are reported instead. Each sink that was written to is flushed.
 ///
 /// # Errors

@@ -1,10 +1,7 @@
 //! The text of a translated source.
 ghost use Rattle.std.specs.Prelude.{◌≡◌, ◌+◌, ◌<◌, ◌^◌, ◌∷◌, [], length, map, IfOk};
-ghost use Rattle.pv_model.specs.Answers.Lines.{spaced};
-ghost use Rattle.pv_model.specs.Grammar.Lines.{lines_of};
-ghost use Rattle.pv_model.specs.Source.Blocks.{blocks_of};
-ghost use Rattle.pv_model.specs.Source.Programs.{instructions_of};
-ghost use Rattle.pv_model.specs.Source.Written.{counted_program, written_lines, text_of_blocks};
+ghost use Rattle.pv_model.specs.Machine.{spaced, lines_of, blocks_of, instructions_of, written_lines, text_of_blocks};
+ghost use Rattle.pv_model.specs.Source.Written.{counted_program};
 ghost use Rattle.pv_source.specs.Reading.{words_in, worded_in};
 ghost use Rattle.pv_source.specs.ReadBlocks.{block_of};
 ghost use Rattle.pv_source.specs.Appending.{AppendsLines};

@@ -49,8 +49,8 @@ fn translated<E: Sink>(
 }
 
 /// Reads a source to its end, and returns the manifest or bundle that it translates to. The first twenty lines with a
-/// pledge(2) that names a promise which does not exist are reported in order on `reported`, each in a line
-/// `pvsim: NAME:LINE: WHAT`. If lines have errors, the first twenty of them are reported instead. A sink that was written
+/// pledge(2) that names a promise which does not exist, or with an unveil(2) with a letter that is not a permission, are
+/// reported in order on `reported`, each in a line `pvsim: NAME:LINE: WHAT`. If lines have errors, the first twenty of them are reported instead. A sink that was written
 /// to is flushed.
 ///
 /// # Errors

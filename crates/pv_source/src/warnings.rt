@@ -1,11 +1,12 @@
-//! Warnings about a source without errors: a pledge(2) that names a promise which does not exist fails in every run.
+//! Warnings about a source without errors: a pledge(2) that names a promise which does not exist, or an unveil(2) with a
+//! letter that is not a permission, fails in every run.
 ghost use Rattle.std.specs.Prelude.{◌≡◌, ◌+◌, ◌<◌, ◌^◌, flat_map, length, IfOk, OnOk};
 ghost use Rattle.pv_model.specs.declared.limits.TheConstants.{LINES as MAXIMUM};
-ghost use Rattle.pv_model.specs.Grammar.Instructions.{instruction_of};
+ghost use Rattle.pv_model.specs.Machine.{instruction_of};
 ghost use Rattle.pv_source.specs.Reading.{numbered};
 ghost use Rattle.pv_source.specs.ReadBlocks.{block_of};
 ghost use Rattle.pv_source.specs.Reporting.{Reports};
-ghost use Rattle.pv_source.specs.Warnings.{is_warned, lacks_keyword, warned_in, warned_labelled, warned_line, warned_lines as warned_by_definition, warned_taken};
+ghost use Rattle.pv_source.specs.Warnings.{is_warned, lacks_keyword, lacks_permission, warned_in, warned_labelled, warned_line, warned_lines as warned_by_definition, warned_taken};
 ghost use Rattle.pv_source.specs.ReadPrograms.{labelled_in};
 
 use crate::blocks::{Block, Kind, next_block};
@@ -16,7 +17,7 @@ use crate::lines::Lines;
 use crate::programs::next_labelled;
 use crate::words::push_words;
 use pv_model::limits::LINES;
-use pv_model::{Instruction, Text};
+use pv_model::{Instruction, Perms, Text};
 use pv_promises::read_promises;
 use pv_script::instruction::instruction;
 use pv_text::lines::split_line;
@@ -32,7 +33,18 @@ fn lacks_keyword(promises: &Option<Text>) -> bool
     }
 }
 
-// Returns whether a line is a pledge(2) with a word that is no keyword.
+// Returns whether a letter of a permissions argument is no permission.
+fn lacks_permission(permissions: &Option<Text>) -> bool
+    ensures { result ≡ lacks_permission permissions.now }
+{
+    match permissions {
+        Some(text) => Perms::read(text.as_slice()).is_none(),
+        None => false,
+    }
+}
+
+// Returns whether a line is a pledge(2) with a word that is no keyword, or an unveil(2) with a letter that is no
+// permission.
 fn is_warned(line: &[u8]) -> bool
     ensures { result ≡ is_warned (instruction_of MAXIMUM line.now) }
 {
@@ -40,11 +52,13 @@ fn is_warned(line: &[u8]) -> bool
         Ok(Instruction::Pledge(promises, execpromises)) => {
             lacks_keyword(&promises) || lacks_keyword(&execpromises)
         }
+        Ok(Instruction::Unveil(_, permissions)) => lacks_permission(&permissions),
         _ => false,
     }
 }
 
-// Warns of a line if it is a pledge(2) with a word that is no keyword.
+// Warns of a line if it is a pledge(2) with a word that is no keyword, or an unveil(2) with a letter that is no
+// permission.
 fn warn_line(
     alloc: Global,
     number: u32,
@@ -56,7 +70,7 @@ fn warn_line(
     if !is_warned(line) {
         return Ok(());
     }
-    warnings.report(number, explaining::unknown_promise(alloc, line)?)
+    warnings.report(number, explaining::unknown_word(alloc, line)?)
 }
 
 // Warns of the lines of a program that ends with END.
@@ -110,7 +124,7 @@ fn warn_block(alloc: Global, block: &Block, warnings: &mut Faults) -> Result<(),
 }
 
 /// Returns the warnings about a source: the first twenty lines with a pledge(2) that names a promise which does not
-/// exist.
+/// exist, or with an unveil(2) with a letter that is not a permission.
 ///
 /// # Errors
 ///

@@ -1,9 +1,7 @@
 //! Checking a whole source.
 ghost use Rattle.std.specs.Prelude.{◌≡◌, ◌+◌, ◌<◌, ◌^◌, suc, length, take, IfOk, IfErr, OnOk};
-ghost use Rattle.pv_model.specs.Grammar.Lines.{lines_of};
-ghost use Rattle.pv_model.specs.Source.Blocks.{blocks_of};
-ghost use Rattle.pv_model.specs.Source.Judged.{REPORTED, faults_in, faults_of_blocks};
-ghost use Rattle.pv_model.specs.Source.Programs.{reported_if};
+ghost use Rattle.pv_model.specs.Machine.{lines_of, blocks_of, faults_of_blocks, reported_if};
+ghost use Rattle.pv_model.specs.Source.Judged.{REPORTED, faults_in};
 ghost use Rattle.pv_source.specs.LineCheck.{is_reported};
 ghost use Rattle.pv_source.specs.ReadBlocks.{block_of};
 ghost use Rattle.pv_source.specs.Reporting.{Reports};

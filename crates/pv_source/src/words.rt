@@ -1,9 +1,9 @@
 //! The words of a line of a source.
 ghost use Rattle.std.specs.Prelude.{◌≡◌, ◌≢◌, ◌==◌, ◌<◌, ◌≤◌, ◌∷◌, [], true, false, length, take, drop, MatchOption, MatchBool, IfSome, option_map};
 ghost use Rattle.std.specs.List.{list_all, list_any, position, position_or_len};
-ghost use Rattle.pv_model.specs.Answers.Lines.{spaced};
+ghost use Rattle.pv_model.specs.Machine.{spaced, between, words_from, words_of, last_word};
 ghost use Rattle.pv_model.specs.Source.Blocks.{mark_of};
-ghost use Rattle.pv_model.specs.Source.Words.{is_blank, is_letter, between, in_text, begun, words_from, words_of, before_last, last_word, with_last_word, is_alone};
+ghost use Rattle.pv_model.specs.Source.Words.{is_blank, is_letter, in_text, begun, before_last, with_last_word, is_alone};
 ghost use Rattle.pv_source.specs.Reading.{BeginsNoBlank, spaced_more, words_in};
 ghost use Rattle.pv_source.specs.Appending.{Appends};
 

@@ -6,8 +6,7 @@ use Rattle.std.proofs.lemmas.Bool.Decides.{nat_tests}
 use Rattle.std.proofs.lemmas.Grind.{flat_map-append}
 use Rattle.std.proofs.lemmas.List.{take_more}
 use Rattle.std.proofs.Math.Seq.{take-length}
-use Rattle.pv_model.specs.Answers.Numbers.{Numbers}
-use Rattle.pv_model.specs.Bytes.{Bytes}
+use Rattle.pv_model.specs.Machine.{Numbers, Bytes}
 use Rattle.pv_state_encoding.specs.Packed.{packed_in, packed, packed_all, is_small, IsAdded}
 
 -- ---- the bytes of one number

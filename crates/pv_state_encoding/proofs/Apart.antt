@@ -1,8 +1,7 @@
 -- The encoding of numbers is injective.
 use Rattle.std.proofs.Common.{◌≡◌, ◌≢◌, ◌∙◌, sym, ap, ℕ, zero, suc, ◌+◌, ◌/◌, ◌%◌, ◌<◌, if◌then◌else◌, Bool, true, false, nat_lt, [], ◌∷◌, ◌++◌, refl, arith}
 use Rattle.std.proofs.lemmas.Bool.Decides.{nat_tests}
-use Rattle.pv_model.specs.Answers.Numbers.{Numbers}
-use Rattle.pv_model.specs.Bytes.{Bytes}
+use Rattle.pv_model.specs.Machine.{Numbers, Bytes}
 use Rattle.pv_state_encoding.specs.Packed.{packed_in, packed, packed_all}
 use Rattle.pv_state_encoding.proofs.Adding.{packed-is}
 

@@ -3,12 +3,9 @@ use Rattle.std.proofs.Common.{◌≡◌, ◌∙◌, sym, ap, ap₂, ℕ, zero, s
 use Rattle.std.proofs.lemmas.Grind.{flat_map-append}
 use Rattle.std.proofs.lemmas.List.{drop-drop, drop_all, length-drop, take-append-drop, take_all}
 use Rattle.std.proofs.Math.Seq.{drop-cons}
-use Rattle.pv_model.specs.Answers.Numbers.{Numbers, bytes_numbers, file_numbers, instruction_numbers, list_numbers, node_numbers, number_numbers, option_numbers, record_numbers, state_numbers, tree_numbers, version_numbers}
-use Rattle.pv_model.specs.Bytes.{Bytes}
-use Rattle.pv_model.specs.Numbered.{Numbered, at_number}
-use Rattle.pv_model.specs.State.{ProcessRecord, live, ended_record, State}
-use Rattle.pv_model.specs.Tree.{Node, Tree}
-use Rattle.pv_procs.specs.Parts.{record_of}
+use Rattle.pv_model.specs.Machine.{Numbers, bytes_numbers, file_numbers, instruction_numbers, list_numbers, number_numbers, option_numbers, state_numbers, tree_numbers, Bytes, Numbered, at_number, ProcessRecord, live, ended_record, State, Node, Tree}
+use Rattle.pv_model.specs.Answers.Numbers.{node_numbers, record_numbers, version_numbers}
+use Rattle.pv_answers.specs.OfProcs.Parts.{record_of}
 use Rattle.pv_state_encoding.specs.declared.trees.TheConstants.{GROUP_SIZES}
 use Rattle.pv_state_encoding.specs.Groups.{counts_part, files_part, joined, node_bytes, node_groups, node_parts, record_parts, state_groups, tree_part}
 use Rattle.pv_state_encoding.specs.Packed.{packed_all, IsAdded}

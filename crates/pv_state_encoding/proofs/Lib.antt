@@ -8,3 +8,5 @@ pub mod Owned
 pub mod Records
 pub mod Grouping
 pub mod Apart
+pub use Rattle.pv_answers.proofs as OfAnswers
+pub use Rattle.pv_answers.proofs.OfListing

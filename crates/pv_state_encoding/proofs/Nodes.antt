@@ -3,14 +3,11 @@ use Rattle.std.proofs.Common.{◌≡◌, ◌∙◌, sym, ap, subst, ℕ, ◌+◌
 use Rattle.std.proofs.lemmas.Grind.{flat_map-append}
 use Rattle.std.proofs.lemmas.List.{take_all}
 use Rattle.std.proofs.Math.Seq.{take-add}
-use Rattle.pv_dirs.specs.Trees.{bytes_of, sort_of}
+use Rattle.pv_image_write.specs.OfDirs.Trees.{bytes_of, sort_of}
 use Rattle.pv_model.specs.declared.kind.Kind.{Kind}
 use Rattle.pv_model.specs.declared.kind.Kind.TheVariants.{Directory, File, Executable, Symlink}
-use Rattle.pv_model.specs.Answers.Numbers.{Numbers, bytes_numbers, name_numbers, node_numbers}
-use Rattle.pv_model.specs.Bytes.{Bytes}
-use Rattle.pv_model.specs.Calls.Descriptors.{next_name}
-use Rattle.pv_model.specs.Effect.{size_of}
-use Rattle.pv_model.specs.Tree.{Entries, Node, directory_node, file_node, link_node, Tree, node_at, entries_of, entries_at, find_entry, is_directory, is_directory_at, IsWellFormed}
+use Rattle.pv_model.specs.Machine.{Numbers, bytes_numbers, Bytes, next_name, size_of, Entries, Node, directory_node, file_node, link_node, Tree, node_at, entries_of, entries_at, find_entry, is_directory, is_directory_at, IsWellFormed}
+use Rattle.pv_model.specs.Answers.Numbers.{name_numbers, node_numbers}
 use Rattle.pv_image_write.proofs.Listed.{find-at, get-some, name_before, next-at, size_entries, sorted-at, take-get}
 use Rattle.pv_state_encoding.specs.Packed.{IsAdded}
 use Rattle.pv_state_encoding.specs.Parts.{if_there}

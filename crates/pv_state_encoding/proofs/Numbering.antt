@@ -2,10 +2,8 @@
 use Rattle.std.proofs.Common.{IsSome, Bool, ◌≡◌, ◌∙◌, sym, ap, subst, ℕ, zero, suc, ◌+◌, ◌<◌, [], ◌∷◌, ◌++◌, length, take, flat_map, append-nil, Option, None, Some, option_map, add-one, arith, refl}
 use Rattle.std.proofs.lemmas.Grind.{flat_map-append}
 use Rattle.pv_model.specs.declared.open_flags.Mode.{Mode}
-use Rattle.pv_model.specs.Answers.Numbers.{Numbers, option_numbers, file_numbers, mode_numbers, bool_numbers, bytes_numbers}
-use Rattle.pv_model.specs.Bytes.{Bytes}
-use Rattle.pv_model.specs.Numbered.{Numbered, at_number}
-use Rattle.pv_model.specs.State.{OpenFile}
+use Rattle.pv_model.specs.Machine.{Numbers, option_numbers, file_numbers, bool_numbers, bytes_numbers, Bytes, Numbered, at_number, OpenFile}
+use Rattle.pv_model.specs.Answers.Numbers.{mode_numbers}
 use Rattle.pv_state_encoding.specs.Packed.{IsAdded}
 use Rattle.pv_state_encoding.specs.Parts.{if_there}
 use Rattle.pv_state_encoding.proofs.Adding.{added_both, added_then}

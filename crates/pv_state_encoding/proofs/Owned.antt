@@ -3,16 +3,12 @@ use Rattle.std.proofs.Common.{◌≡◌, ◌≢◌, ◌∙◌, sym, ap, subst, �
 use Rattle.std.proofs.lemmas.Grind.{flat_map-append}
 use Rattle.pv_model.specs.declared.perms.Perms.{Perms}
 use Rattle.pv_model.specs.declared.target.Target.{Target}
-use Rattle.pv_model.specs.Answers.Numbers.{Numbers, bytes_numbers, entry_numbers, instruction_numbers, list_numbers, option_numbers, process_numbers}
-use Rattle.pv_model.specs.Bytes.{Bytes}
-use Rattle.pv_model.specs.Calls.Processes.{parent_of}
-use Rattle.pv_model.specs.Calls.Restraints.{entries_of_table}
-use Rattle.pv_model.specs.State.{Process, Program, ProcessRecord, live, ended_record, live_process}
-use Rattle.pv_model.specs.Unveil.{Table}
+use Rattle.pv_model.specs.Machine.{Numbers, bytes_numbers, entry_numbers, instruction_numbers, list_numbers, option_numbers, Bytes, parent_of, entries_of_table, Process, Program, ProcessRecord, live, ended_record, live_process, Table}
+use Rattle.pv_model.specs.Answers.Numbers.{process_numbers}
 use Rattle.pv_image_write.proofs.Listed.{take-get}
-use Rattle.pv_procs.specs.Parts.{record_of}
-use Rattle.pv_procs.specs.ProcessTable.{ended_process}
-use Rattle.pv_procs.specs.declared.record.ProcessRecord.{ProcessRecord as Owned}
+use Rattle.pv_answers.specs.OfProcs.Parts.{record_of}
+use Rattle.pv_answers.specs.OfProcs.ProcessTable.{ended_process}
+use Rattle.pv_answers.specs.OfProcs.declared.record.ProcessRecord.{ProcessRecord as Owned}
 use Rattle.pv_state_encoding.specs.Packed.{IsAdded}
 use Rattle.pv_state_encoding.specs.Groups.{ended_parts, live_parts, numbered_parts, owned_parts}
 use Rattle.pv_state_encoding.specs.Parts.{held_numbers, if_there}

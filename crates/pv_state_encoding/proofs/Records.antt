@@ -3,8 +3,8 @@ use Rattle.std.proofs.Common.{◌≡◌, ◌∙◌, sym, ap, ℕ, ◌+◌, List,
 use Rattle.std.specs.FinMap.Entries.{find}
 use Rattle.std.specs.Ordering.{nat_cmp}
 use Rattle.pv_answers.proofs.Following.{Recorded, IsNextRecord, all-after, none-after, records_after}
-use Rattle.pv_model.specs.State.{ProcessRecord}
-use Rattle.pv_procs.specs.ProcessTable.{ProcessTable, IsProcessTable, number_after}
+use Rattle.pv_model.specs.Machine.{ProcessRecord}
+use Rattle.pv_answers.specs.OfProcs.ProcessTable.{ProcessTable, IsProcessTable, number_after}
 
 -- all elements except those after a number are there, each mapped
 pub record LeavesRecords {X : Type 0} (f : Recorded → X) (rs : List Recorded) (last : ℕ) (old now : List X) : Type 0 where

@@ -1,9 +1,7 @@
 -- A state as groups, and for each live process its outside view, the part on which the steps of other processes depend.
 use Rattle.std.specs.Prelude.{ℕ, false, if◌then◌else◌, ◌==◌, List, [], ◌∷◌, ◌++◌, length, map, Option, None, Some}
-use Rattle.pv_model.specs.Answers.Numbers.{Numbers, descriptor_numbers, entry_numbers, list_numbers, option_numbers}
-use Rattle.pv_model.specs.Bytes.{Bytes}
-use Rattle.pv_model.specs.State.{Process, ProcessRecord, live, ended_record, State}
-use Rattle.pv_procs.specs.declared.record.ProcessRecord.{ProcessRecord as Owned}
+use Rattle.pv_model.specs.Machine.{Numbers, descriptor_numbers, entry_numbers, list_numbers, option_numbers, Bytes, Process, ProcessRecord, live, ended_record, State}
+use Rattle.pv_answers.specs.OfProcs.declared.record.ProcessRecord.{ProcessRecord as Owned}
 use Rattle.pv_state_encoding.specs.declared.encoded.EncodedGroup.{EncodedGroup}
 use Rattle.pv_state_encoding.specs.declared.encoded.EncodedGroup.TheVariants.{Plain, Live}
 use Rattle.pv_state_encoding.specs.declared.trees.TheConstants.{GROUP_SIZES}

@@ -2,12 +2,10 @@
 -- of all parts is the encoding of the state.
 use Rattle.std.specs.Prelude.{ℕ, List, [], ◌∷◌, ◌++◌, length, map, take, drop, flat_map, Option, None, Some}
 use Rattle.std.specs.Global.{Vec}
-use Rattle.pv_model.specs.Answers.Numbers.{bytes_numbers, file_numbers, instruction_numbers, list_numbers, node_numbers, number_numbers, option_numbers, version_numbers}
-use Rattle.pv_model.specs.Bytes.{Bytes}
-use Rattle.pv_model.specs.State.{OpenFile, Process, Program, ProcessRecord as Record, live, ended_record, State}
-use Rattle.pv_model.specs.Tree.{Node, Tree}
-use Rattle.pv_procs.specs.Parts.{record_of}
-use Rattle.pv_procs.specs.declared.record.ProcessRecord.{ProcessRecord}
+use Rattle.pv_model.specs.Machine.{bytes_numbers, file_numbers, instruction_numbers, list_numbers, number_numbers, option_numbers, Bytes, OpenFile, Process, Program, ProcessRecord as Record, live, ended_record, State, Node, Tree}
+use Rattle.pv_model.specs.Answers.Numbers.{node_numbers, version_numbers}
+use Rattle.pv_answers.specs.OfProcs.Parts.{record_of}
+use Rattle.pv_answers.specs.OfProcs.declared.record.ProcessRecord.{ProcessRecord}
 use Rattle.pv_state_encoding.specs.declared.trees.TheConstants.{GROUP_SIZES}
 use Rattle.pv_state_encoding.specs.Packed.{packed_all}
 use Rattle.pv_state_encoding.specs.Parts.{held_numbers}

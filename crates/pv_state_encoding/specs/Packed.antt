@@ -1,7 +1,6 @@
 -- Numbers as bytes: a small number takes one byte.
 use Rattle.std.specs.Prelude.{◌≡◌, ℕ, Bool, zero, suc, ◌+◌, ◌/◌, ◌%◌, if◌then◌else◌, nat_lt, [], ◌∷◌, ◌++◌, flat_map}
-use Rattle.pv_model.specs.Answers.Numbers.{Numbers}
-use Rattle.pv_model.specs.Bytes.{Bytes}
+use Rattle.pv_model.specs.Machine.{Numbers, Bytes}
 
 -- seven bits in each byte, the lowest first, in at most this many bytes before the last; a byte of 128 or more is
 -- followed by another

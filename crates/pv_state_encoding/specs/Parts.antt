@@ -1,7 +1,7 @@
 -- The numbers of a process's record.
 use Rattle.std.specs.Prelude.{ℕ, ◌++◌, Option, None, Some, []}
-use Rattle.pv_model.specs.Answers.Numbers.{Numbers, bool_numbers, descriptor_numbers, entry_numbers, integer_numbers, list_numbers, number_numbers, option_numbers}
-use Rattle.pv_procs.specs.declared.record.ProcessRecord.{ProcessRecord}
+use Rattle.pv_model.specs.Machine.{Numbers, bool_numbers, descriptor_numbers, entry_numbers, integer_numbers, list_numbers, number_numbers, option_numbers}
+use Rattle.pv_answers.specs.OfProcs.declared.record.ProcessRecord.{ProcessRecord}
 
 -- the numbers of an optional value
 abbrev pub if_there : {X : Type 0} → (X → Numbers) → Option X → Numbers

@@ -2,13 +2,13 @@
 ghost use Rattle.std.specs.Prelude.{◌≡◌, ◌∷◌, ◌++◌, [], map, IsSome, IfOk, OnOk};
 ghost use Rattle.std.specs.FinMap.Entries.{find};
 ghost use Rattle.std.specs.Ordering.{nat_cmp};
-ghost use Rattle.pv_procs.specs.ProcessTable.{process_in};
+ghost use Rattle.pv_answers.specs.OfProcs.ProcessTable.{process_in};
 ghost use Rattle.pv_state_encoding.specs.Groups.{groups_of, parts_of};
 ghost use Rattle.pv_state_encoding.specs.Encoded.{live_encoded, numbered_encoded, plain, encoded_all, encoded_of, encoded_record};
 
 use crate::outsides::outside_of_live;
 use crate::processes::{group_live, group_of_process};
-use pv_procs::Processes;
+use pv_answers::procs::Processes;
 use std::alloc::{AllocError, Global};
 
 /// A group of a state.

@@ -1,15 +1,14 @@
 //! Open files.
 ghost use Rattle.std.specs.Prelude.{◌≡◌, ◌<◌, ◌++◌, flat_map, IsSome, Some, IfOk, OnOk};
 ghost use Rattle.pv_model.specs.declared.limits.TheConstants.{OPEN_FILES};
-ghost use Rattle.pv_model.specs.Answers.Numbers.{bytes_numbers, file_numbers, list_numbers, option_numbers};
-ghost use Rattle.pv_model.specs.Numbered.{at_number};
+ghost use Rattle.pv_model.specs.Machine.{bytes_numbers, file_numbers, list_numbers, option_numbers, at_number};
 ghost use Rattle.pv_state_encoding.specs.Groups.{files_part};
 ghost use Rattle.pv_state_encoding.specs.Packed.{IsAdded};
 ghost use Rattle.pv_state_encoding.specs.Parts.{if_there};
 ghost use Rattle.std.specs.Option.{option_copied};
 
 use crate::numbers::{push_bool, push_bytes, push_mode, push_number};
-use pv_files::OpenFiles;
+use pv_answers::files::OpenFiles;
 use pv_model::Name;
 use pv_model::limits::OPEN_FILES;
 use std::alloc::{AllocError, Global};

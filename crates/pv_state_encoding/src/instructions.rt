@@ -1,6 +1,7 @@
 //! Instructions of programs.
 ghost use Rattle.std.specs.Prelude.{◌≡◌, ◌∷◌, ◌++◌, OnOk};
-ghost use Rattle.pv_model.specs.Answers.Numbers.{bool_numbers, bytes_numbers, flags_numbers, instruction_numbers, integer_numbers, mode_numbers, number_numbers, operand_numbers, origin_numbers, text_numbers, whence_numbers};
+ghost use Rattle.pv_model.specs.Machine.{bool_numbers, bytes_numbers, instruction_numbers, integer_numbers, number_numbers};
+ghost use Rattle.pv_model.specs.Answers.Numbers.{flags_numbers, mode_numbers, operand_numbers, origin_numbers, text_numbers, whence_numbers};
 ghost use Rattle.pv_state_encoding.specs.Packed.{IsAdded};
 
 use crate::numbers::{push_bool, push_bytes, push_integer, push_mode, push_number};

@@ -22,5 +22,8 @@ pub use numbers::{push_bool, push_items, push_number};
 pub use processes::{
     count, group_ended, part_of_program, push_promises, push_registers, push_table,
 };
+pub use pv_answers as answers;
+pub use pv_answers::{calls_state, procs};
+pub use pv_image_write::tree;
 pub use states::{encoded_counts, encoded_state, encoded_trees, state_groups};
 pub use trees::{part_of_sizes, push_node_groups, push_tree};

@@ -1,7 +1,8 @@
 //! Numbers, and short lists of numbers.
 ghost use Rattle.std.specs.Prelude.{◌≡◌, ◌≤◌, ◌∷◌, ◌++◌, [], length, OnOk};
 ghost use Rattle.std.specs.List.{list_all};
-ghost use Rattle.pv_model.specs.Answers.Numbers.{bool_numbers, bytes_numbers, integer_numbers, mode_numbers, permissions_numbers};
+ghost use Rattle.pv_model.specs.Machine.{bool_numbers, bytes_numbers, integer_numbers};
+ghost use Rattle.pv_model.specs.Answers.Numbers.{mode_numbers, permissions_numbers};
 ghost use Rattle.pv_state_encoding.specs.Packed.{IsAdded, is_small, packed_in, packed_all};
 
 use pv_model::{Mode, Perms};
@@ -82,10 +83,10 @@ pub fn push_bytes(key: &mut Vec<u8>, bytes: &[u8]) -> Result<(), AllocError>
 /// # Errors
 ///
 /// As for `push_number`.
-pub fn push_bool(key: &mut Vec<u8>, is_so: bool) -> Result<(), AllocError>
-    ensures { OnOk result (IsAdded (bool_numbers is_so) key.old.items key.new.items) }
+pub fn push_bool(key: &mut Vec<u8>, value: bool) -> Result<(), AllocError>
+    ensures { OnOk result (IsAdded (bool_numbers value) key.old.items key.new.items) }
 {
-    if is_so {
+    if value {
         push_number(key, 1)
     } else {
         push_number(key, 0)

@@ -1,6 +1,6 @@
 //! The outside view of a process: the part on which the steps of other processes depend.
 ghost use Rattle.std.specs.Prelude.{◌≡◌, ◌∷◌, [], IsSome, IfOk, OnOk};
-ghost use Rattle.pv_procs.specs.ProcessTable.{process_in};
+ghost use Rattle.pv_answers.specs.OfProcs.ProcessTable.{process_in};
 ghost use Rattle.pv_state_encoding.specs.Groups.{parts_of};
 ghost use Rattle.pv_state_encoding.specs.Packed.{IsAdded, packed_all};
 ghost use Rattle.pv_state_encoding.specs.Encoded.{bare_numbers, live_outside, outside_numbers, outside_parts};
@@ -8,7 +8,7 @@ ghost use Rattle.pv_state_encoding.specs.Encoded.{bare_numbers, live_outside, ou
 use crate::numbers::push_number;
 use crate::parts::push_part;
 use crate::processes::{push_descriptors, push_table};
-use pv_procs::{ProcessRecord, Processes};
+use pv_answers::procs::{ProcessRecord, Processes};
 use std::alloc::{AllocError, Global};
 
 // Appends three zeros in place of the omitted fields.

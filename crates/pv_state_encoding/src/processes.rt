@@ -3,11 +3,10 @@ ghost use Rattle.std.specs.Prelude.{◌≡◌, ◌<◌, ◌∷◌, ◌++◌, [],
 ghost use Rattle.std.specs.FinMap.Entries.{find};
 ghost use Rattle.std.specs.Ordering.{nat_cmp};
 ghost use Rattle.pv_model.specs.declared.limits.TheConstants.{DESCRIPTORS};
-ghost use Rattle.pv_model.specs.Answers.Numbers.{bytes_numbers, descriptor_numbers, entry_numbers, instruction_numbers, integer_numbers, list_numbers, number_numbers, option_numbers, target_numbers};
-ghost use Rattle.pv_model.specs.Calls.Restraints.{entries_of_table};
-ghost use Rattle.pv_model.specs.Numbered.{at_number};
-ghost use Rattle.pv_procs.specs.ProcessTable.{process_in};
-ghost use Rattle.pv_promises.specs.Pledge.{bits_of};
+ghost use Rattle.pv_model.specs.Machine.{bytes_numbers, descriptor_numbers, entry_numbers, instruction_numbers, integer_numbers, list_numbers, number_numbers, option_numbers, entries_of_table, at_number};
+ghost use Rattle.pv_model.specs.Answers.Numbers.{target_numbers};
+ghost use Rattle.pv_answers.specs.OfProcs.ProcessTable.{process_in};
+ghost use Rattle.pv_answers.specs.OfPromises.Pledge.{bits_of};
 ghost use Rattle.pv_state_encoding.specs.Groups.{ended_parts, groups_of, live_parts, numbered_parts, owned_parts, parts_of, record_parts};
 ghost use Rattle.pv_state_encoding.specs.Packed.{IsAdded, packed_all};
 ghost use Rattle.pv_state_encoding.specs.Parts.{if_there, held_numbers, promised_numbers, location_numbers};
@@ -16,12 +15,12 @@ use crate::instructions::push_instruction;
 use crate::numbers::{push_bool, push_bytes, push_integer, push_number, push_permissions};
 use crate::parts::{push_group, push_part};
 use bitflags::Flags;
-use pv_files::Descriptors;
+use pv_answers::files::Descriptors;
+use pv_answers::procs::{ProcessRecord, Processes};
+use pv_answers::script::Program;
+use pv_answers::unveil::Table;
 use pv_model::limits::DESCRIPTORS;
 use pv_model::{Promises, Target};
-use pv_procs::{ProcessRecord, Processes};
-use pv_script::Program;
-use pv_unveil::Table;
 use std::alloc::{AllocError, Global};
 
 // Appends registers in order.

@@ -9,8 +9,8 @@ use crate::numbers::push_number;
 use crate::parts::{push_group, push_part};
 use crate::processes::{count, push_process_groups};
 use crate::trees::{part_of_sizes, push_node_groups};
-use pv_calls_state::Parts;
-use pv_procs::Processes;
+use pv_answers::calls_state::Parts;
+use pv_answers::procs::Processes;
 use std::alloc::{AllocError, Global};
 
 // Returns the group of the last process number given and the number of processes.

@@ -1,17 +1,16 @@
 //! Trees.
 ghost use Rattle.std.specs.Prelude.{◌≡◌, ◌<◌, ◌≤◌, ◌+◌, ◌-◌, ◌⊎◌, ◌∷◌, ◌++◌, [], false, take, drop, flat_map, length, option_map, IsSome, IsTrue, IfSome, IfOk, Some, OnOk};
-ghost use Rattle.pv_dirs.specs.Trees.{bytes_at};
-ghost use Rattle.pv_model.specs.Answers.Numbers.{bytes_numbers, list_numbers, name_numbers, node_numbers, number_numbers, option_numbers, tree_numbers, version_numbers};
-ghost use Rattle.pv_model.specs.Calls.Descriptors.{next_name};
-ghost use Rattle.pv_model.specs.Tree.{node_at, entries_at, find_entry, is_directory_at};
+ghost use Rattle.pv_image_write.specs.OfDirs.Trees.{bytes_at};
+ghost use Rattle.pv_model.specs.Machine.{bytes_numbers, list_numbers, number_numbers, option_numbers, tree_numbers, next_name, node_at, entries_at, find_entry, is_directory_at};
+ghost use Rattle.pv_model.specs.Answers.Numbers.{name_numbers, node_numbers, version_numbers};
 ghost use Rattle.pv_state_encoding.specs.Groups.{groups_of, node_groups, node_parts, parts_of, tree_part};
 ghost use Rattle.pv_state_encoding.specs.Packed.{IsAdded};
 ghost use Rattle.pv_state_encoding.specs.Parts.{if_there};
 
 use crate::numbers::{push_bool, push_bytes, push_items, push_number};
 use crate::parts::{push_group, push_part};
+use pv_image_write::tree::Tree;
 use pv_model::{Kind, Name, Version};
-use pv_tree::Tree;
 use std::alloc::{AllocError, Global};
 
 /// The number of nodes in each group of a state. The last group, which is not listed, has the remaining nodes. The

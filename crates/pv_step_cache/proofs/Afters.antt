@@ -5,12 +5,11 @@ use Rattle.std.proofs.lemmas.Bool.{eq-eqb}
 use Rattle.std.proofs.lemmas.List.{length-map}
 use Rattle.std.proofs.lemmas.Option.{get_or_from_slice_get, slice_get-map}
 use Rattle.pv_model.specs.declared.version.Version.TheVariants.{V1}
-use Rattle.pv_model.specs.Bytes.{Bytes}
-use Rattle.pv_model.specs.State.{Process, ProcessRecord, live, ended_record, State, process_at}
-use Rattle.pv_laws_states.specs.States.{is_number, IsValid}
+use Rattle.pv_model.specs.Machine.{Bytes, Process, ProcessRecord, live, ended_record, State, process_at}
+use Rattle.pv_laws_states.specs.States.{is_process_number, IsValid}
 use Rattle.pv_laws_states.proofs.Members.{find_number-list_all, live-found}
 use Rattle.pv_laws_steps.specs.Seen.{seen, with_inside, inside_from, with_insides}
-use Rattle.pv_laws_steps.proofs.Alike.{inside-whole}
+use Rattle.pv_laws_steps.proofs.AgreeingStates.{inside-whole}
 use Rattle.pv_state_encoding.specs.Groups.{counts_part, process_parts, record_parts, state_groups}
 use Rattle.pv_state_encoding.specs.Encoded.{Encoded, plain, encoded_record, counts_group, tree_groups, encoded}
 use Rattle.pv_step_cache.specs.declared.cells.Cell.{Cell}
@@ -86,7 +85,7 @@ module _ (number : List Bytes → ℕ) (pid : ℕ) (s t : State) where
         by : (o : Option Process) → process_at t 0 ≡ o → process_at t 0 ≡ None
         by None none = none
         by (Some p) some =
-            let one : is_number t.last_process 0 ≡ true = find_number-list_all (is_number t.last_process) 0 (live p) t.processes whole.processes.numbers (live-found t 0 p some) in
+            let one : is_process_number t.last_process 0 ≡ true = find_number-list_all (is_process_number t.last_process) 0 (live p) t.processes whole.processes.numbers (live-found t 0 p some) in
             cc one
 
     inside-none : (p : Process) → inside_from pid t (0, live p) ≡ (0, live p)

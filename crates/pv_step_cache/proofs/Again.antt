@@ -1,11 +1,7 @@
 -- A cached transition is valid for every step with the same key, and stays valid when more groups are stored.
 use Rattle.std.proofs.Common.{◌≡◌, ◌∙◌, sym, ap, ap₂, subst, ℕ, Bool, true, false, ◌==◌, if◌then◌else◌, List, [], ◌∷◌, map}
 use Rattle.std.specs.List.{AllByRecursion}
-use Rattle.pv_model.specs.Answers.Observed.{Observer}
-use Rattle.pv_model.specs.Bytes.{Bytes}
-use Rattle.pv_model.specs.Grammar.Programs.{program_of}
-use Rattle.pv_model.specs.State.{State}
-use Rattle.pv_model.specs.Step.{step}
+use Rattle.pv_model.specs.Machine.{Observer, Bytes, program_of, State, step}
 use Rattle.pv_laws_states.specs.States.{IsValid}
 use Rattle.pv_laws_steps.specs.Seen.{seen, with_insides}
 use Rattle.pv_laws_steps.proofs.SeenSteps.{steps-by_seen}

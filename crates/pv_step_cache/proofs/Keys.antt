@@ -1,10 +1,8 @@
 -- The key of a step determines the part of the state on which the step depends.
 use Rattle.std.proofs.Common.{◌≡◌, ◌∙◌, sym, ap, ap₂, ℕ, Bool, true, false, ◌==◌, if◌then◌else◌, List, [], ◌∷◌, ◌++◌, length, map, refl}
 use Rattle.std.proofs.lemmas.List.{length-map, map-append}
-use Rattle.pv_model.specs.Answers.Numbers.{state_numbers}
-use Rattle.pv_model.specs.Bytes.{Bytes}
-use Rattle.pv_model.specs.State.{ProcessRecord, live, ended_record, State}
-use Rattle.pv_laws_answers.proofs.Reading.{same-state_numbers}
+use Rattle.pv_model.specs.Machine.{state_numbers, Bytes, ProcessRecord, live, ended_record, State}
+use Rattle.pv_laws_steps.proofs.OfLawsAnswers.StateDecoding.{same-state_numbers}
 use Rattle.pv_laws_steps.specs.Seen.{SeenRecord, own, seen_other, seen_record, seen}
 use Rattle.pv_state_encoding.specs.Groups.{counts_part, joined, record_parts, state_groups}
 use Rattle.pv_state_encoding.specs.Packed.{packed_all}

@@ -9,3 +9,9 @@ pub mod CellLists
 pub mod LiveOwners
 pub mod KeyLists
 pub mod Recalling
+pub use Rattle.pv_state_encoding.proofs.OfAnswers
+pub use Rattle.pv_laws_steps.proofs.OfLawsAnswers
+pub use Rattle.pv_laws_steps.proofs.OfLawsRuns
+pub use Rattle.pv_laws_steps.proofs as OfLawsSteps
+pub use Rattle.pv_state_encoding.proofs.OfListing
+pub use Rattle.pv_state_encoding.proofs as OfStateEncoding

@@ -1,12 +1,8 @@
 -- Lookup and insertion of transitions.
 use Rattle.std.proofs.Common.{◌≡◌, ◌∙◌, sym, ap, subst, ℕ, zero, suc, inl, inr, List, [], ◌∷◌, map, Some, slice_get}
 use Rattle.std.specs.List.{AllByRecursion}
-use Rattle.pv_model.specs.Answers.Observed.{Observer}
-use Rattle.pv_model.specs.Bytes.{Bytes}
-use Rattle.pv_model.specs.Grammar.Programs.{program_of}
-use Rattle.pv_model.specs.State.{State}
-use Rattle.pv_model.specs.Step.{step}
-use Rattle.pv_laws_answers.proofs.Lists.{each-append}
+use Rattle.pv_model.specs.Machine.{Observer, Bytes, program_of, State, step}
+use Rattle.pv_laws_steps.proofs.OfLawsAnswers.Lists.{each-append}
 use Rattle.pv_laws_states.specs.States.{IsValid}
 use Rattle.pv_state_encoding.specs.Encoded.{encoded}
 use Rattle.pv_step_cache.specs.declared.cells.Cell.{Cell}

@@ -1,11 +1,7 @@
 -- The cells of a state, and cached transitions.
 use Rattle.std.specs.Prelude.{◌≡◌, ℕ, List, map}
 use Rattle.std.specs.List.{AllByRecursion}
-use Rattle.pv_model.specs.Answers.Observed.{Observer}
-use Rattle.pv_model.specs.Bytes.{Bytes}
-use Rattle.pv_model.specs.Grammar.Programs.{program_of}
-use Rattle.pv_model.specs.State.{State}
-use Rattle.pv_model.specs.Step.{step}
+use Rattle.pv_model.specs.Machine.{Observer, Bytes, program_of, State, step}
 use Rattle.pv_laws_states.specs.States.{IsValid}
 use Rattle.pv_laws_steps.specs.Seen.{seen}
 use Rattle.pv_state_encoding.specs.Encoded.{Encoded, encoded}

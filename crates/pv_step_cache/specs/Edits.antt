@@ -1,6 +1,6 @@
 -- The groups of a state after a step, as edits of those before it.
 use Rattle.std.specs.Prelude.{◌≡◌, ◌≢◌, ℕ, Bool, true, not, ◌&&◌, ◌⊎◌, if◌then◌else◌, ◌==◌, List, [], ◌∷◌, get_or, map, slice_get, Some}
-use Rattle.pv_model.specs.Bytes.{Bytes}
+use Rattle.pv_model.specs.Machine.{Bytes}
 use Rattle.pv_state_encoding.specs.Packed.{packed_all}
 use Rattle.pv_state_encoding.specs.Encoded.{Encoded}
 use Rattle.pv_step_cache.specs.declared.cells.Cell.{Cell}

@@ -1,7 +1,7 @@
 -- Cached transitions.
 use Rattle.std.specs.Prelude.{◌≡◌, ℕ, ◌⊎◌, List, [], ◌∷◌, ◌++◌, map, slice_get, Some}
 use Rattle.std.specs.Global.{Vec}
-use Rattle.pv_model.specs.Bytes.{Bytes}
+use Rattle.pv_model.specs.Machine.{Bytes}
 use Rattle.pv_step_cache.specs.declared.cells.Cell.{Cell}
 use Rattle.pv_step_cache.specs.declared.steps.CachedStep.{CachedStep}
 use Rattle.pv_step_cache.specs.Edits.{edited, step_key, AreCellEdits}

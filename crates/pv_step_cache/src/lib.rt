@@ -12,4 +12,6 @@ pub mod tables;
 pub use cells::{
     Cell, Edit, edited_cells, edits_of, has_owner, live_owners, row_of_cells, step_key,
 };
+pub use pv_state_encoding as state_encoding;
+pub use pv_state_encoding::tree;
 pub use steps::{CachedStep, CachedSteps, Recalled};

@@ -2,7 +2,7 @@
 use Rattle.std.proofs.Common.{◌≡◌, ◌+◌, ◌-◌, ◌++◌, ◌∙◌, ap, sym, ℕ, [], length, take, drop, append_assoc, ◌≤◌, length-drop, arith, refl, Option, None, Some}
 use Rattle.std.proofs.lemmas.List.{append-nil, take_all, take-append-drop}
 use Rattle.std.proofs.Math.Seq.{take-add}
-use Rattle.pv_model.specs.Bytes.{Bytes}
+use Rattle.pv_model.specs.Machine.{Bytes}
 use Rattle.pv_model.specs.Stream.{and_front}
 use Rattle.pv_streams.specs.Sinks.{and_all, WritesPrefix}
 

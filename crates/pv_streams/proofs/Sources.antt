@@ -2,7 +2,7 @@
 use Rattle.std.proofs.Common.{◌≡◌, ◌<◌, ◌≤◌, ◌+◌, min, ◌++◌, ◌∙◌, ap, sym, ℕ, [], length, take, append_assoc, length-append, arith, Option, None, Some}
 use Rattle.std.specs.Prelude.{IfSome}
 use Rattle.std.proofs.lemmas.List.{append-nil}
-use Rattle.pv_model.specs.Bytes.{Bytes}
+use Rattle.pv_model.specs.Machine.{Bytes}
 use Rattle.pv_model.specs.Stream.{front_and}
 use Rattle.pv_streams.specs.Sources.{before_all, GaveMoreThan, GivesMoreThan}
 

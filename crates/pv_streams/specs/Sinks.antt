@@ -1,8 +1,8 @@
 -- Bytes written to a sink.
 use Rattle.std.specs.Prelude.{◌≡◌, ℕ, ◌++◌, Option, option_map, Result, OnOk, OnErr, IfErr}
 use Rattle.pv_model.specs.declared.stream.Sink.{Ghosts as Writing}
-use Rattle.pv_model.specs.Bytes.{Bytes}
-use Rattle.pv_model.specs.Stream.{Rose, and_front}
+use Rattle.pv_model.specs.Machine.{Bytes, Rose}
+use Rattle.pv_model.specs.Stream.{and_front}
 
 -- the output with a whole text appended
 abbrev pub and_all : Option Bytes → Bytes → Option Bytes

@@ -3,8 +3,7 @@ use Rattle.std.specs.Prelude.{⊤, ◌⊎◌, ℕ, ◌+◌, ◌<◌, ◌++◌, l
 use Rattle.pv_model.specs.declared.run_fault.RunFault.{RunFault}
 use Rattle.pv_model.specs.declared.run_fault.RunFault.TheVariants.{Read, Memory}
 use Rattle.pv_model.specs.declared.stream.Source.{Ghosts as Reading}
-use Rattle.pv_model.specs.Bytes.{Bytes}
-use Rattle.pv_model.specs.Stream.{Rose}
+use Rattle.pv_model.specs.Machine.{Bytes, Rose}
 use Rattle.pv_model.specs.declared.limits.TheConstants.{SOURCE_BYTES}
 
 -- some bytes before those that remain

@@ -1,6 +1,6 @@
 //! A sink that buffers bytes and writes them in large blocks.
 ghost use Rattle.std.specs.Prelude.{◌≡◌, ◌+◌, ◌++◌, ◌≤◌, [], drop, length, vec_len, OnOk, OnErr};
-ghost use Rattle.pv_model.specs.Stream.{Rose};
+ghost use Rattle.pv_model.specs.Machine.{Rose};
 ghost use Rattle.pv_streams.specs.Sinks.{and_all};
 ghost use Rattle.pv_streams.specs.declared.buffered.TheConstants.{CHUNK};
 

@@ -1,6 +1,7 @@
 //! Reading a source to its end.
 ghost use Rattle.std.specs.Prelude.{◌≡◌, ◌<◌, ◌≤◌, [], length, vec_len, IfOk, IfErr, IfSome, OnOk, OnErr, Err};
-ghost use Rattle.pv_model.specs.Stream.{Rose, RoseBy, front_and};
+ghost use Rattle.pv_model.specs.Machine.{Rose};
+ghost use Rattle.pv_model.specs.Stream.{RoseBy, front_and};
 ghost use Rattle.pv_streams.specs.Sources.{FailsToGive, IsReadOrMemory};
 
 use pv_model::limits::SOURCE_BYTES;

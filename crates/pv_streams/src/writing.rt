@@ -1,6 +1,7 @@
 //! Writing slices of bytes in full.
 ghost use Rattle.std.specs.Prelude.{◌≡◌, ◌<◌, ◌≤◌, length, IfOk, OnOk, OnErr};
-ghost use Rattle.pv_model.specs.Stream.{Rose, and_front};
+ghost use Rattle.pv_model.specs.Machine.{Rose};
+ghost use Rattle.pv_model.specs.Stream.{and_front};
 ghost use Rattle.pv_streams.specs.Sinks.{Writes};
 
 use pv_model::{Failed, Sink};

@@ -1,8 +1,8 @@
 //! Runs of a bundle whose source or sink fails, and the counts of a run.
 use crate::images::MOTD_TRACE;
 use crate::streams::{Cut, expect_cut, expect_front, front_of, sink_of, slow_front_of};
+use pv_cli_host::run::{Summary, run_tree};
 use pv_model::RunFault;
-use pv_run::{Summary, run_tree};
 use pv_streams::{Bytes, Gathered, Source};
 use std::process::Abort;
 

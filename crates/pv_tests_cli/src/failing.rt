@@ -3,8 +3,8 @@ use crate::images::{MOTD, MOTD_LISTING, MOTD_TRACE, made};
 use crate::streams::{
     Cut, Endless, expect_count, expect_cut, expect_front, front_of, sink_of, slow_front_of,
 };
+use pv_cli_host::run::{AuditStop, MigrateStop, audit_image, list, make_image, migrate_image, run};
 use pv_model::{ListFault, RunFault};
-use pv_run::{AuditStop, MigrateStop, audit_image, list, make_image, migrate_image, run};
 use pv_streams::{Bytes, Gathered, Sink};
 use std::process::Abort;
 

@@ -1,7 +1,7 @@
 //! Errors that no command returns, because each reports out of memory as its own.
-use pv_cli_commands::Fault;
+use pv_cli_host::cli_commands::Fault;
+use pv_cli_host::run::MigrateStop;
 use pv_model::{ImageFault, ListFault, ManifestFault, MigrateFault, RunFault};
-use pv_run::MigrateStop;
 use std::test::Fail;
 
 const OF_MEMORY: &[Fault] = &[

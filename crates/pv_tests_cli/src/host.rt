@@ -1,6 +1,6 @@
 //! The streams of the operating system over a reader and a writer that fail.
-use pv_cli_commands::Progress;
-use pv_cli_host::{Input, Output, Screen, ScreenWriter, Shown};
+use pv_cli_host::cli_commands::Progress;
+use pv_cli_host::{Input, Output, Screen, ScreenWriter, SearchOutput, Shown};
 use pv_streams::{Failed, Sink, Source};
 use std::io;
 use std::io::{ErrorKind, Read, Write};
@@ -64,4 +64,19 @@ fn a_screen_leaves_what_is_written_as_it_is(rt: HostRuntime) {
     progress.show(3, 1);
     progress.end();
     assert!(rt; writer.write(b"yz").ok() == Some(0));
+}
+
+#[test]
+fn a_search_writes_at_once(rt: HostRuntime) {
+    let screen = Screen::new(&rt);
+    let mut progress = Shown::new(&screen);
+    let (waiting, direct) = (Once { is_used: false }, Once { is_used: false });
+    let mut output = SearchOutput::new(rt.alloc(), &screen, waiting, direct);
+    progress.show(2, 1);
+    assert!(rt; output.write(b"xyz") == Ok(1));
+    assert!(rt; output.write(b"yz") == Ok(0));
+    progress.end();
+    assert!(rt; output.write(b"yz") == Ok(2));
+    progress.show(3, 1);
+    assert!(rt; output.write(b"xyz") == Err(Failed));
 }

@@ -1,5 +1,5 @@
 //! The first example: its manifest, its image, its listing and its trace.
-use pv_run::make_image;
+use pv_cli_host::run::make_image;
 use pv_streams::{Bytes, Gathered};
 use std::process::Abort;
 

@@ -1,9 +1,11 @@
 //! Runs of the whole program over an output that takes nothing, even before it is flushed.
 ghost use Rattle.std.specs.Prelude.{[], None};
 
-use pv_cli_commands::{Directories, Files, HostSystem, Unshown};
+use pv_cli_host::cli_commands::{Directories, Files, HostSystem, Unshown};
+use pv_cli_host::host_copy::{
+    HostDirectory, HostEntry, HostFault, HostFile, HostTarget, TargetFault,
+};
 use pv_cli_line::run;
-use pv_host_copy::{HostDirectory, HostEntry, HostFault, HostFile, HostTarget, TargetFault};
 use pv_streams::{Bytes, Failed, Gathered, Sink};
 use std::alloc::{AllocError, Global};
 
@@ -57,6 +59,10 @@ impl Files for NoFiles {
 
     fn write_reason(&self, _alloc: Global, _name: &str) -> Option<String> {
         None
+    }
+
+    fn is_regular(&self, _name: &str) -> bool {
+        false
     }
 }
 
@@ -153,7 +159,7 @@ fn an_output_that_takes_nothing_is_a_failed_write(rt: HostRuntime) {
             output: Broken { failures: 0 },
             errors: Gathered::new(rt.alloc()),
         };
-        assert!(rt; run(rt.alloc(), *words, false, &mut system, &mut Unshown) == 4);
+        assert!(rt; run(rt.alloc(), *words, &mut system, &mut Unshown) == 4);
         assert!(rt; system.errors.bytes.as_slice() == b"pvsim: write\n".as_slice());
     }
 }

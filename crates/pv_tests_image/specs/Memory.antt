@@ -1,8 +1,6 @@
 -- The entries that remain of a synthetic directory, and those created in a directory in memory.
 use Rattle.std.specs.Prelude.{ℕ, true, false, [], codes, refl, Option, None, Some, IsTrue}
-use Rattle.pv_model.specs.Bytes.{Bytes}
-use Rattle.pv_model.specs.Manifest.{Entry, make, further_name}
-use Rattle.pv_model.specs.Tree.{directory_node, file_node, link_node}
+use Rattle.pv_model.specs.Machine.{Bytes, Entry, make, further_name, directory_node, file_node, link_node}
 use Rattle.pv_host_copy.specs.declared.entry.Identity.{Identity}
 use Rattle.pv_host_copy.specs.Hosts.{HostEntries, no_more, a_directory, a_file, a_link, is_ordered}
 use Rattle.pv_tests_image.specs.declared.directory.MadeUp.{MadeUp}

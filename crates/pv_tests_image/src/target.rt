@@ -1,7 +1,7 @@
 //! A host directory in memory, in which a tree is created.
 ghost use Rattle.std.specs.Prelude.{◌≡◌, [], map, Some};
 ghost use Rattle.pv_host_copy.specs.Created.{Creates, is_absent};
-ghost use Rattle.pv_model.specs.Grammar.Manifests.{path_of};
+ghost use Rattle.pv_model.specs.Machine.{path_of};
 ghost use Rattle.pv_tests_image.specs.Memory.{entry_made};
 
 use pv_host_copy::{HostTarget, TargetFault};

@@ -1,7 +1,7 @@
 //! Creating trees for tests.
 ghost use Rattle.std.specs.Prelude.{◌≡◌, ◌≤◌, IsTrue, IsFalse, None};
 ghost use Rattle.pv_model.specs.declared.version.Version.{Version};
-ghost use Rattle.pv_model.specs.Tree.{find_entry, is_directory_at, is_name, is_node, is_removed};
+ghost use Rattle.pv_model.specs.Machine.{find_entry, is_directory_at, is_name, is_node, is_removed};
 ghost use Rattle.pv_tree.specs.Changes.{new_node};
 
 use crate::answers::expect_same;

@@ -1,6 +1,6 @@
 //! Tests of the name cache: the answers that it keeps and those that it discards.
 ghost use Rattle.pv_namei.specs.Cached.{FitsMap};
-ghost use Rattle.pv_model.specs.Tree.{find_entry};
+ghost use Rattle.pv_model.specs.Machine.{find_entry};
 
 use crate::answers::expect_same;
 use crate::trees::{expect_make, with_64_inodes};

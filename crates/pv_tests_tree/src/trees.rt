@@ -2,8 +2,7 @@
 ghost use Rattle.std.specs.Prelude.{◌≡◌, ◌+◌, ◌≤◌, ◌==◌, not, nat_lt, length, IsTrue, None};
 ghost use Rattle.std.specs.List.{list_all};
 ghost use Rattle.pv_model.specs.declared.version.Version.{Version};
-ghost use Rattle.pv_model.specs.Image.{inode_blocks, greatest_blocks};
-ghost use Rattle.pv_model.specs.Tree.{is_name, is_node, is_link_text, find_entry};
+ghost use Rattle.pv_model.specs.Machine.{inode_blocks, greatest_blocks, is_name, is_node, is_link_text, find_entry};
 ghost use Rattle.pv_tree.specs.Changes.{new_node};
 ghost use Rattle.pv_laws_trees.specs.Tree.{Appears};
 

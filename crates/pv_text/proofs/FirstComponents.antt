@@ -3,8 +3,7 @@ use Rattle.std.proofs.Common.{◌≡◌, ◌∙◌, ap, ℕ, suc, ◌+◌, ◌-�
 use Rattle.std.specs.Prelude.{◌==◌}
 use Rattle.std.specs.List.{position_or_len}
 use Rattle.std.proofs.lemmas.List.{take_all}
-use Rattle.pv_model.specs.Bytes.{Bytes, onto_first}
-use Rattle.pv_model.specs.Walk.{split_slashes}
+use Rattle.pv_model.specs.Machine.{Bytes, onto_first, split_slashes}
 use Rattle.pv_text.specs.Components.{components_after}
 
 abbrev pub end_of_component : Bytes → ℕ

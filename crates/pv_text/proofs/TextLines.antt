@@ -8,8 +8,8 @@ use Rattle.std.proofs.lemmas.List.{drop-drop, length-drop, take_all}
 use Rattle.std.proofs.lemmas.List.Quantifiers.{position-Some}
 use Rattle.std.proofs.lemmas.List.Sums.{fails_before_first, prefix_len-le-length}
 use Rattle.memchr.specs.Find.{IsFirstByte}
-use Rattle.pv_model.specs.Bytes.{Bytes, onto_first}
-use Rattle.pv_model.specs.Grammar.Lines.{lines_of, word_of, after_word}
+use Rattle.pv_model.specs.Machine.{Bytes, onto_first, lines_of}
+use Rattle.pv_model.specs.Grammar.Lines.{word_of, after_word}
 use Rattle.pv_text.specs.Lines.{IsSplit}
 
 pub position_or_len-within : (p : ℕ → Bool) (bs : Bytes) → position_or_len p bs ≤ length bs

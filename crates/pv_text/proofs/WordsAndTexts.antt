@@ -8,10 +8,9 @@ use Rattle.std.proofs.lemmas.Bool.Decides.{eqb_tells}
 use Rattle.std.proofs.lemmas.List.Sums.{fails_before_first}
 use Rattle.std.specs.Cmp.Lexicographic.{pointwise}
 use Rattle.pv_model.specs.declared.open_flags.OpenFlags.{OpenFlags}
-use Rattle.pv_model.specs.Bytes.{Bytes, is_empty}
-use Rattle.pv_model.specs.Grammar.Arguments.{Parsed, outside, after_backslash, after_x, hex_value, first_digit, onto_text, if_short, text_rest, in_range, negative_of, number_of, without_front, if_nothing_left}
-use Rattle.pv_model.specs.Trace.{is_plain}
-use Rattle.pv_model.specs.Grammar.Lines.{value_from, is_digit, is_decimal, decimal_of, has_leading_zero}
+use Rattle.pv_model.specs.Machine.{Bytes, is_empty, Parsed, is_plain, decimal_of}
+use Rattle.pv_model.specs.Grammar.Arguments.{outside, after_backslash, after_x, hex_value, first_digit, onto_text, if_short, text_rest, in_range, negative_of, number_of, without_front, if_nothing_left}
+use Rattle.pv_model.specs.Grammar.Lines.{value_from, is_digit, is_decimal, has_leading_zero}
 use Rattle.pv_text.proofs.TextLines.{position_or_len-within}
 use Rattle.pv_text.specs.Reading.{onto_front, IsFront, text_end, up_to_greatest}
 

@@ -1,7 +1,6 @@
 -- The components of a path that remain.
 use Rattle.std.specs.Prelude.{ℕ, ◌+◌, List, [], length, Option, None, Some}
-use Rattle.pv_model.specs.Bytes.{Bytes}
-use Rattle.pv_model.specs.Walk.{split_slashes}
+use Rattle.pv_model.specs.Machine.{Bytes, split_slashes}
 
 -- the components after a slash, if there is one
 abbrev pub components_after : Option Bytes → List Bytes

@@ -1,9 +1,8 @@
 -- The results of parsers.
 use Rattle.std.specs.Prelude.{◌≡◌, ℕ, if◌then◌else◌, ◌==◌, min, [], ◌∷◌, ◌++◌, option_map, Option, None, Some}
 use Rattle.std.specs.Borrow.{Bor}
-use Rattle.pv_model.specs.Bytes.{Bytes}
-use Rattle.pv_model.specs.Grammar.Arguments.{Parsed, outside, text_rest}
-use Rattle.pv_model.specs.Grammar.Lines.{decimal_of}
+use Rattle.pv_model.specs.Machine.{Bytes, Parsed, decimal_of}
+use Rattle.pv_model.specs.Grammar.Arguments.{outside, text_rest}
 
 -- a parser returns the grammar's value with the bytes after it, or fails if the grammar does
 abbrev pub Reads : {A : Type 0} → Option (A × Bor Bytes) → Parsed A → Type 0

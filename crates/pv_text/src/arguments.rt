@@ -1,6 +1,7 @@
 //! Parsing the arguments of a line. A space precedes each argument, and nothing follows the last.
 ghost use Rattle.std.specs.Prelude.{◌≡◌};
-ghost use Rattle.pv_model.specs.Grammar.Arguments.{text_at, text_or_null_at, operand_at, register_at, number_at, whence_at, origin_at, flags_at, word_at, no_argument, one_argument, two_arguments, three_arguments};
+ghost use Rattle.pv_model.specs.Machine.{text_at, word_at, one_argument, two_arguments};
+ghost use Rattle.pv_model.specs.Grammar.Arguments.{text_or_null_at, operand_at, register_at, number_at, whence_at, origin_at, flags_at, no_argument, three_arguments};
 ghost use Rattle.pv_text.specs.Reading.{held_of};
 
 use crate::lines::after_one_space;

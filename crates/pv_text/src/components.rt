@@ -1,7 +1,7 @@
 //! The components of a path.
 ghost use Rattle.std.specs.Prelude.{◌≡◌, ◌<◌, ◌∷◌, length, IfSome};
 ghost use Rattle.std.specs.Option.{option_copied};
-ghost use Rattle.pv_model.specs.Walk.{split_slashes};
+ghost use Rattle.pv_model.specs.Machine.{split_slashes};
 ghost use Rattle.pv_text.specs.Components.{components_after};
 
 use crate::lines::first_of;

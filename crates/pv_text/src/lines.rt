@@ -1,7 +1,8 @@
 //! Lines of a text, and words of a line.
 ghost use Rattle.std.specs.Prelude.{◌≡◌, ◌+◌, ◌<◌, ◌≤◌, ◌==◌, ◌∷◌, [], min, length, MatchOption, IfSome, Option, option_map};
 ghost use Rattle.std.specs.List.{position, position_or_len};
-ghost use Rattle.pv_model.specs.Grammar.Lines.{lines_of, word_of, after_word, after_space};
+ghost use Rattle.pv_model.specs.Machine.{lines_of};
+ghost use Rattle.pv_model.specs.Grammar.Lines.{word_of, after_word, after_space};
 ghost use Rattle.pv_text.specs.Lines.{IsSplit};
 
 use memchr::memchr;

@@ -1,7 +1,7 @@
 //! Parsing texts in quotation marks.
 ghost use Rattle.std.specs.Prelude.{◌≡◌, ◌<◌, length, not, position, None, MatchOption, IfSome};
-ghost use Rattle.pv_model.specs.Grammar.Arguments.{text_at, text_or_null_at, hex_value, text_rest, if_short, onto_text, outside, after_backslash};
-ghost use Rattle.pv_model.specs.Trace.{is_plain as parses_as_itself};
+ghost use Rattle.pv_model.specs.Machine.{text_at, is_plain as parses_as_itself};
+ghost use Rattle.pv_model.specs.Grammar.Arguments.{text_or_null_at, hex_value, text_rest, if_short, onto_text, outside, after_backslash};
 ghost use Rattle.pv_text.specs.Reading.{IsFront, Reads, text_end};
 
 use crate::lines::split_word;

@@ -1,8 +1,8 @@
 //! Parsing arguments that are one word: numbers, registers, and the flags of open.
 ghost use Rattle.std.specs.Prelude.{◌≡◌, ◌||◌};
-ghost use Rattle.pv_model.specs.Grammar.Arguments.{register_of, register_at, number_of, number_at, operand_of, operand_at, whence_of, whence_at, origin_of, origin_at, flags_of, flags_at, flag_or_none, without_front, mode_at, word_at};
+ghost use Rattle.pv_model.specs.Machine.{word_at, is_empty};
+ghost use Rattle.pv_model.specs.Grammar.Arguments.{register_of, register_at, number_of, number_at, operand_of, operand_at, whence_of, whence_at, origin_of, origin_at, flags_of, flags_at, flag_or_none, without_front, mode_at};
 ghost use Rattle.pv_model.specs.Grammar.Lines.{has_leading_zero};
-ghost use Rattle.pv_model.specs.Bytes.{is_empty};
 ghost use Rattle.pv_text.specs.Reading.{Reads, held_of};
 
 use crate::lines::split_word;

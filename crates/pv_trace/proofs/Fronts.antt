@@ -7,8 +7,7 @@ use Rattle.std.proofs.lemmas.Grind.{flat_map-append}
 use Rattle.std.proofs.lemmas.List.{drop-drop}
 use Rattle.std.proofs.lemmas.Bool.{cases_lt, lt-ltb, le-ltb, not-true, not-false, and_parts}
 use Rattle.std.proofs.lemmas.List.Sums.{fails_before_first, passes_at_first, prefix_len-le-length}
-use Rattle.pv_model.specs.Bytes.{Bytes}
-use Rattle.pv_model.specs.Trace.{is_plain, hex_byte, quote_byte}
+use Rattle.pv_model.specs.Machine.{Bytes, is_plain, hex_byte, quote_byte}
 
 -- bytes that represent themselves are quoted unchanged
 quoted_same : (bs : Bytes) (n : ℕ) → ((k : ℕ) → k < n → not (is_plain (get_or bs k 0)) ≡ false) → flat_map quote_byte (take n bs) ≡ take n bs

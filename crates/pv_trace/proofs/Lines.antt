@@ -1,8 +1,8 @@
 -- The text of lines, step by step.
 use Rattle.std.proofs.Common.{◌≡◌, ◌++◌, ◌∙◌, ap, sym, List, append_assoc}
 use Rattle.std.proofs.lemmas.Grind.{flat_map-append}
-use Rattle.pv_model.specs.Bytes.{Bytes}
-use Rattle.pv_model.specs.Trace.{Line, line_bytes, trace_bytes}
+use Rattle.pv_model.specs.Machine.{Bytes, Line, trace_bytes}
+use Rattle.pv_model.specs.Trace.{line_bytes}
 
 -- the text of lines appended to another text, and then that of more lines
 pub text_joined : (before mid after : Bytes) (xs ys : List Line)

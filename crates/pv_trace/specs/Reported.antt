@@ -2,8 +2,7 @@
 use Rattle.std.specs.Prelude.{List, [], ◌∷◌, Option, None, Some}
 use Rattle.pv_model.specs.declared.call.Call.{Call}
 use Rattle.pv_model.specs.declared.promise.Promise.{Promise}
-use Rattle.pv_model.specs.Bytes.{Bytes}
-use Rattle.pv_model.specs.Trace.{Word, pldg_word, unvl_word, gio_word}
+use Rattle.pv_model.specs.Machine.{Bytes, Word, pldg_word, unvl_word, gio_word}
 use Rattle.pv_trace.specs.declared.line.PromiseVerdict.{PromiseVerdict}
 use Rattle.pv_trace.specs.declared.line.UnveilVerdict.{UnveilVerdict}
 use Rattle.pv_trace.specs.declared.line.Direction.{Direction}

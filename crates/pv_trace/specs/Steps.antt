@@ -6,8 +6,8 @@ use Rattle.pv_model.specs.declared.errno.Errno.{Errno}
 use Rattle.pv_model.specs.declared.errno.Errno.TheVariants.{ENOSYS}
 use Rattle.pv_model.specs.declared.outcome.Outcome.{Outcome}
 use Rattle.pv_model.specs.declared.outcome.Outcome.TheVariants.{Value, Text}
-use Rattle.pv_model.specs.Bytes.{Bytes}
-use Rattle.pv_model.specs.Trace.{Word, PromiseVerdict, for_refusal, for_increase, call_word, nami_word, gio_word, gave, took, Line, line, walked_paths, promise_words, unveil_words, end_words}
+use Rattle.pv_model.specs.Machine.{Bytes, Word, call_word, nami_word, gio_word, gave, Line, line, walked_paths, promise_words, unveil_words, end_words}
+use Rattle.pv_model.specs.Trace.{PromiseVerdict, for_refusal, for_increase, took}
 
 -- the word of the bytes that a call transferred, which are at the front of a buffer
 abbrev pub moved_by : Bytes → Call → Outcome → List Word

@@ -4,11 +4,10 @@ use Rattle.pv_model.specs.declared.errno.Errno.{Errno}
 use Rattle.pv_model.specs.declared.limits.TheConstants.{BUFFER}
 use Rattle.pv_model.specs.declared.open_flags.OpenFlags.{OpenFlags}
 use Rattle.pv_model.specs.declared.perms.Perms.{Perms}
-use Rattle.pv_model.specs.Bytes.{Bytes}
-use Rattle.pv_model.specs.CallRef.{call_of}
-use Rattle.pv_model.specs.Errno.{errno_number, errno_name}
+use Rattle.pv_model.specs.Machine.{Bytes, call_of, errno_number, Word as TraceWord, call_word, nami_word, pldg_word, unvl_word, gio_word, ret_word, gave}
+use Rattle.pv_model.specs.Errno.{errno_name}
 use Rattle.pv_model.specs.Perms.{permissions_text}
-use Rattle.pv_model.specs.Trace.{Word as TraceWord, PromiseVerdict as TracePromise, UnveilVerdict as TraceUnveil, Direction as TraceDirection, Returned as TraceReturned, call_word, nami_word, pldg_word, unvl_word, gio_word, ret_word, psig_word, wait_word, gone_word, for_kill, for_refusal, for_increase, no_entry, entry_lacks, table_locked, gave, took, value_of, error_of, flags_text}
+use Rattle.pv_model.specs.Trace.{PromiseVerdict as TracePromise, UnveilVerdict as TraceUnveil, Direction as TraceDirection, Returned as TraceReturned, psig_word, wait_word, gone_word, for_kill, for_refusal, for_increase, no_entry, entry_lacks, table_locked, took, value_of, error_of, flags_text}
 use Rattle.pv_trace.specs.declared.line.PromiseVerdict.{PromiseVerdict}
 use Rattle.pv_trace.specs.declared.line.PromiseVerdict.TheVariants.{Killed, Refused, Increase}
 use Rattle.pv_trace.specs.declared.line.Returned.{Returned}

@@ -1,6 +1,7 @@
 //! Lines as values, and writing a line to a sink.
 ghost use Rattle.std.specs.Prelude.{◌≡◌, ◌++◌, ◌+◌, ◌≤◌, length};
-ghost use Rattle.pv_model.specs.Trace.{line, line_bytes};
+ghost use Rattle.pv_model.specs.Machine.{line};
+ghost use Rattle.pv_model.specs.Trace.{line_bytes};
 ghost use Rattle.pv_trace.specs.declared.line_buffer.TheConstants.{LINE_BYTES, LINE_BUFFER};
 ghost use Rattle.pv_streams.specs.Sinks.{Writes};
 ghost use Rattle.pv_trace.specs.Words.{word_of, HasFewBytes};

@@ -4,7 +4,8 @@
 ghost use Rattle.std.specs.Prelude.{◌≡◌, ◌++◌, ◌+◌, ◌*◌, ◌<◌, ◌≤◌, replicate, ◌∷◌, length, codes, decimal, flat_map, option_copied};
 ghost use Rattle.std.specs.Fmt.{signed_decimal};
 ghost use Rattle.pv_model.specs.declared.limits.TheConstants.{TEXT};
-ghost use Rattle.pv_model.specs.Trace.{quote, quote_byte, quote_or_null, hex, hex_byte, pad_left};
+ghost use Rattle.pv_model.specs.Machine.{quote, quote_byte, hex_byte};
+ghost use Rattle.pv_model.specs.Trace.{quote_or_null, hex, pad_left};
 ghost use Rattle.pv_trace.specs.Words.{permissions_bytes};
 
 use crate::fixed_buffer::FixedBuffer;

@@ -1,7 +1,7 @@
 //! Counting the bytes of a text that need no escape, eight at a time.
 ghost use Rattle.std.specs.Prelude.{◌≡◌, ◌<◌, ◌≤◌, false, not, length, take, get_or, position, flat_map};
 ghost use Rattle.std.specs.List.{list_all};
-ghost use Rattle.pv_model.specs.Trace.{is_plain as parses_as_itself, quote_byte};
+ghost use Rattle.pv_model.specs.Machine.{is_plain as parses_as_itself, quote_byte};
 
 // The number of bytes that are tested at once.
 const AT_ONCE: usize = 8;

@@ -1,8 +1,8 @@
 //! The lines of a step.
 ghost use Rattle.std.specs.Prelude.{◌≡◌, ◌++◌, ◌+◌, ◌*◌, ◌≤◌, [], ◌∷◌, length, take, map, IfOk};
 ghost use Rattle.pv_model.specs.declared.limits.TheConstants.{BUFFER};
-ghost use Rattle.pv_model.specs.CallRef.{call_of};
-ghost use Rattle.pv_model.specs.Trace.{trace_bytes, gone_lines};
+ghost use Rattle.pv_model.specs.Machine.{call_of, trace_bytes};
+ghost use Rattle.pv_model.specs.Trace.{gone_lines};
 ghost use Rattle.pv_trace.specs.Steps.{first_lines_of, path_line, path_lines_of, promise_lines_of, unveil_lines_of, moved_lines_of, end_lines_of, lines_by};
 ghost use Rattle.pv_streams.specs.Sinks.{Writes};
 ghost use Rattle.pv_trace.specs.declared.line_buffer.TheConstants.{LINE_BYTES, PATH_LINE_BYTES, SHORT_LINE_BYTES, LINE_BUFFER};

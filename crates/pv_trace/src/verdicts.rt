@@ -1,8 +1,8 @@
 //! The decisions about a call that a trace reports, as values.
 ghost use Rattle.std.specs.Prelude.{◌≡◌, ◌≤◌, length, take, IfSome, option_map};
 ghost use Rattle.pv_model.specs.declared.call.Call.{Call};
-ghost use Rattle.pv_model.specs.CallRef.{call_of};
-ghost use Rattle.pv_model.specs.Trace.{asked_permissions as permissions_asked, promise_words, unveil_words};
+ghost use Rattle.pv_model.specs.Machine.{call_of, promise_words, unveil_words};
+ghost use Rattle.pv_model.specs.Trace.{asked_permissions as permissions_asked};
 ghost use Rattle.pv_trace.specs.Steps.{refusal_verdict, moved_by};
 ghost use Rattle.pv_trace.specs.Reported.{promise_words_of, unveil_words_of, moved_words_of};
 ghost use Rattle.pv_trace.specs.Words.{promise_verdict_of};

@@ -1,10 +1,9 @@
 //! The line of each word, with its arguments.
 ghost use Rattle.std.specs.Prelude.{◌≡◌, ◌++◌, ◌+◌, ◌*◌, ◌≤◌, length, codes, decimal, None, Some};
 ghost use Rattle.pv_model.specs.declared.limits.TheConstants.{BUFFER};
-ghost use Rattle.pv_model.specs.CallRef.{call_of};
+ghost use Rattle.pv_model.specs.Machine.{call_of, promise_name, line, call_word, nami_word, pldg_word, unvl_word, gio_word, ret_word};
 ghost use Rattle.pv_model.specs.Errno.{errno_name};
-ghost use Rattle.pv_model.specs.Promise.{promise_name};
-ghost use Rattle.pv_model.specs.Trace.{line, line_bytes, call_word, nami_word, pldg_word, unvl_word, gio_word, ret_word, psig_word, wait_word, gone_word, value_of, error_of, promise_text, promise_verdict_text, unveil_verdict_text, direction_text, bytes_text};
+ghost use Rattle.pv_model.specs.Trace.{line_bytes, psig_word, wait_word, gone_word, value_of, error_of, promise_text, promise_verdict_text, unveil_verdict_text, direction_text, bytes_text};
 ghost use Rattle.pv_trace.specs.declared.line_buffer.TheConstants.{LINE_BYTES, PATH_LINE_BYTES, SHORT_LINE_BYTES, LINE_BUFFER};
 ghost use Rattle.pv_trace.specs.Words.{promise_verdict_of, unveil_verdict_of, direction_of, permissions_bytes, needed_text, errno_text};
 

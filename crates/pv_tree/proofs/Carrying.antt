@@ -1,9 +1,9 @@
 -- Carrying the stored data of a tree over to the next tree.
 use Rattle.std.proofs.Common.{◌≡◌, ℕ, ◌+◌, ◌-◌, ◌<◌, ◌≤◌, true, List, ◌++◌, length, take, drop, replicate, None, is_some, refl, sym, ◌∙◌}
 use Rattle.std.specs.Prelude.{slice_index}
-use Rattle.pv_model.specs.Tree.{Tree, node_at, is_directory_at, names_of, parent}
+use Rattle.pv_model.specs.Machine.{Tree, node_at, is_directory_at, names_of, parent}
 use Rattle.pv_laws_trees.specs.Encoded.{AllBytes}
-use Rattle.pv_laws_trees.specs.Tree.{IsSound}
+use Rattle.pv_laws_trees.specs.Tree.{IsSoundTree}
 use Rattle.pv_laws_trees.proofs.Trees.{well_formed}
 use Rattle.pv_tree.specs.Rooms.{refusal}
 use Rattle.pv_tree.specs.Present.{stored, IsCounted}
@@ -12,7 +12,7 @@ use Rattle.pv_tree.proofs.Rooms.{refusal-none}
 -- another tree of the same image with other stored numbers: the properties of the new numbers, and those of the old
 -- tree
 pub carried : (t u : Tree) (parents names holds : List ℕ) → IsCounted t parents names holds → (new_parents new_names new_holds : List ℕ)
-    → IsSound u → u.inodes ≡ t.inodes → refusal u ≡ None → AllBytes u
+    → IsSoundTree u → u.inodes ≡ t.inodes → refusal u ≡ None → AllBytes u
     → length new_parents ≡ length parents → length new_names ≡ length names → length new_holds ≡ length holds
     → ((n : ℕ) → 0 < slice_index new_holds n → is_some (node_at u n) ≡ true)
     → ((n : ℕ) → is_directory_at u n ≡ true → slice_index new_parents n ≡ stored (parent u n))

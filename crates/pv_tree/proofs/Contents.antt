@@ -5,26 +5,21 @@ use Rattle.std.specs.FinMap.Entries.{find}
 use Rattle.std.specs.Result.{is_err}
 use Rattle.std.proofs.lemmas.Bool.{cases_eq, cases_lt, lt-ltb}
 use Rattle.std.proofs.lemmas.List.{length-take, length-replicate}
-use Rattle.pv_inodes.specs.declared.space.Space.{Space}
-use Rattle.pv_inodes.specs.declared.space.Space.TheVariants.{Full, TooBig}
-use Rattle.pv_model.specs.Bytes.{Bytes}
-use Rattle.pv_model.specs.Calls.Descriptors.{with_content, with_content_of}
-use Rattle.pv_model.specs.Effect.{bytes_of, overwrite, resize}
-use Rattle.pv_model.specs.Room.{node_length, greatest_length, is_too_long}
-use Rattle.pv_model.specs.Sealed.{is_file}
-use Rattle.pv_model.specs.Tree.{Node, directory_node, file_node, link_node, Tree, node_at, entries_of, entries_at, is_directory, find_entry, with_node}
+use Rattle.pv_dirs.specs.OfInodes.declared.space.Space.{Space}
+use Rattle.pv_dirs.specs.OfInodes.declared.space.Space.TheVariants.{Full, TooBig}
+use Rattle.pv_model.specs.Machine.{Bytes, with_content, with_content_of, bytes_of, overwrite, resize, node_length, greatest_length, is_too_long, is_file, Node, directory_node, file_node, link_node, Tree, node_at, entries_of, entries_at, is_directory, find_entry, with_node}
 use Rattle.pv_dirs.specs.Trees.{written, cut, replaced, total_need, LacksRoom, bytes_of as content_of}
 use Rattle.pv_laws_trees.specs.Encoded.{are_bytes}
 use Rattle.pv_laws_trees.specs.Room.{IsNoLonger, IsNoLarger}
-use Rattle.pv_laws_trees.specs.Tree.{IsSound}
+use Rattle.pv_laws_trees.specs.Tree.{IsSoundTree}
 use Rattle.pv_laws_trees.proofs.Changes.{node_at-same, node_at-other}
 use Rattle.pv_laws_trees.proofs.Edits.{sound-content}
 use Rattle.pv_laws_trees.proofs.Entries.{by_name}
-use Rattle.pv_laws_trees.proofs.Encoded.{bytes-with_node, bytes-overwrite, bytes-resize}
+use Rattle.pv_laws_trees.proofs.TreeBytes.{bytes-with_node, bytes-overwrite, bytes-resize}
 use Rattle.pv_laws_trees.proofs.Numbered.{at_number-below, length-with_number}
 use Rattle.pv_laws_trees.proofs.Rooms.{too_long-at, length-within}
 use Rattle.pv_laws_trees.proofs.Trees.{sound, well_formed}
-use Rattle.pv_inodes.proofs.Bytes.{length-resize}
+use Rattle.pv_dirs.proofs.OfInodes.Bytes.{length-resize}
 use Rattle.pv_tree.specs.Changes.{overwritten, resized}
 use Rattle.pv_tree.specs.Rooms.{refusal}
 use Rattle.pv_tree.specs.Present.{stored, IsCounted, IsTied}
@@ -59,7 +54,7 @@ module _ (t : Tree) (parents names holds : List ℕ) (tied : IsTied t parents na
   c : IsCounted t parents names holds
   c = tied.counted
 
-  s : IsSound t
+  s : IsSoundTree t
   s = sound t c.well_formed
 
   abbrev v : Tree
@@ -89,8 +84,8 @@ module _ (t : Tree) (parents names holds : List ℕ) (tied : IsTied t parents na
   same-names : (n : ℕ) → name_count v n ≡ name_count t n
   same-names = names-same t v (length-with_number t.nodes f (file_node x new) within) same-entries
 
-  r : IsSound v
-  r = subst IsSound content-is (sound-content t s f new)
+  r : IsSoundTree v
+  r = subst IsSoundTree content-is (sound-content t s f new)
 
   pub content-tied : refusal v ≡ None → IsTied v parents names holds
   content-tied allowed =

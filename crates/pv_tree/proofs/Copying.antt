@@ -5,8 +5,7 @@ use Rattle.std.proofs.Math.ListN.{get_or-append}
 use Rattle.std.proofs.lemmas.Bool.{cases_eq}
 use Rattle.std.proofs.lemmas.Grind.{same_number_lists}
 use Rattle.std.proofs.lemmas.List.{get_or-drop, get_or-take, length-append, length-drop, length-take-le, take-append-drop}
-use Rattle.pv_model.specs.Bytes.{Bytes}
-use Rattle.pv_model.specs.Tree.{Tree, names_of, IsWellFormed}
+use Rattle.pv_model.specs.Machine.{Bytes, Tree, names_of, IsWellFormed}
 use Rattle.pv_laws_trees.proofs.Changes.{some-below, directory-below}
 use Rattle.pv_laws_trees.proofs.Members.{In, in-entry}
 use Rattle.pv_laws_trees.proofs.Trees.{ordered}

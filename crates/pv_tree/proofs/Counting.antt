@@ -4,21 +4,20 @@ use Rattle.std.specs.Prelude.{slice_index, slice_set}
 use Rattle.std.specs.FinMap.Entries.{find}
 use Rattle.std.proofs.lemmas.Bool.{cases_eq, cases_Bool, or_left, or_right, or_cases, lt-ltb}
 use Rattle.std.proofs.lemmas.List.{get_or-set_same, get_or-set_other, length-set}
-use Rattle.pv_model.specs.Held.{among}
-use Rattle.pv_model.specs.Tree.{Node, Tree, root, node_at, is_directory, is_directory_at, find_entry, entries_of, parent}
+use Rattle.pv_model.specs.Machine.{among, Node, Tree, root, node_at, is_directory, is_directory_at, find_entry, entries_of, parent}
 use Rattle.pv_dirs.specs.Trees.{without_node}
-use Rattle.pv_laws_trees.specs.Preserved.{wanted, preserved}
-use Rattle.pv_laws_trees.specs.Tree.{IsSound}
+use Rattle.pv_laws_trees.specs.Preserved.{numbers_wanted, preserved}
+use Rattle.pv_laws_trees.specs.Tree.{IsSoundTree}
 use Rattle.pv_laws_trees.proofs.Changes.{some-below, directory_is_some}
 use Rattle.pv_laws_trees.proofs.Entries.{by_name}
 use Rattle.pv_laws_trees.proofs.Numbered.{keep-some, keep-passes, length-keep}
 use Rattle.pv_laws_trees.proofs.Places.{parent-directory}
 use Rattle.pv_laws_trees.proofs.Trees.{ordered, sound, among-entry, parent-entry, parent-root}
-use Rattle.pv_laws_trees.proofs.Keeping.{only-sound, entries-only, find-only, wanted-covers, preserved_in_turn}
+use Rattle.pv_laws_trees.proofs.Collection.{only-sound, entries-only, find-only, wanted-covers, preserved_in_turn}
 use Rattle.pv_tree.specs.Changes.{settled}
 use Rattle.pv_tree.specs.Holding.{held_numbers, held_more, held_less, collected}
 use Rattle.pv_tree.specs.Present.{stored, IsCounted, IsTied}
-use Rattle.pv_laws_trees.proofs.Encoded.{bytes-preserved}
+use Rattle.pv_laws_trees.proofs.TreeBytes.{bytes-preserved}
 use Rattle.pv_tree.proofs.Carrying.{carried}
 use Rattle.pv_tree.proofs.Keeping.{is_preserved, wanted-counted, collected-all, collected-one, all-preserved}
 use Rattle.pv_laws_trees.proofs.NameCounts.{name_count, named-is, names-same, is_positive, positive-is, is-positive, none-positive}
@@ -68,10 +67,10 @@ some_at (Some node) is = (node, refl)
 preserved-directory : (t : Tree) (held : List ℕ) (n : ℕ) → is_directory_at (preserved t held) n ≡ true → is_directory_at t n ≡ true
 preserved-directory t held n is =
     let found = some_at (node_at (preserved t held) n) is in
-    ap is_directory ((keep-some (among (wanted t held)) t.nodes n found.0 found.1).1 ∙ sym found.1) ∙ is
+    ap is_directory ((keep-some (among (numbers_wanted t held)) t.nodes n found.0 found.1).1 ∙ sym found.1) ∙ is
 
 module _ (t : Tree) (parents names holds : List ℕ) (c : IsCounted t parents names holds) where
-  s : IsSound t
+  s : IsSoundTree t
   s = sound t c.well_formed
 
   -- the number of a node is within the arrays
@@ -94,16 +93,16 @@ module _ (t : Tree) (parents names holds : List ℕ) (c : IsCounted t parents na
       let held = held_numbers holds in
       let u : Tree = preserved t held in
       let covers = wanted-covers t held in
-      let r = only-sound t (wanted t held) s covers in
-      let same = find-only t (wanted t held) s covers in
+      let r = only-sound t (numbers_wanted t held) s covers in
+      let same = find-only t (numbers_wanted t held) s covers in
       record {
         counted = carried t u parents names holds c parents names holds r refl (collected-allowed t holds (refusal-fits t c.short c.fits)) (bytes-preserved t held c.bytes) refl refl refl
             (λ n more.
-            ap is_some (keep-passes (among (wanted t held)) t.nodes n (wanted-counted t holds n ∙ preserved-held n (name_count t n) (slice_index holds n) more)) ∙ c.held_are_nodes n more)
+            ap is_some (keep-passes (among (numbers_wanted t held)) t.nodes n (wanted-counted t holds n ∙ preserved-held n (name_count t n) (slice_index holds n) more)) ∙ c.held_are_nodes n more)
             (λ n is.
             c.parents_stored n (preserved-directory t held n is)
             ∙ ap stored (sym (parent-same t u s r n is (λ e q found. same e q ∙ found) (λ e q found. sym (same e q) ∙ found))))
-            (λ n. c.names_counted n ∙ sym (names-same t u (length-keep (among (wanted t held)) t.nodes) (entries-only t (wanted t held) s covers) n));
+            (λ n. c.names_counted n ∙ sym (names-same t u (length-keep (among (numbers_wanted t held)) t.nodes) (entries-only t (numbers_wanted t held) s covers) n));
         is_collected = preserved_in_turn t held held s (λ n is. is);
       }
 

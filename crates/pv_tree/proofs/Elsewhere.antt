@@ -1,13 +1,11 @@
 -- Lookups of names that a change does not affect.
 use Rattle.std.proofs.Common.{◌≡◌, ℕ, ◌<◌, ◌≤◌, true, [], ◌∷◌, List, length, None, is_some, Result, Ok, Err, refl, ap, ◌∙◌, arith}
 use Rattle.std.specs.Prelude.{OnOk, OnErr, IsSome}
-use Rattle.pv_inodes.specs.declared.space.Space.{Space}
+use Rattle.pv_dirs.specs.OfInodes.declared.space.Space.{Space}
 use Rattle.pv_model.specs.declared.kind.NewNode.{NewNode}
-use Rattle.pv_model.specs.Bytes.{Bytes}
-use Rattle.pv_model.specs.Effect.{bytes_of, overwrite, resize}
-use Rattle.pv_model.specs.Tree.{Tree, node_at, is_directory_at, find_entry, with_entry, without_entry, new_number, with_new_node, IsWellFormed}
+use Rattle.pv_model.specs.Machine.{Bytes, bytes_of, overwrite, resize, Tree, node_at, is_directory_at, find_entry, with_entry, without_entry, new_number, with_new_node, IsWellFormed}
 use Rattle.pv_laws_trees.specs.Found.{Alike, AlikeBut, AlikeButTwo}
-use Rattle.pv_laws_trees.proofs.Found.{alike-then, alike-without, alike-new, alike-moved, alike-preserved, alike-content}
+use Rattle.pv_laws_trees.proofs.Lookups.{alike-then, alike-without, alike-new, alike-moved, alike-preserved, alike-content}
 use Rattle.pv_tree.specs.Changes.{new_node, overwritten, resized}
 use Rattle.pv_tree.specs.Holding.{held_numbers, collected}
 use Rattle.pv_laws_trees.proofs.NewNodes.{new-entries, there-new, new-same}

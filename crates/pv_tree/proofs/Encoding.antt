@@ -3,11 +3,9 @@ use Rattle.std.proofs.Common.{◌≡◌, ℕ, ◌<◌, Bool, true, length, inl, 
 use Rattle.std.specs.Prelude.{slice_index}
 use Rattle.std.proofs.lemmas.Bool.{cases_lt}
 use Rattle.std.proofs.lemmas.List.{get_or_past}
-use Rattle.pv_model.specs.Bytes.{Bytes}
-use Rattle.pv_model.specs.Image.{IsImageOf}
-use Rattle.pv_model.specs.Tree.{Tree}
+use Rattle.pv_model.specs.Machine.{Bytes, IsImageOf, Tree}
 use Rattle.pv_laws_trees.specs.Encoded.{are_bytes, AllBytes}
-use Rattle.pv_laws_trees.proofs.Encoded.{bytes-all}
+use Rattle.pv_laws_trees.proofs.TreeBytes.{bytes-all}
 use Rattle.pv_laws_trees.proofs.ImageBytes.{node-bytes}
 use Rattle.pv_tree.proofs.Gathering.{node_inode}
 

@@ -3,8 +3,7 @@ use Rattle.std.proofs.Common.{◌≡◌, ℕ, suc, ◌+◌, true, cond, length, 
 use Rattle.std.specs.FinMap.Entries.{find, put, where_key, is_sorted, same_entries, is_sorted-put, is_sorted-where_key, length-put}
 use Rattle.std.specs.Ordering.{is_eq}
 use Rattle.std.proofs.lemmas.Cmp.{nat_list_cmp_total}
-use Rattle.pv_model.specs.Bytes.{Bytes}
-use Rattle.pv_model.specs.Tree.{Entries}
+use Rattle.pv_model.specs.Machine.{Bytes, Entries}
 pub use Rattle.pv_dirs.specs.Counts.{count_in}
 pub use Rattle.pv_dirs.proofs.Counts.{one_if, count-cons, count-put, count-most}
 use Rattle.pv_laws_trees.proofs.Changes.{cases_name}

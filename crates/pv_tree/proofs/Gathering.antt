@@ -3,18 +3,15 @@ use Rattle.std.proofs.Common.{◌≡◌, ℕ, zero, suc, ◌+◌, ◌*◌, ◌<�
 use Rattle.std.specs.Prelude.{slice_index, slice_set}
 use Rattle.std.specs.List.{list_any}
 use Rattle.std.proofs.lemmas.Bool.{cases_eq, cases_lt, eq-eqb, ne_eqb, lt-ltb, le-ltb, or_left, or_right}
-use Rattle.pv_model.specs.Bytes.{Bytes}
-use Rattle.pv_model.specs.Image.{IsImageOf, Holds, HoldsAny}
-use Rattle.pv_model.specs.Numbered.{Numbered, at_number, present}
-use Rattle.pv_model.specs.Room.{node_length, greatest_length, is_too_long}
-use Rattle.pv_model.specs.Tree.{Entries, Node, directory_node, file_node, link_node, Tree, root, node_at, entries_of, entries_at, is_directory, is_directory_at, names_node, names_of, parent}
+use Rattle.pv_model.specs.Machine.{Bytes, IsImageOf, Holds, HoldsAny, Numbered, at_number, present, node_length, greatest_length, is_too_long, Entries, Node, directory_node, file_node, link_node, Tree, root, node_at, entries_of, entries_at, is_directory, is_directory_at, names_of, parent}
+use Rattle.pv_model.specs.Tree.{names_node}
 use Rattle.pv_dirs.specs.Counts.{count_in}
 use Rattle.pv_dirs.specs.Trees.{total_need}
 use Rattle.pv_dirs.proofs.Counts.{count-cons, one_if}
 use Rattle.pv_laws_trees.specs.Preserved.{EachIsNamed}
 use Rattle.pv_laws_trees.specs.Encoded.{AllBytes}
 use Rattle.pv_laws_trees.proofs.Entries.{by_name, names_node-find}
-use Rattle.pv_laws_trees.proofs.Keeping.{preserved_all}
+use Rattle.pv_laws_trees.proofs.Collection.{preserved_all}
 use Rattle.pv_laws_trees.proofs.Trees.{sound, ordered, entry-among, entry-parent, parent-unnamed, parent-root}
 use Rattle.pv_tree.specs.Holding.{held_numbers}
 use Rattle.pv_tree.specs.Present.{stored, IsTied}

@@ -2,13 +2,11 @@
 use Rattle.std.proofs.Common.{◌≡◌, ◌≢◌, ℕ, zero, suc, Bool, true, false, ◌||◌, ◌==◌, List, Option, None, Some, is_some, refl, ap, ap₂, sym, ◌∙◌, arith, ⊎_elim}
 use Rattle.std.specs.Prelude.{slice_index}
 use Rattle.std.proofs.lemmas.Bool.{ne_eqb, cases_eq}
-use Rattle.pv_model.specs.Held.{among}
-use Rattle.pv_model.specs.Numbered.{Numbered, at_number, without_number, keep, keep_if}
-use Rattle.pv_model.specs.Tree.{Node, Tree, root, node_at}
+use Rattle.pv_model.specs.Machine.{among, Numbered, at_number, without_number, keep, keep_if, Node, Tree, root, node_at}
 use Rattle.pv_dirs.specs.Trees.{without_node}
-use Rattle.pv_laws_trees.specs.Preserved.{EachIsNamed, wanted}
+use Rattle.pv_laws_trees.specs.Preserved.{EachIsNamed, numbers_wanted}
 use Rattle.pv_laws_trees.proofs.Numbered.{same_numbered, at_number-keep, keep-passes, keep-fails, length-keep, length-without_number, without_number-same, without_number-other}
-use Rattle.pv_laws_trees.proofs.Keeping.{only_nodes_all, all_only_nodes, wanted-is}
+use Rattle.pv_laws_trees.proofs.Collection.{only_nodes_all, all_only_nodes, wanted-is}
 use Rattle.pv_laws_trees.proofs.NameCounts.{name_count, named-is, is_positive}
 use Rattle.pv_laws_trees.proofs.ReferenceCounts.{held-is}
 use Rattle.pv_tree.specs.Holding.{held_numbers, IsUnheld, collected}
@@ -19,18 +17,18 @@ use Rattle.pv_tree.specs.Holding.{held_numbers, IsUnheld, collected}
 abbrev pub is_preserved : ℕ → ℕ → ℕ → Bool
 is_preserved n names holds = (root == n) || (is_positive names || is_positive holds)
 
-pub wanted-counted : (t : Tree) (holds : List ℕ) (n : ℕ) → among (wanted t (held_numbers holds)) n ≡ is_preserved n (name_count t n) (slice_index holds n)
+pub wanted-counted : (t : Tree) (holds : List ℕ) (n : ℕ) → among (numbers_wanted t (held_numbers holds)) n ≡ is_preserved n (name_count t n) (slice_index holds n)
 wanted-counted t holds n =
     wanted-is t (held_numbers holds) n ∙ ap₂ (λ a b. (root == n) || (a || b)) (named-is t n) (held-is holds n)
 
 -- if each node is kept, none is removed
 pub collected-all : (t : Tree) (holds : List ℕ) → ((n : ℕ) → is_some (node_at t n) ≡ true → is_preserved n (name_count t n) (slice_index holds n) ≡ true) → collected t holds ≡ t
 collected-all t holds each =
-    only_nodes_all t (wanted t (held_numbers holds)) (λ n node at. wanted-counted t holds n ∙ each n (ap is_some at))
+    only_nodes_all t (numbers_wanted t (held_numbers holds)) (λ n node at. wanted-counted t holds n ∙ each n (ap is_some at))
 
 -- if none is removed, each node is kept
 pub all-preserved : (t : Tree) (holds : List ℕ) → collected t holds ≡ t → (n : ℕ) → is_some (node_at t n) ≡ true → is_preserved n (name_count t n) (slice_index holds n) ≡ true
-all-preserved t holds same n is = sym (wanted-counted t holds n) ∙ all_only_nodes t (wanted t (held_numbers holds)) same n is
+all-preserved t holds same n is = sym (wanted-counted t holds n) ∙ all_only_nodes t (numbers_wanted t (held_numbers holds)) same n is
 
 -- if also nothing is referenced, each node except the root has a name
 pub unheld-named : (t : Tree) (holds : List ℕ) → collected t holds ≡ t → IsUnheld holds → EachIsNamed t
@@ -57,7 +55,7 @@ keep-there test xs m passes = by (at_number xs m) refl
 pub collected-one : (t : Tree) (holds : List ℕ) (n : ℕ) → is_preserved n (name_count t n) (slice_index holds n) ≡ false
     → ((m : ℕ) → m ≢ n → is_some (node_at t m) ≡ true → is_preserved m (name_count t m) (slice_index holds m) ≡ true) → collected t holds ≡ without_node t n
 collected-one t holds n out others =
-    let test = among (wanted t (held_numbers holds)) in
+    let test = among (numbers_wanted t (held_numbers holds)) in
     ap (λ nodes. record t { nodes = nodes })
     (same_numbered (keep test t.nodes) (without_number t.nodes n) (length-keep test t.nodes ∙ sym (length-without_number t.nodes n))
     (λ m. ⊎_elim

@@ -1,9 +1,8 @@
 -- The least name of a node.
 use Rattle.std.proofs.Common.{◌≡◌, ◌≢◌, ℕ, true, false, List, [], ◌∷◌, None, Some, refl, ap, ap₂, sym, ◌∙◌}
 use Rattle.std.specs.Prelude.{IsTrue}
-use Rattle.pv_model.specs.Answers.Nodes.{first_of, least_name}
-use Rattle.pv_model.specs.Bytes.{Bytes}
-use Rattle.pv_model.specs.Tree.{Tree, root, find_entry, is_directory_at, names_of, parent, IsWellFormed}
+use Rattle.pv_model.specs.Machine.{first_of, Bytes, Tree, root, find_entry, is_directory_at, names_of, parent, IsWellFormed}
+use Rattle.pv_model.specs.Answers.Nodes.{least_name}
 use Rattle.pv_laws_trees.proofs.Trees.{ordered, sound, parent-entry, parent-none_named}
 use Rattle.pv_dirs.specs.Listing.{IsNextNameOf}
 use Rattle.pv_tree.specs.NodeNames.{is_after, first_after}

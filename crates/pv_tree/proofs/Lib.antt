@@ -32,3 +32,5 @@ pub mod NextOnes
 pub mod LeastNames
 pub mod Lending
 pub mod Copying
+pub use Rattle.pv_dirs.proofs as OfDirs
+pub use Rattle.pv_laws_trees.proofs as OfLawsTrees

@@ -2,7 +2,7 @@
 use Rattle.std.proofs.Common.{ℕ, suc, ◌*◌, ◌<◌, ◌≤◌, arith}
 use Rattle.pv_model.specs.declared.version.Version.{Version}
 use Rattle.pv_model.specs.declared.version.Version.TheVariants.{V1, V2}
-use Rattle.pv_model.specs.Room.{entry_length, greatest_entries, greatest_length}
+use Rattle.pv_model.specs.Machine.{entry_length, greatest_entries, greatest_length}
 
 -- a directory has room for one more entry
 pub entries_allowed : (v : Version) (n : ℕ) → n < greatest_entries v → entry_length v * suc n ≤ greatest_length v

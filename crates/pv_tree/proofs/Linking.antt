@@ -3,16 +3,14 @@ use Rattle.std.proofs.Common.{◌≡◌, ◌≢◌, ℕ, ◌+◌, ◌-◌, ◌^�
 use Rattle.std.specs.Prelude.{slice_index, slice_set}
 use Rattle.std.proofs.lemmas.Bool.{cases_eq, eq-eqb, ne_eqb}
 use Rattle.std.proofs.lemmas.List.{length-set}
-use Rattle.pv_model.specs.Bytes.{Bytes}
-use Rattle.pv_model.specs.Calls.Paths.{entries_there}
-use Rattle.pv_model.specs.Tree.{Tree, root, node_at, entries_at, is_directory_at, find_entry, parent, with_entry, without_entry, is_name}
+use Rattle.pv_model.specs.Machine.{Bytes, entries_there, Tree, root, node_at, entries_at, is_directory_at, find_entry, parent, with_entry, without_entry, is_name}
 use Rattle.pv_laws_trees.specs.Encoded.{are_bytes}
-use Rattle.pv_laws_trees.specs.Tree.{IsSound, Appears}
-use Rattle.pv_laws_trees.proofs.Above.{appears-reached}
+use Rattle.pv_laws_trees.specs.Tree.{IsSoundTree, Appears}
+use Rattle.pv_laws_trees.proofs.Ancestors.{appears-reached}
 use Rattle.pv_laws_trees.proofs.Changes.{SameShape, shape-with_entry, shape-without_entry, has_entry-directory, with_entry-cases, with_entry-stays, without_entry-was, without_entry-stays}
 use Rattle.pv_laws_trees.proofs.Edits.{sound-with_entry, sound-without_entry}
 use Rattle.pv_laws_trees.proofs.Rooms.{no_larger-without}
-use Rattle.pv_laws_trees.proofs.Encoded.{bytes-with_entry, bytes-without_entry}
+use Rattle.pv_laws_trees.proofs.TreeBytes.{bytes-with_entry, bytes-without_entry}
 use Rattle.pv_laws_trees.proofs.Trees.{ordered, sound, parent-unnamed}
 use Rattle.pv_tree.specs.Changes.{settled}
 use Rattle.pv_tree.specs.Holding.{collected}
@@ -51,13 +49,13 @@ module _ (t : Tree) (parents names holds : List ℕ) (tied : IsTied t parents na
   cl : IsCounted t parents names holds
   cl = tied.counted
 
-  sl : IsSound t
+  sl : IsSoundTree t
   sl = sound t cl.well_formed
 
   shape : SameShape t u
   shape = shape-with_entry t d name n appears.0 sl.each_node good
 
-  r : IsSound u
+  r : IsSoundTree u
   r = sound-with_entry t sl d name n appears.0 (appears-reached t sl d appears.1) free good there
       (λ top. let is = sl.root_is_directory in let isnt : is_directory_at t root ≡ false = ap (is_directory_at t) (sym top) ∙ plain in cc) (λ is. cc)
 
@@ -112,7 +110,7 @@ module _ (t : Tree) (parents names holds : List ℕ) (tied : IsTied t parents na
   cu : IsCounted t parents names holds
   cu = tied.counted
 
-  su : IsSound t
+  su : IsSoundTree t
   su = sound t cu.well_formed
 
   dir : is_directory_at t d ≡ true
@@ -121,7 +119,7 @@ module _ (t : Tree) (parents names holds : List ℕ) (tied : IsTied t parents na
   shape-less : SameShape t w
   shape-less = shape-without_entry t d name dir su.each_node
 
-  ru : IsSound w
+  ru : IsSoundTree w
   ru = sound-without_entry t su d name n found empty
 
   place : n < 4097

@@ -5,15 +5,14 @@ use Rattle.std.specs.FinMap.Entries.{find, put}
 use Rattle.std.proofs.lemmas.Bool.{cases_eq}
 use Rattle.std.proofs.lemmas.List.{length-set}
 use Rattle.pv_model.specs.declared.kind.NewNode.{NewNode}
-use Rattle.pv_model.specs.Bytes.{Bytes}
-use Rattle.pv_model.specs.Tree.{Node, directory_node, Tree, node_at, entries_at, is_directory, is_directory_at, find_entry, parent, with_node, with_entry, new_number, is_name, is_node}
+use Rattle.pv_model.specs.Machine.{Bytes, Node, directory_node, Tree, node_at, entries_at, is_directory, is_directory_at, find_entry, parent, with_node, with_entry, new_number, is_name, is_node}
 use Rattle.pv_laws_trees.specs.Encoded.{are_bytes, has_bytes}
-use Rattle.pv_laws_trees.specs.Tree.{IsSound, Appears}
-use Rattle.pv_laws_trees.proofs.Above.{appears-reached}
+use Rattle.pv_laws_trees.specs.Tree.{IsSoundTree, Appears}
+use Rattle.pv_laws_trees.proofs.Ancestors.{appears-reached}
 use Rattle.pv_laws_trees.proofs.Changes.{directory-below, node_at-other, with_entry-cases, with_entry-stays, found-with, still-there, directory_is_some}
 use Rattle.pv_laws_trees.proofs.Edits.{new_number-free, sound-with_new_node}
 use Rattle.pv_laws_trees.proofs.Entries.{by_name}
-use Rattle.pv_laws_trees.proofs.Encoded.{bytes-with_node, bytes-with_entry}
+use Rattle.pv_laws_trees.proofs.TreeBytes.{bytes-with_node, bytes-with_entry}
 use Rattle.pv_laws_trees.proofs.Numbered.{length-with_number}
 use Rattle.pv_laws_trees.proofs.Trees.{sound, entry-parent}
 use Rattle.pv_tree.specs.Changes.{new_node}
@@ -35,7 +34,7 @@ module _ (t : Tree) (parents names holds : List ℕ) (tied : IsTied t parents na
   c : IsCounted t parents names holds
   c = tied.counted
 
-  s : IsSound t
+  s : IsSoundTree t
   s = sound t c.well_formed
 
   abbrev m : ℕ
@@ -62,7 +61,7 @@ module _ (t : Tree) (parents names holds : List ℕ) (tied : IsTied t parents na
   same-found : (e : ℕ) (q : Bytes) → find_entry t1 e q ≡ find_entry t e q
   same-found e q = ap (find by_name q) (same-entries e)
 
-  r : IsSound u
+  r : IsSoundTree u
   r = sound-with_new_node t s d name node appears.0 (appears-reached t s d appears.1) free good fine (new-entries k) below
 
   below-one : d < length t1.nodes

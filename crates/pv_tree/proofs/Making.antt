@@ -4,17 +4,13 @@ use Rattle.std.specs.Prelude.{OnOk, OnErr, option_map}
 use Rattle.std.specs.Result.{is_err}
 use Rattle.std.specs.FinMap.Entries.{find, put, is_sorted}
 use Rattle.std.proofs.lemmas.Bool.{and_parts, leb-true, cases_eq, cases_lt, cases_Bool}
-use Rattle.pv_inodes.specs.declared.space.Space.{Space}
-use Rattle.pv_inodes.specs.declared.space.Space.TheVariants.{Full, TooBig}
-use Rattle.pv_inodes.proofs.Numbers.{with_number-itself, without_number-with_number}
+use Rattle.pv_dirs.specs.OfInodes.declared.space.Space.{Space}
+use Rattle.pv_dirs.specs.OfInodes.declared.space.Space.TheVariants.{Full, TooBig}
+use Rattle.pv_dirs.proofs.OfInodes.Numbers.{with_number-itself, without_number-with_number}
 use Rattle.pv_model.specs.declared.kind.NewNode.{NewNode}
 use Rattle.pv_model.specs.declared.kind.NewNode.TheVariants.{Directory, File, Executable, Symlink}
 use Rattle.pv_model.specs.declared.version.Version.{Version}
-use Rattle.pv_model.specs.Bytes.{Bytes, is_empty}
-use Rattle.pv_model.specs.Effect.{overwrite, size_of}
-use Rattle.pv_model.specs.Numbered.{Numbered, at_number, with_number, without_number}
-use Rattle.pv_model.specs.Room.{node_length, greatest_entries, greatest_length, is_too_long, fits}
-use Rattle.pv_model.specs.Tree.{Node, directory_node, file_node, link_node, Tree, node_at, entries_of, entries_at, is_directory, is_directory_at, find_entry, with_node, with_entry, with_new_node, new_number, is_node, is_link_text, IsWellFormed}
+use Rattle.pv_model.specs.Machine.{Bytes, is_empty, overwrite, size_of, Numbered, at_number, with_number, without_number, node_length, greatest_entries, greatest_length, is_too_long, fits, Node, directory_node, file_node, link_node, Tree, node_at, entries_of, entries_at, is_directory, is_directory_at, find_entry, with_node, with_entry, with_new_node, new_number, is_node, is_link_text, IsWellFormed}
 use Rattle.pv_dirs.specs.Trees.{new_node as empty_node, written, replaced, bytes_of, without_node, LacksRoom}
 use Rattle.pv_laws_trees.specs.Encoded.{has_bytes}
 use Rattle.pv_laws_trees.proofs.Changes.{directory-below, node_at-same, still-there}

@@ -5,20 +5,17 @@ use Rattle.std.specs.FinMap.Entries.{put, where_key, is_sorted, length-put}
 use Rattle.std.proofs.lemmas.Bool.{cases_eq}
 use Rattle.std.proofs.lemmas.Cmp.{nat_list_cmp_total}
 use Rattle.std.proofs.lemmas.List.{length-set}
-use Rattle.pv_inodes.specs.declared.space.Space.{Space}
-use Rattle.pv_model.specs.Bytes.{Bytes}
-use Rattle.pv_model.specs.Calls.Paths.{contains_directory, entries_there}
-use Rattle.pv_model.specs.Room.{entry_length, fits}
-use Rattle.pv_model.specs.Tree.{Entries, Node, directory_node, file_node, link_node, Tree, node_at, entries_of, entries_at, is_directory, is_directory_at, find_entry, parent, with_node, with_entry, without_entry, is_name, is_node, IsWellFormed}
+use Rattle.pv_dirs.specs.OfInodes.declared.space.Space.{Space}
+use Rattle.pv_model.specs.Machine.{Bytes, contains_directory, entries_there, entry_length, fits, Entries, Node, directory_node, file_node, link_node, Tree, node_at, entries_of, entries_at, is_directory, is_directory_at, find_entry, parent, with_node, with_entry, without_entry, is_name, is_node, IsWellFormed}
 use Rattle.pv_laws_trees.specs.Room.{IsNoLonger, IsNoLarger}
 use Rattle.pv_laws_trees.specs.Encoded.{are_bytes, AllBytes}
-use Rattle.pv_laws_trees.specs.Tree.{IsSound, Appears}
-use Rattle.pv_laws_trees.proofs.Above.{not_contained}
+use Rattle.pv_laws_trees.specs.Tree.{IsSoundTree, Appears}
+use Rattle.pv_laws_trees.proofs.Ancestors.{not_contained}
 use Rattle.pv_laws_trees.proofs.Changes.{SameShape, shape-along, shape-with_entry, shape-without_entry, directory-below, node_at-same, node_at-other, has_entry-directory, entries-with_node, entries-good, found-with, found-without, with_entry-cases, with_entry-stays, without_entry-was, without_entry-stays}
 use Rattle.pv_laws_trees.proofs.Edits.{sound-moved}
 use Rattle.pv_laws_trees.proofs.Entries.{by_name, is_other, find-list_all, report}
 use Rattle.pv_laws_trees.proofs.Rooms.{no_larger-without}
-use Rattle.pv_laws_trees.proofs.Encoded.{bytes-with_entry, bytes-without_entry}
+use Rattle.pv_laws_trees.proofs.TreeBytes.{bytes-with_entry, bytes-without_entry}
 use Rattle.pv_laws_trees.proofs.Trees.{ordered, sound, entry-parent, parent-unnamed}
 use Rattle.pv_tree.specs.Changes.{moved, moved_node, settled}
 use Rattle.pv_tree.specs.Holding.{collected}
@@ -279,7 +276,7 @@ module _ (t : Tree) (parents names holds : List ℕ) (tied : IsTied t parents na
   c : IsCounted t parents names holds
   c = tied.counted
 
-  s : IsSound t
+  s : IsSoundTree t
   s = sound t c.well_formed
 
   abbrev b : Tree
@@ -300,7 +297,7 @@ module _ (t : Tree) (parents names holds : List ℕ) (tied : IsTied t parents na
   shape-u : SameShape t u
   shape-u = shape-along t b u shape-b (shape-with_entry b e other n into shape-b.each_node good)
 
-  r : IsSound u
+  r : IsSoundTree u
   r = sound-moved t s d name e other n found appears.0 good (not_contained t s n e appears.0 appears.1 clear) apart (λ m has. ap (entries_there t) (sym has) ∙ empty)
 
   sorted-b : (x : ℕ) → is_sorted by_name (entries_at b x) ≡ true

@@ -2,9 +2,7 @@
 use Rattle.std.proofs.Common.{◌≡◌, ℕ, zero, suc, ◌+◌, ◌<◌, true, ◌==◌, [], ◌∷◌, filter, length, None, Some, arith}
 use Rattle.std.specs.FinMap.Entries.{put, where_key}
 use Rattle.std.proofs.lemmas.List.{length-map}
-use Rattle.pv_model.specs.Bytes.{Bytes}
-use Rattle.pv_model.specs.Numbered.{Numbered, at_number, with_number}
-use Rattle.pv_model.specs.Tree.{Entries, Node, directory_node, Tree, entries_of, entries_at, is_directory_at, find_entry, names_in, with_node, with_entry, without_entry}
+use Rattle.pv_model.specs.Machine.{Bytes, Numbered, at_number, with_number, Entries, Node, directory_node, Tree, entries_of, entries_at, is_directory_at, find_entry, names_in, with_node, with_entry, without_entry}
 use Rattle.pv_laws_trees.proofs.Changes.{directory-below}
 use Rattle.pv_laws_trees.proofs.Entries.{by_name, is_other}
 use Rattle.pv_laws_trees.proofs.NameCounts.{name_count, names_of_nodes, names-cons}

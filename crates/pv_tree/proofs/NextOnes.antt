@@ -1,9 +1,7 @@
 -- From one name to the next, from directory to directory.
 use Rattle.std.proofs.Common.{◌≡◌, ℕ, ◌+◌, ◌<◌, ◌≤◌, true, false, length, Option, None, Some, refl, ap, sym, subst, ◌∙◌, ◌⊎◌, ⊎_elim, inl, inr, arith}
 use Rattle.std.proofs.lemmas.Bool.{cases_lt, false_from_ne_true, cases_Bool}
-use Rattle.pv_model.specs.Bytes.{Bytes}
-use Rattle.pv_model.specs.Calls.Descriptors.{is_past}
-use Rattle.pv_model.specs.Tree.{Tree, find_entry, is_directory_at}
+use Rattle.pv_model.specs.Machine.{Bytes, is_past, Tree, find_entry, is_directory_at}
 use Rattle.pv_laws_trees.proofs.Changes.{has_entry-directory, directory-below}
 use Rattle.pv_dirs.specs.Listing.{IsNextNameOf}
 use Rattle.pv_tree.specs.NodeNames.{is_after, IsNextNameOfNode}

@@ -3,14 +3,13 @@ use Rattle.std.proofs.Common.{◌≡◌, ◌≢◌, ℕ, suc, ◌+◌, Bool, tru
 use Rattle.std.specs.Prelude.{option_to_list}
 use Rattle.std.specs.List.{list_any}
 use Rattle.std.proofs.lemmas.Bool.{cases_eq, eq-eqb, ne_eqb, or_left}
-use Rattle.pv_model.specs.Calls.Paths.{contains_directory}
-use Rattle.pv_model.specs.Bytes.{Bytes}
-use Rattle.pv_model.specs.Tree.{Tree, root, is_directory_at, find_entry, parent, ancestors_within, ancestors}
-use Rattle.pv_laws_trees.specs.Tree.{IsSound}
+use Rattle.pv_model.specs.Machine.{contains_directory, Bytes, Tree, root, is_directory_at, find_entry, parent, ancestors}
+use Rattle.pv_model.specs.Tree.{ancestors_within}
+use Rattle.pv_laws_trees.specs.Tree.{IsSoundTree}
 use Rattle.pv_laws_trees.proofs.Trees.{ordered, parent-entry, parent-none_named, parent-unnamed, parent-root, entry-parent}
 
 -- if the entry of a directory does not change, its parent does not either
-pub parent-same : (t u : Tree) → IsSound t → IsSound u → (n : ℕ) → is_directory_at u n ≡ true
+pub parent-same : (t u : Tree) → IsSoundTree t → IsSoundTree u → (n : ℕ) → is_directory_at u n ≡ true
     → ((e : ℕ) (q : Bytes) → find_entry t e q ≡ Some n → find_entry u e q ≡ Some n)
     → ((e : ℕ) (q : Bytes) → find_entry u e q ≡ Some n → find_entry t e q ≡ Some n)
     → parent u n ≡ parent t n

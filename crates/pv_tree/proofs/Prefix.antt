@@ -5,13 +5,10 @@ use Rattle.std.specs.FinMap.Entries.{find}
 use Rattle.std.proofs.lemmas.Bool.{le-leb}
 use Rattle.pv_model.specs.declared.version.Version.{Version}
 use Rattle.pv_model.specs.declared.version.Version.TheVariants.{V1, V2}
-use Rattle.pv_model.specs.Bytes.{Bytes}
-use Rattle.pv_model.specs.Numbered.{Numbered, with_number}
-use Rattle.pv_model.specs.Room.{need, is_too_long, fits}
-use Rattle.pv_model.specs.Tree.{Node, directory_node, Tree, root, node_at, find_entry, names_of, parent, with_node, new_number, is_node}
+use Rattle.pv_model.specs.Machine.{Bytes, Numbered, with_number, need, is_too_long, fits, Node, directory_node, Tree, root, node_at, find_entry, names_of, parent, with_node, new_number, is_node}
 use Rattle.pv_laws_trees.specs.Encoded.{has_bytes}
-use Rattle.pv_laws_trees.proofs.Empty.{free-at, only-root, no-entries, none-present, none-numbered, length-free}
-use Rattle.pv_laws_trees.specs.Tree.{IsSound}
+use Rattle.pv_laws_trees.proofs.EmptyTrees.{free-at, only-root, no-entries, none-present, none-numbered, length-free}
+use Rattle.pv_laws_trees.specs.Tree.{IsSoundTree}
 use Rattle.pv_laws_trees.proofs.Entries.{by_name}
 use Rattle.pv_laws_trees.proofs.Trees.{well_formed, parent-root}
 use Rattle.pv_laws_trees.proofs.Changes.{directory_is_some}
@@ -41,7 +38,7 @@ module _ (v : Version) (blocks inodes : ℕ) (some : 1 ≤ inodes) where
   nothing-found : {P : Type 0} (d : ℕ) (name : Bytes) (n : ℕ) → find_entry t d name ≡ Some n → P
   nothing-found d name n found = let none : find_entry t d name ≡ None = ap (find by_name name) (no-entries blocks inodes some d) in cc
 
-  sound-root : IsSound t
+  sound-root : IsSoundTree t
   sound-root = record {
     numbers = omega (arith, length-free (inodes - 1));
     no_zero = λ n node is zero_n. let top = (only-root blocks inodes some n node is).0 in absurd (omega arith);

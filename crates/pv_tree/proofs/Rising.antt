@@ -9,10 +9,7 @@ use Rattle.std.specs.declared.cmp.Ordering.TheVariants.{Less, Equal, Greater}
 use Rattle.std.proofs.lemmas.Bool.{and_parts, and_from, or_cases, or_left, or_right, eqb-true, eq-eqb, lt-ltb, ltb-true, ltb-false, false_from_ne_true}
 use Rattle.std.proofs.lemmas.Cmp.{nat_list_cmp_total}
 use Rattle.std.proofs.lemmas.List.Folds.{list_all-append}
-use Rattle.pv_model.specs.Bytes.{Bytes}
-use Rattle.pv_model.specs.Calls.Descriptors.{is_past}
-use Rattle.pv_model.specs.Numbered.{Numbered, at_number, numbered_from}
-use Rattle.pv_model.specs.Tree.{Entries, Node, Tree, entries_of, names_in, names_of}
+use Rattle.pv_model.specs.Machine.{Bytes, is_past, Numbered, at_number, numbered_from, Entries, Node, Tree, entries_of, names_in, names_of}
 use Rattle.pv_laws_trees.proofs.Entries.{by_name, tied-same}
 use Rattle.pv_laws_trees.proofs.Trees.{IsOrdered}
 use Rattle.pv_laws_trees.proofs.NameCounts.{names_of_nodes}

@@ -4,13 +4,10 @@ use Rattle.std.specs.Prelude.{OnOk, IfErr}
 use Rattle.std.specs.FinMap.Entries.{put, is_sorted}
 use Rattle.std.specs.List.{list_any}
 use Rattle.std.proofs.lemmas.Bool.{and_parts, and_from, or_parts, cases_eq, cases_lt, cases_Bool, lt-ltb, le-ltb, lt-leb, le-leb, leb-true, and_right, or_from}
-use Rattle.pv_inodes.specs.declared.space.Space.{Space}
-use Rattle.pv_inodes.specs.declared.space.Space.TheVariants.{Full, TooBig}
+use Rattle.pv_dirs.specs.OfInodes.declared.space.Space.{Space}
+use Rattle.pv_dirs.specs.OfInodes.declared.space.Space.TheVariants.{Full, TooBig}
 use Rattle.pv_model.specs.declared.version.Version.{Version}
-use Rattle.pv_model.specs.Bytes.{Bytes}
-use Rattle.pv_model.specs.Numbered.{Numbered, with_number, present}
-use Rattle.pv_model.specs.Room.{entry_length, node_length, greatest_entries, greatest_length, is_too_long, fits}
-use Rattle.pv_model.specs.Tree.{Entries, Node, directory_node, file_node, link_node, Tree, node_at, entries_of, entries_at, is_directory, is_directory_at, find_entry, with_node, with_entry, IsWellFormed}
+use Rattle.pv_model.specs.Machine.{Bytes, Numbered, with_number, present, entry_length, node_length, greatest_entries, greatest_length, is_too_long, fits, Entries, Node, directory_node, file_node, link_node, Tree, node_at, entries_of, entries_at, is_directory, is_directory_at, find_entry, with_node, with_entry, IsWellFormed}
 use Rattle.pv_dirs.specs.Trees.{total_need, LacksRoom, grown_length}
 use Rattle.pv_laws_trees.proofs.Changes.{directory-below, node_at-same, node_at-other}
 use Rattle.pv_laws_trees.proofs.Entries.{by_name}

@@ -1,11 +1,7 @@
 -- Changes of a tree by calls.
 use Rattle.std.specs.Prelude.{◌≡◌, ◌≢◌, ℕ, [], ◌∷◌, ◌||◌, ◌==◌, if◌then◌else◌, nat_lt, IsTrue, Option, None, Some, IsSome}
 use Rattle.pv_model.specs.declared.version.Version.{Version}
-use Rattle.pv_model.specs.Bytes.{Bytes}
-use Rattle.pv_model.specs.Calls.Descriptors.{with_content}
-use Rattle.pv_model.specs.Effect.{bytes_of, overwrite, resize}
-use Rattle.pv_model.specs.Manifest.{empty_tree}
-use Rattle.pv_model.specs.Tree.{Tree, root, node_at, find_entry, is_directory_at, is_name, with_entry, without_entry}
+use Rattle.pv_model.specs.Machine.{Bytes, with_content, bytes_of, overwrite, resize, empty_tree, Tree, root, node_at, find_entry, is_directory_at, is_name, with_entry, without_entry}
 use Rattle.pv_dirs.specs.Trees.{without_node}
 pub use Rattle.pv_laws_trees.specs.NewNodes.{new_node, sort_of}
 

@@ -1,6 +1,6 @@
 -- A tree with reference counts.
 use Rattle.std.specs.Prelude.{◌≡◌, ℕ, ◌+◌, ◌-◌, List, slice_index, slice_set}
-use Rattle.pv_model.specs.Tree.{Tree}
+use Rattle.pv_model.specs.Machine.{Tree}
 pub use Rattle.pv_laws_trees.specs.ReferenceCounts.{held_numbers, collected}
 
 -- a tree, and the reference count of each number

@@ -6,3 +6,6 @@ pub mod Rooms
 pub mod Present
 pub use Rattle.pv_dirs.specs.Sizes
 pub use Rattle.pv_dirs.specs.Trees
+pub use Rattle.pv_dirs.specs as OfDirs
+pub use Rattle.pv_dirs.specs.OfInodes
+pub use Rattle.pv_laws_trees.specs as OfLawsTrees

@@ -1,9 +1,7 @@
 -- The names of a node, ordered by directory and then by the bytes of the name.
 use Rattle.std.specs.Prelude.{◌≡◌, ℕ, Bool, true, ◌&&◌, ◌||◌, ◌==◌, nat_lt, IsTrue, IsFalse, List, [], ◌∷◌, filter, find, Option, None, Some, MatchOption}
 use Rattle.std.specs.Borrow.{Bor}
-use Rattle.pv_model.specs.Bytes.{Bytes}
-use Rattle.pv_model.specs.Calls.Descriptors.{is_past}
-use Rattle.pv_model.specs.Tree.{Tree, find_entry}
+use Rattle.pv_model.specs.Machine.{Bytes, is_past, Tree, find_entry}
 
 -- whether a name with its directory follows the last one, or there is no last one
 abbrev pub is_after : Option (ℕ × Bytes) → ℕ × Bytes → Bool

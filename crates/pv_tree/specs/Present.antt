@@ -4,9 +4,7 @@ use Rattle.std.specs.Cmp.Lexicographic.{slice_cmp}
 use Rattle.std.specs.FinMap.Entries.{is_sorted}
 use Rattle.std.specs.Ordering.{nat_cmp}
 use Rattle.pv_model.specs.declared.limits.TheConstants.{INODES}
-use Rattle.pv_model.specs.Image.{inode_blocks, greatest_blocks}
-use Rattle.pv_model.specs.Room.{is_too_long, fits}
-use Rattle.pv_model.specs.Tree.{Tree, node_at, entries_at, is_directory_at, names_of, parent, IsWellFormed}
+use Rattle.pv_model.specs.Machine.{inode_blocks, greatest_blocks, is_too_long, fits, Tree, node_at, entries_at, is_directory_at, names_of, parent, IsWellFormed}
 use Rattle.pv_laws_trees.specs.Preserved.{EachIsNamed}
 use Rattle.pv_laws_trees.specs.Encoded.{AllBytes}
 use Rattle.pv_tree.specs.Holding.{HeldTree, holds_at, collected}

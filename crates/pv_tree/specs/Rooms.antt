@@ -1,9 +1,8 @@
 -- Whether an image has room for a tree.
 use Rattle.std.specs.Prelude.{◌≡◌, if◌then◌else◌, Option, None, Some, Result, IfErr, OnOk, OnErr}
-use Rattle.pv_inodes.specs.declared.space.Space.{Space}
-use Rattle.pv_inodes.specs.declared.space.Space.TheVariants.{Full, TooBig}
-use Rattle.pv_model.specs.Room.{is_too_long, fits}
-use Rattle.pv_model.specs.Tree.{Tree}
+use Rattle.pv_dirs.specs.OfInodes.declared.space.Space.{Space}
+use Rattle.pv_dirs.specs.OfInodes.declared.space.Space.TheVariants.{Full, TooBig}
+use Rattle.pv_model.specs.Machine.{is_too_long, fits, Tree}
 use Rattle.pv_tree.specs.Holding.{HeldTree}
 
 -- the error of a tree that does not fit: a node exceeds the maximum length, or the image has too few inodes or blocks

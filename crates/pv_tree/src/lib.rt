@@ -15,6 +15,6 @@ mod store;
 mod tree;
 
 pub use place::PlaceRef;
-pub use pv_inodes::Space;
+pub use pv_dirs::inodes::Space;
 pub use store::Store;
 pub use tree::{Sizes, Tree};

@@ -2,7 +2,7 @@
 ghost use Rattle.std.specs.Prelude.{◌≡◌, ◌≤◌, length, MatchOption, None, Some};
 ghost use Rattle.pv_model.specs.declared.limits.TheConstants.{NAME_V2};
 ghost use Rattle.pv_model.specs.declared.place.Place.TheVariants.{At, Node};
-ghost use Rattle.pv_model.specs.Effect.{node_of, name_of};
+ghost use Rattle.pv_model.specs.Machine.{node_of, name_of};
 
 use pv_model::{Name, Place};
 use std::marker::Model;

@@ -1,9 +1,8 @@
 //! A tree before boot.
 ghost use Rattle.std.specs.Prelude.{◌≡◌, ◌+◌, ◌-◌, ◌*◌, vec_len, All, IfOk};
 ghost use Rattle.pv_model.specs.declared.limits.TheConstants.{BLOCK};
-ghost use Rattle.pv_model.specs.Image.{inode_blocks, IsImageOf};
-ghost use Rattle.pv_model.specs.Tree.{Tree as Nodes};
-ghost use Rattle.pv_inodes.specs.Sizes.{AreImageSizes};
+ghost use Rattle.pv_model.specs.Machine.{inode_blocks, IsImageOf, Tree as Nodes};
+ghost use Rattle.pv_dirs.specs.OfInodes.Sizes.{AreImageSizes};
 ghost use Rattle.pv_dirs.specs.Images.{IsImage};
 ghost use Rattle.pv_tree.specs.Changes.{root_alone};
 ghost use Rattle.pv_tree.specs.Holding.{IsUnheld};

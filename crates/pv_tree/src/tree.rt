@@ -1,15 +1,11 @@
 //! A tree on the blocks of an image, with reference counts.
 ghost use Rattle.std.specs.Prelude.{◌≡◌, ◌+◌, ◌-◌, ◌*◌, ◌<◌, ◌≤◌, ◌↔◌, min, replicate, slice_set, vec_len, ◌==◌, All, false, [], ◌++◌, length, take, drop, IfOk, IfSome, IsTrue, Some, IsSome, option_map};
 ghost use Rattle.std.specs.Option.{option_copied};
-ghost use Rattle.pv_model.specs.Calls.Descriptors.{next_name};
-ghost use Rattle.pv_model.specs.Effect.{size_of};
-ghost use Rattle.pv_model.specs.Image.{inode_blocks};
-ghost use Rattle.pv_model.specs.Room.{greatest_length};
-ghost use Rattle.pv_model.specs.Tree.{node_at, entries_at, is_directory_at, find_entry, names_of, parent, ancestors_within};
+ghost use Rattle.pv_model.specs.Machine.{next_name, size_of, inode_blocks, greatest_length, node_at, entries_at, is_directory_at, find_entry, names_of, parent, contains_directory};
+ghost use Rattle.pv_model.specs.Tree.{ancestors_within};
 ghost use Rattle.std.specs.List.{list_any};
 ghost use Rattle.pv_model.specs.declared.limits.TheConstants.{BLOCK};
-ghost use Rattle.pv_model.specs.Calls.Paths.{contains_directory};
-ghost use Rattle.pv_inodes.specs.Sizes.{AreImageSizes};
+ghost use Rattle.pv_dirs.specs.OfInodes.Sizes.{AreImageSizes};
 ghost use Rattle.pv_dirs.specs.Listing.{IsNextName, IsNextNameOf};
 ghost use Rattle.pv_dirs.specs.Trees.{sort_of, bytes_at};
 ghost use Rattle.pv_tree.specs.Changes.{root_alone};

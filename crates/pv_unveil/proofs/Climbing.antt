@@ -7,14 +7,12 @@ use Rattle.pv_model.specs.declared.follow.Follow.{Follow}
 use Rattle.pv_model.specs.declared.place.Place.{Place}
 use Rattle.pv_model.specs.declared.place.Place.TheVariants.{At, Node as Unnamed}
 use Rattle.pv_model.specs.declared.target.Target.TheVariants.{Directory}
-use Rattle.pv_model.specs.Bytes.{Bytes}
+use Rattle.pv_model.specs.Machine.{Bytes, Tree, root, is_directory_at, parent, IsWellFormed, Table, entry_for, Governs, own, from_above, directory_rights, resolve}
 use Rattle.pv_model.proofs.Rights.{Governs-directory_rights, directory_rights-Governs}
-use Rattle.pv_model.specs.Tree.{Tree, root, is_directory_at, parent, IsWellFormed}
-use Rattle.pv_model.specs.Unveil.{Table, entry_for, Governs, own, from_above, climb, directory_rights}
-use Rattle.pv_model.specs.Walk.{resolve}
-use Rattle.pv_laws_trees.proofs.Places.{IsGoodPlace, parent-directory, resolve-good}
-use Rattle.pv_laws_trees.proofs.Above.{IsBelow, at_root, one_below, appears-reached, reached-below, depth-below}
-use Rattle.pv_laws_trees.proofs.Trees.{sound}
+use Rattle.pv_model.specs.Unveil.{climb}
+use Rattle.pv_tree.proofs.OfLawsTrees.Places.{IsGoodPlace, parent-directory, resolve-good}
+use Rattle.pv_tree.proofs.OfLawsTrees.Ancestors.{IsBelow, at_root, one_below, appears-reached, reached-below, depth-below}
+use Rattle.pv_tree.proofs.OfLawsTrees.Trees.{sound}
 use Rattle.pv_unveil.specs.Up.{up, directory_of}
 
 on_the_way : (f : ℕ → Option ℕ) (b : Bool) (p : Option ℕ) (above : ℕ) → cond b None p ≡ Some above → cond b None (option_and_then f p) ≡ f above

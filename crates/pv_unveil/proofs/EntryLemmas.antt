@@ -10,8 +10,9 @@ use Rattle.std.specs.List.{position_or_len}
 use Rattle.std.specs.Prelude.{position}
 use Rattle.pv_model.specs.declared.perms.Perms.{Perms}
 use Rattle.pv_model.specs.declared.target.Target.{Target}
-use Rattle.pv_model.specs.Unveil.{Table, same_target, entry_for, permissions_at, permissions_of}
-use Rattle.pv_laws_trees.proofs.Targets.{same_target-itself}
+use Rattle.pv_model.specs.Machine.{Table, same_target, entry_for, permissions_at}
+use Rattle.pv_model.specs.Unveil.{permissions_of}
+use Rattle.pv_tree.proofs.OfLawsTrees.Targets.{same_target-itself}
 
 not_within : (b : Bool) (n : ℕ) → cond b (Some n) None ≡ None → b ≡ false
 not_within true n none = cc

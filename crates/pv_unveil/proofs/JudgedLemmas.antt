@@ -8,9 +8,7 @@ use Rattle.pv_model.specs.declared.place.Place.{Place}
 use Rattle.pv_model.specs.declared.place.Place.TheVariants.{At, Node as Unnamed}
 use Rattle.pv_model.specs.declared.target.Target.{Target}
 use Rattle.pv_model.specs.declared.target.Target.TheVariants.{Directory, Name}
-use Rattle.pv_model.specs.Perms.{covers}
-use Rattle.pv_model.specs.Tree.{Tree, is_directory_at}
-use Rattle.pv_model.specs.Unveil.{Table, entry_for, permissions_at, target_of, directory_rights, governing_entry, judge_entry, judgement}
+use Rattle.pv_model.specs.Machine.{covers, Tree, is_directory_at, Table, entry_for, permissions_at, target_of, directory_rights, governing_entry, judge_entry, judgement}
 use Rattle.pv_unveil.specs.Judged.{GovernsTarget, IsJudged}
 
 module _ (t : Tree) (table : Table) where

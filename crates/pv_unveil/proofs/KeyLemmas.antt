@@ -11,7 +11,7 @@ use Rattle.pv_model.specs.declared.limits.TheConstants.{UNVEILS}
 use Rattle.pv_model.specs.declared.perms.Perms.{Perms}
 use Rattle.pv_model.specs.declared.target.Target.{Target}
 use Rattle.pv_model.specs.declared.target.Target.TheVariants.{Directory, Name}
-use Rattle.pv_model.specs.Unveil.{Table, same_target, entry_for}
+use Rattle.pv_model.specs.Machine.{Table, same_target, entry_for}
 use Rattle.pv_unveil.specs.declared.key.Key.{Key}
 use Rattle.pv_unveil.specs.Keys.{key_of, keys_of, is_own, is_name_in, is_target_named, IsKeyed}
 use Rattle.pv_unveil.specs.Marks.{is_marked, has_mark}

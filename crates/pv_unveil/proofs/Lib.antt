@@ -4,3 +4,4 @@ pub mod Climbing
 pub mod EntryLemmas
 pub mod JudgedLemmas
 pub mod KeyLemmas
+pub use Rattle.pv_tree.proofs as OfTree

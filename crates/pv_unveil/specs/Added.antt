@@ -4,9 +4,8 @@ use Rattle.pv_model.specs.declared.errno.Errno.TheVariants.{EPERM, E2BIG}
 use Rattle.pv_model.specs.declared.outcome.Cause.TheVariants.{Unveil as ByUnveil, Locked as ByLock}
 use Rattle.pv_model.specs.declared.perms.Perms.{Perms}
 use Rattle.pv_model.specs.declared.target.Target.{Target}
-use Rattle.pv_model.specs.Attempt.{Attempt, refused, refuse, ◌>>◌}
-use Rattle.pv_model.specs.Calls.Restraints.{add_entry, entries_of_table, refuse_if_locked}
-use Rattle.pv_model.specs.Unveil.{Table, entry_for}
+use Rattle.pv_model.specs.Machine.{Attempt, refused, refuse, ◌>>◌, entries_of_table, refuse_if_locked, Table, entry_for}
+use Rattle.pv_model.specs.Calls.Restraints.{add_entry}
 use Rattle.pv_unveil.specs.declared.table.AddFault.{AddFault}
 use Rattle.pv_unveil.specs.declared.table.AddFault.TheVariants.{Locked, Increase, Many}
 use Rattle.pv_unveil.specs.Unveiled.{Unveiled}

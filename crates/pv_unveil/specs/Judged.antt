@@ -6,9 +6,7 @@ use Rattle.pv_model.specs.declared.perms.Perms.{Perms}
 use Rattle.pv_model.specs.declared.place.Place.{Place}
 use Rattle.pv_model.specs.declared.target.Target.{Target}
 use Rattle.pv_model.specs.declared.target.Target.TheVariants.{Directory, Name}
-use Rattle.pv_model.specs.Perms.{covers}
-use Rattle.pv_model.specs.Tree.{Tree}
-use Rattle.pv_model.specs.Unveil.{Table, entry_for, permissions_at, target_of, Governs}
+use Rattle.pv_model.specs.Machine.{covers, Tree, Table, entry_for, permissions_at, target_of, Governs}
 
 -- an entry governs a target: a directory is governed as `Governs` defines; a name is governed by its own entry, or else
 -- by the one that governs its directory

@@ -4,8 +4,7 @@ use Rattle.std.specs.List.{list_all}
 use Rattle.pv_model.specs.declared.limits.TheConstants.{UNVEILS}
 use Rattle.pv_model.specs.declared.target.Target.{Target}
 use Rattle.pv_model.specs.declared.target.Target.TheVariants.{Directory as ForDirectory, Name as ForName}
-use Rattle.pv_model.specs.Bytes.{Bytes}
-use Rattle.pv_model.specs.Unveil.{Table}
+use Rattle.pv_model.specs.Machine.{Bytes, Table}
 use Rattle.pv_unveil.specs.Marks.{has_mark}
 use Rattle.pv_unveil.specs.declared.key.Key.{Key}
 use Rattle.pv_unveil.specs.declared.key.Key.TheVariants.{Directory, Name}

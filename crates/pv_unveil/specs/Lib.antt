@@ -4,3 +4,4 @@ pub mod Keys
 pub mod Marks
 pub mod Unveiled
 pub mod Up
+pub use Rattle.pv_tree.specs as OfTree

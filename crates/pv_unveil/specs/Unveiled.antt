@@ -1,6 +1,6 @@
 -- Unveil tables, as contracts see them.
 use Rattle.std.specs.Prelude.{Bool, [], ◌∷◌, Option, None, Some}
-use Rattle.pv_model.specs.Unveil.{Table}
+use Rattle.pv_model.specs.Machine.{Table}
 
 -- a table, which is absent before its first entry, and its lock
 pub record Unveiled : Type 0 where

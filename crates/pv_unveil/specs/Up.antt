@@ -3,9 +3,7 @@ use Rattle.std.specs.Prelude.{◌≡◌, ℕ, IsTrue, Option, None, Ok, if◌the
 use Rattle.pv_model.specs.declared.follow.Follow.{Follow}
 use Rattle.pv_model.specs.declared.place.Place.{Place}
 use Rattle.pv_model.specs.declared.place.Place.TheVariants.{At, Node as Unnamed}
-use Rattle.pv_model.specs.Bytes.{Bytes}
-use Rattle.pv_model.specs.Tree.{Tree, root, is_directory_at, parent, IsWellFormed}
-use Rattle.pv_model.specs.Walk.{resolve}
+use Rattle.pv_model.specs.Machine.{Bytes, Tree, root, is_directory_at, parent, IsWellFormed, resolve}
 
 -- the parent of a directory; the root and removed directories have none here
 abbrev pub up : Tree → ℕ → Option ℕ

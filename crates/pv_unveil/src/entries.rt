@@ -1,8 +1,7 @@
 //! The entries of an unveil table, in the order in which they were added.
 ghost use Rattle.std.specs.Prelude.{◌≡◌, ◌<◌, length, position, slice_set, IfSome};
 ghost use Rattle.pv_model.specs.declared.limits.TheConstants.{UNVEILS};
-ghost use Rattle.pv_model.specs.Bytes.{Bytes};
-ghost use Rattle.pv_model.specs.Unveil.{entry_for};
+ghost use Rattle.pv_model.specs.Machine.{Bytes, entry_for};
 ghost use Rattle.pv_unveil.specs.Keys.{is_own, keys_of, is_target_named};
 
 use crate::key::Key;

@@ -1,6 +1,6 @@
 //! Laws of unveil tables.
-ghost use Rattle.pv_model.specs.Tree.{Tree};
-ghost use Rattle.pv_model.specs.Unveil.{Table, RightsAgree};
+ghost use Rattle.pv_model.specs.Machine.{Tree, Table};
+ghost use Rattle.pv_model.specs.Unveil.{RightsAgree};
 ghost use Rattle.pv_unveil.specs.Up.{LeadsToDirectory};
 
 /// In every tree, the entry that a climb from a directory finds is the one that governs the directory: its own entry,

@@ -16,5 +16,6 @@ mod rights;
 pub mod table;
 
 pub use pv_model::Judgement;
+pub use pv_tree as tree;
 pub use rights::above;
 pub use table::{AddFault, Table};

@@ -1,6 +1,6 @@
 //! A filter that rules out most targets without an entry.
 ghost use Rattle.std.specs.Prelude.{◌≡◌, ℕ, true};
-ghost use Rattle.pv_model.specs.Bytes.{Bytes};
+ghost use Rattle.pv_model.specs.Machine.{Bytes};
 ghost use Rattle.pv_unveil.specs.Marks.{is_marked, has_mark};
 
 use pv_model::Target;

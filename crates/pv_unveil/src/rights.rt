@@ -1,8 +1,7 @@
 //! The entry that governs a place, and its answer.
 ghost use Rattle.std.specs.Prelude.{◌≡◌, ◌<◌, length, IfSome, IsTrue};
 ghost use Rattle.std.specs.Option.{option_or};
-ghost use Rattle.pv_model.specs.Tree.{is_directory_at};
-ghost use Rattle.pv_model.specs.Unveil.{directory_rights, entry_for, governing_entry, judge_entry, judgement};
+ghost use Rattle.pv_model.specs.Machine.{is_directory_at, directory_rights, entry_for, governing_entry, judge_entry, judgement};
 ghost use Rattle.pv_unveil.specs.Up.{up, directory_of};
 ghost use Rattle.pv_unveil.specs.Unveiled.{in_force};
 

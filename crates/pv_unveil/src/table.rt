@@ -1,7 +1,6 @@
 //! Unveil tables.
 ghost use Rattle.std.specs.Prelude.{◌≡◌, ◌<◌, ◌≤◌, length, OnOk, OnErr, IfOk, IfErr, None, Some, true, false, ◌↔◌, IsTrue, if◌then◌else◌, ◌&&◌, option_map, slice_get, slice_set, IfSome};
-ghost use Rattle.pv_model.specs.Attempt.{give};
-ghost use Rattle.pv_model.specs.Unveil.{directory_rights, entry_for, permissions_at};
+ghost use Rattle.pv_model.specs.Machine.{give, directory_rights, entry_for, permissions_at};
 ghost use Rattle.pv_unveil.specs.Added.{refusal, put_in};
 
 use crate::entries::Entries;

@@ -38,10 +38,10 @@ def do_dup(source, process, call):
     elif held and target:
         source.add(process, f"dup2 {held.own} {target.own}")
         if held is not target:
-            process.descriptors[call.value] = Descriptor(target.own, held.path, is_marked(call), False, held.is_at_start)
+            process.descriptors[call.value] = Descriptor(target.own, held.path, is_marked(call), False, held.position)
     elif held:
         source.add(process, f"dup {held.own}")
-        process.add(call.value, lambda own: Descriptor(own, held.path, is_marked(call), False, held.is_at_start))
+        process.add(call.value, lambda own: Descriptor(own, held.path, is_marked(call), False, held.position))
     elif target:
         source.add(process, f"close {target.own}", comments=[f"{call.name} of what was open before, in place of descriptor {target.own}"])
         del process.descriptors[call.value]
@@ -99,13 +99,19 @@ def do_read(source, process, call):
     if not held:
         lack_unknown(process, number, "read")
         return
-    data = call.data if call.data is not None else call.text(1)
-    if call.name == "read" and call.has_succeeded() and data and held.is_at_start:
-        source.tree.note_text(held.path, "file", data.split(b"\0")[0][:TEXT])
-    held.is_at_start = False
-    count = min(call.value or 1, COUNT) if call.has_succeeded() else 1
-    if source.add(process, f"read {held.own} {count}", repeats=("read", held.own), alike=("read", held.own)):
-        process.touch(count)
+    data, length = call.data if call.data is not None else call.text(1), max(call.value or 0, 0)
+    is_moved = call.name == "read" and held.position is not None
+    if is_moved and data:
+        source.tree.note_bytes(held.path, held.position, data)
+    held.position = held.position + length if is_moved else None
+    is_new = source.add(process, f"read {held.own} {min(length, COUNT) or 1}", repeats=("read", held.own), alike=("read", held.own))
+    action = process.program.last_of(process)
+    if is_new:
+        action.read, action.is_whole = 0, is_moved
+    elif length:
+        action.instructions[-1] = f"read {held.own} {min(action.read + length, COUNT)}"
+    action.read, action.is_whole = action.read + length, action.is_whole and len(data or b"") == length
+    process.touch(min(action.read, COUNT) or 1)
 
 
 def do_write(source, process, call):
@@ -114,7 +120,8 @@ def do_write(source, process, call):
     if not held:
         lack_unknown(process, number, "write")
         return
-    held.is_at_start = False
+    held.position = None
+    source.tree.note_written(held.path)
     text, comments = put_of(call)
     if call.name.startswith("pwrite"):
         comments.append(f"{call.name} has an offset of its own: here it writes at the offset of the descriptor")
@@ -124,7 +131,10 @@ def do_write(source, process, call):
 
 
 def do_copy(source, process, call):
-    """copy_file_range(2) and sendfile(2): a read and a write of the same bytes, of at most the size of the buffer."""
+    """copy_file_range(2) and sendfile(2): a read and a write of the same bytes, of at most the size of the buffer. One that fails is left out."""
+    if call.error:
+        source.drop(process, call, f"{call.name} {call.error}")
+        return
     places = (1, 0) if call.name.startswith("sendfile") else (0, 2)
     (read_from, write_to), count = [held_by(source, process, call, it) for it in places], min(max(call.value or 0, 0), COUNT)
     if read_from and not write_to:
@@ -157,7 +167,7 @@ def do_lseek(source, process, call):
     """lseek(2) within the machine's offsets."""
     held, whence, by = held_by(source, process, call), WHENCE.get(call.argument(2)), call.number(1)
     if held and whence and by is not None and abs(by) < 2**31:
-        held.is_at_start = whence == "set" and by == 0
+        held.position = call.value if call.has_succeeded() else held.position
         source.add(process, f"lseek {held.own} {by} {whence}", repeats=("lseek", held.own))
     elif held:
         source.drop(process, call)

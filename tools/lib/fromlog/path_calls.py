@@ -44,6 +44,8 @@ def do_open(source, process, call):
     if source.walk(process, call, "open", place, "dir" if "dir" in words else None, is_new, instruction=f"{verb} {mode}") and call.has_succeeded():
         is_marked = "cloexec" in words
         process.add(call.value, lambda own: Descriptor(own, whole, is_marked, is_marked))
+        if "trunc" in words:
+            source.tree.note_written(whole)
         if is_new:
             source.tree.note_made(whole)
     return None
@@ -101,8 +103,9 @@ def do_two_paths(source, process, call):
     verb = re.match(r"rename|link", call.name)[0]
     starts, places = ((0, 2), (1, 3)) if "at" in call.name else ((None, None), (0, 1))
     old, new = [source.located(process, call, at, start) for at, start in zip(places, starts)]
-    if old is None or new is None:
-        return source.drop(process, call)
+    flags = call.flags(4) if call.name == "renameat2" else []
+    if old is None or new is None or "RENAME_EXCHANGE" in flags or ("RENAME_NOREPLACE" in flags and call.error == "EEXIST"):
+        return source.drop(process, call, f"{call.name} {' '.join(flags)}".strip())
     if call.has_succeeded():
         source.tree.note(old[1])
         source.tree.note_made(new[1])

@@ -53,6 +53,7 @@ def do_execve(source, process, call):
         return
     if process.number == 1 and process.program.path == b"/init" and process.program.is_empty():
         source.comment(process, place[1].decode("latin-1"))
+        source.is_modelled = True
         return
     taken, target, number = {it.path for it in source.programs}, place[1], 2
     while target in taken:

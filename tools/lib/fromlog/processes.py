@@ -8,13 +8,13 @@ from .texts import COUNT
 @dataclass
 class Descriptor:
     """A descriptor of the program that the machine has too: its number there, its path or None, whether the program closes it on execve, whether the machine
-    does, and whether it is at the start of its file."""
+    does, and its offset in the file, None if the log does not show it."""
 
     own: int
     path: Optional[bytes]
     is_marked: bool = False
     is_marked_in_machine: bool = False
-    is_at_start: bool = True
+    position: Optional[int] = 0
 
 
 class Process:

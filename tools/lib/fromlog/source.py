@@ -2,6 +2,7 @@
 import collections
 import re
 
+from . import loops
 from .processes import Process
 from .programs import Action, Program
 from .texts import COUNT, LINES, PATH, collapsed, joined, parent_of, text_of, unquote
@@ -22,6 +23,21 @@ class Source:
         self.tree, self.processes, self.programs, self.steps = Tree(), {}, [], []
         self.keep_loader, self.directory, self.last_number = keep_loader, directory, 0
         self.dropped, self.notes, self.is_too_long = collections.Counter(), [], False
+        self.call, self.is_loader, self.is_modelled = None, False, False
+        self.modelled, self.left_out = collections.Counter(), collections.Counter()
+
+    # ---- the calls of the log
+
+    def begin(self, process, call):
+        """Begins the translation of a call."""
+        self.call, self.is_loader, self.is_modelled = call, call.descriptor(0)[0] in process.loaded, False
+
+    def count(self, call, is_quiet):
+        """Counts a call that is translated: `modelled` has those in the source, and `left_out` the others, without those of memory, clocks and the loader."""
+        if self.is_modelled:
+            self.modelled[call.name] += 1
+        elif not (is_quiet or self.is_loader):
+            self.left_out[call.name] += 1
 
     # ---- processes and actions
 
@@ -52,11 +68,12 @@ class Source:
 
     def add(self, process, *instructions, comments=(), alike=None, repeats=None):
         """Adds an action, unless it repeats the one before it; returns whether it is added."""
+        self.is_modelled = True
         if repeats and process.last == repeats:
             return False
         process.last = repeats
         process.program.flush(process)
-        action = Action(process, instructions, comments, alike)
+        action = Action(process, instructions, comments, alike, self.call)
         process.program.actions.append(action)
         self.step(process, action, len(instructions))
         return True
@@ -70,10 +87,18 @@ class Source:
         process.program.flush(process)
         process.program.actions.append(Action(process, [], [text]))
 
-    def drop(self, process, call, words=None):
+    def remark(self, process, text):
+        """Comments on a call that is left out and that matters; equal comments in sequence are one."""
+        process.program.flush(process)
+        process.program.remark(process, text)
+
+    def drop(self, process, call, words=None, note=None):
         """Leaves out a call on files, with a comment."""
         self.dropped[call.name] += 1
-        process.program.lack(words or call.name)
+        if note:
+            self.remark(process, note)
+        else:
+            process.program.lack(words or call.name)
 
     # ---- paths
 
@@ -118,6 +143,7 @@ class Source:
             return False
         path, whole = place
         if self.is_of_loader(path):
+            self.is_loader = True
             process.loaded.add(call.value)
             process.program.lack("the loader")
             return False
@@ -136,9 +162,9 @@ class Source:
         turns = []
         for number, action, count in self.steps:
             if action.is_included and turns and turns[-1][0] == number:
-                turns[-1][1] += count
+                turns[-1][1] += count + action.steps_of_loop
             elif action.is_included:
-                turns.append([number, count])
+                turns.append([number, count + action.steps_of_loop])
         return [f"{number} {count}" for number, count in turns]
 
     def text(self):
@@ -155,6 +181,8 @@ class Source:
         """Returns the lines of a program, and reports those that it cannot have."""
         for process in dict.fromkeys([it.process for it in program.actions][-1:]):
             program.flush(process)
+        if program.size() > LINES:
+            loops.roll(program)
         left_out = program.shorten()
         name = program.path.decode("latin-1")
         if left_out:

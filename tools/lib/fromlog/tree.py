@@ -1,12 +1,12 @@
 """The files of a log as they were before its programs ran."""
-from .texts import is_path_of_manifest, parent_of, text_of
+from .texts import TEXT, is_path_of_manifest, parent_of, text_of
 
 
 class Node:
-    """What the log shows at a path: the kind, and the first bytes of a file or the text of a link."""
+    """What the log shows at a path: the kind, and the first bytes of a file or the text of a link. `is_complete` says that no more bytes can be added."""
 
     def __init__(self, kind):
-        self.kind, self.text = kind, b""
+        self.kind, self.text, self.is_complete = kind, b"", False
 
 
 class Tree:
@@ -42,6 +42,18 @@ class Tree:
         node = self.nodes.get(path)
         if node and node.kind == kind and not node.text:
             node.text = text
+
+    def note_bytes(self, path, at, data):
+        """Notes bytes of a file that a read at an offset shows, if they follow those that are known, up to a NUL byte."""
+        node = self.nodes.get(path)
+        if node and node.kind == "file" and not node.is_complete and len(node.text) == at:
+            node.text = (node.text + data.split(b"\0")[0])[:TEXT]
+            node.is_complete = len(node.text) != at + len(data)
+
+    def note_written(self, path):
+        """Notes that a program changes a file, so that later reads do not show the bytes that it had before."""
+        if path in self.nodes:
+            self.nodes[path].is_complete = True
 
     def entries(self, programs):
         """Returns the lines of a manifest, except those of the programs' paths."""

@@ -2,19 +2,17 @@
 ghost use Rattle.std.specs.Prelude.{◌≡◌, flat_map, IsTrue};
 ghost use Rattle.pv_answers.specs.Reaching.{lines_within, listed_line, listed_lines, path_of, state_of};
 ghost use Rattle.pv_model.specs.Answers.Reach.{listed_names};
-ghost use Rattle.pv_model.specs.Listing.{listed_path};
-ghost use Rattle.pv_model.specs.Trace.{quote, quote_byte};
-ghost use Rattle.pv_model.specs.Tree.{is_directory_at, IsWellFormed};
+ghost use Rattle.pv_model.specs.Machine.{listed_path, quote, quote_byte, is_directory_at, IsWellFormed};
 ghost use Rattle.pv_streams.specs.Sinks.{Writes};
-ghost use Rattle.pv_unveil.specs.Up.{directory_of};
+ghost use Rattle.pv_calls_state.specs.OfUnveil.Up.{directory_of};
 
 use crate::fragments::{Fragment, Plain};
 use crate::lines::Letters;
 use crate::nodes::Step;
 use crate::reach::reacher::{AndDescriptors, Governor, Reacher, governing, permitted, write_may};
+use pv_calls_state::tree::PlaceRef;
 use pv_model::limits::ROOT;
 use pv_streams::{Failed, Sink, write_whole};
-use pv_tree::PlaceRef;
 
 /// A path of a tree, as a linked list of names from its end. Each link is in the stack frame of the traversal, so no
 /// bytes are copied.

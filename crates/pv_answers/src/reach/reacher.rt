@@ -1,25 +1,22 @@
 //! A process and its permissions by the governing entry.
 ghost use Rattle.std.specs.Prelude.{◌≡◌, ◌<◌, length, option_map, IfSome, IsTrue};
 ghost use Rattle.pv_answers.specs.Reaching.{all_on, descriptor_words, given_by, may_line, opened_at, permitted_by, state_of, table_of, who_by, words_on};
-ghost use Rattle.pv_model.specs.Calls.Restraints.{entries_of_table};
-ghost use Rattle.pv_model.specs.Numbered.{at_number};
+ghost use Rattle.pv_model.specs.Machine.{entries_of_table, at_number, is_directory_at, governing_entry};
 ghost use Rattle.pv_model.specs.Promises.{holds};
-ghost use Rattle.pv_model.specs.Tree.{is_directory_at};
-ghost use Rattle.pv_model.specs.Unveil.{governing_entry};
 ghost use Rattle.pv_streams.specs.Sinks.{Writes};
-ghost use Rattle.pv_unveil.specs.Up.{directory_of};
+ghost use Rattle.pv_calls_state.specs.OfUnveil.Up.{directory_of};
 
 use crate::fragments::{Fragment, Plain};
 use crate::lines::{Decimal, Line, ModeLetters};
 use pv_calls_state::Parts;
-use pv_files::{Descriptors, OpenFiles};
+use pv_calls_state::files::{Descriptors, OpenFiles};
+use pv_calls_state::procs::ProcessRecord;
+use pv_calls_state::promises::{Pledge, has};
+use pv_calls_state::tree::PlaceRef;
+use pv_calls_state::unveil::Table;
 use pv_model::limits::DESCRIPTORS;
 use pv_model::{Mode, Perms, Promise};
-use pv_procs::ProcessRecord;
-use pv_promises::{Pledge, has};
 use pv_streams::{Failed, Sink, write_whole};
-use pv_tree::PlaceRef;
-use pv_unveil::Table;
 
 /// A live process of a state.
 #[derive(Clone, Copy)]

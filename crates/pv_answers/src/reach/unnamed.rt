@@ -2,19 +2,17 @@
 //! name.
 ghost use Rattle.std.specs.Prelude.{◌≡◌, ◌<◌, length, IsNone};
 ghost use Rattle.pv_answers.specs.Reaching.{absent_line, absent_lines, directory_lines, is_absent_in, may_line, opened_at, removed_words, state_of, table_of, unnamed_line, unnamed_lines, unnamed_words};
-ghost use Rattle.pv_model.specs.Answers.Nodes.{node_path};
-ghost use Rattle.pv_model.specs.Calls.Restraints.{entries_of_table};
-ghost use Rattle.pv_model.specs.Tree.{is_removed};
+ghost use Rattle.pv_model.specs.Machine.{node_path, entries_of_table, is_removed};
 ghost use Rattle.pv_streams.specs.Sinks.{Writes};
 
 use crate::fragments::{Fragment, Plain};
 use crate::lines::{Decimal, Letters};
 use crate::nodes::{NameWords, NodeWords, has_path};
 use crate::reach::reacher::{AndDescriptor, Governor, Reacher, opened, permitted, write_may};
+use pv_calls_state::tree::Tree;
 use pv_model::Target;
 use pv_model::limits::DESCRIPTORS;
 use pv_streams::{Failed, Sink};
-use pv_tree::Tree;
 
 // Returns whether a directory is in no entry.
 fn is_removed(tree: &Tree, directory: u16) -> bool

@@ -5,17 +5,13 @@ ghost use Rattle.pv_files.specs.Descriptors.{descriptor_under};
 ghost use Rattle.pv_laws_states.specs.States.{IsValid};
 ghost use Rattle.pv_model.specs.declared.errno.Errno.TheVariants.{EBADF, EMFILE};
 ghost use Rattle.pv_model.specs.declared.limits.TheConstants.{DESCRIPTORS};
-ghost use Rattle.pv_model.specs.Calls.Descriptors.{close, dup, dup2, new_open_file, with_content, within};
-ghost use Rattle.pv_model.specs.Numbered.{at_number, least_free};
-ghost use Rattle.pv_model.specs.State.{Process, process_at, writes};
-ghost use Rattle.pv_model.specs.Sealed.{is_file};
-ghost use Rattle.pv_model.specs.Tree.{node_at, find_entry, is_name, is_directory_at};
+ghost use Rattle.pv_model.specs.Machine.{close, dup, dup2, new_open_file, with_content, within, at_number, least_free, Process, process_at, writes, is_file, node_at, find_entry, is_name, is_directory_at};
 ghost use Rattle.pv_calls_state.specs.Attempts.{IsDone};
 ghost use Rattle.pv_calls_state.specs.Changes.{with_closed_descriptor, with_descriptor_at, with_opened_descriptor};
 ghost use Rattle.pv_calls_state.specs.Opening.{CanOpen, IsLeastDescriptor, LacksRoomForFile, MakesFile, OpensNode, References};
 ghost use Rattle.pv_calls_state.specs.Releasing.{at_most, HoldsOpened, Releases};
 ghost use Rattle.pv_procs.specs.ProcessTable.{process_in, update};
-ghost use Rattle.pv_tree.specs.Holding.{holds_at};
+ghost use Rattle.pv_procs.specs.OfTree.Holding.{holds_at};
 ghost use Rattle.pv_laws_trees.specs.Tree.{Appears};
 
 use super::Parts;
@@ -23,7 +19,7 @@ use pv_files::{Descriptors, OpenFiles};
 use pv_model::limits::DESCRIPTORS;
 use pv_model::{Errno, NewNode, OpenFlags};
 use pv_procs::Processes;
-use pv_tree::{Space, Tree};
+use pv_procs::unveil::tree::{Space, Tree};
 
 /// Removes one user of an open file. If that was the last user, the open file and its reference to its node are
 /// dropped.

@@ -1,17 +1,12 @@
 //! Creation and end of processes, and program images: fork(2), wait(2), exit(3), execve(2).
 ghost use Rattle.std.specs.Prelude.{◌≡◌, if◌then◌else◌, ℕ, ◌+◌, ◌<◌, ◌≤◌, [], IsSome, is_some, OnErr, Some, option_map, slice_index};
 ghost use Rattle.pv_laws_states.specs.States.{IsValid};
-ghost use Rattle.pv_model.specs.Answer.{update};
-ghost use Rattle.pv_model.specs.Calls.Processes.{end_process, fork, wait, with_program};
-ghost use Rattle.pv_model.specs.Held.{collect, held_by_table};
-ghost use Rattle.pv_model.specs.Numbered.{at_number};
-ghost use Rattle.pv_model.specs.State.{Process, process_at};
-ghost use Rattle.pv_model.specs.Tree.{node_at};
+ghost use Rattle.pv_model.specs.Machine.{update, end_process, fork, wait, with_program, collect, held_by_table, at_number, Process, process_at, node_at};
 ghost use Rattle.pv_calls_state.specs.Attempts.{IsDone, collected};
 ghost use Rattle.pv_calls_state.specs.Counts.{times};
 ghost use Rattle.pv_calls_state.specs.Releasing.{files_on, if_marked, marked_of, HoldsOpened, Releases, Shares, Unreferences};
 ghost use Rattle.pv_procs.specs.Reaping.{waited};
-ghost use Rattle.pv_tree.specs.Holding.{holds_at};
+ghost use Rattle.pv_procs.specs.OfTree.Holding.{holds_at};
 
 use super::Parts;
 use super::descriptors::{file_at, release};
@@ -20,10 +15,10 @@ use pv_files::{Descriptors, OpenFiles};
 use pv_model::Errno;
 use pv_model::limits::DESCRIPTORS;
 use pv_procs::Reap;
-use pv_promises::Pledge;
-use pv_script::Program;
-use pv_tree::Tree;
-use pv_unveil::Table;
+use pv_procs::promises::Pledge;
+use pv_procs::script::Program;
+use pv_procs::unveil::Table;
+use pv_procs::unveil::tree::Tree;
 
 impl Parts {
     /// Makes a child of a live process, as fork(2), and returns its number.

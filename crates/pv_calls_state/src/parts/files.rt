@@ -2,18 +2,14 @@
 ghost use Rattle.std.specs.Prelude.{◌≡◌, ◌≤◌, ◌<◌, IsSome, IsTrue, IfErr, OnOk, OnErr, Some, option_map};
 ghost use Rattle.pv_laws_states.specs.States.{IsValid};
 ghost use Rattle.pv_model.specs.declared.limits.TheConstants.{BUFFER};
-ghost use Rattle.pv_model.specs.Effect.{with_file};
-ghost use Rattle.pv_model.specs.Numbered.{at_number};
-ghost use Rattle.pv_model.specs.Sealed.{is_file};
-ghost use Rattle.pv_model.specs.State.{process_at};
-ghost use Rattle.pv_model.specs.Tree.{node_at};
+ghost use Rattle.pv_model.specs.Machine.{with_file, at_number, is_file, process_at, node_at};
 ghost use Rattle.pv_calls_state.specs.Changes.{ChangesTree};
 ghost use Rattle.pv_calls_state.specs.Writing.{IsOnFile, LacksRoomForFront, WritesFront};
-ghost use Rattle.pv_tree.specs.Changes.{resized};
+ghost use Rattle.pv_procs.specs.OfTree.Changes.{resized};
 
 use super::Parts;
 use pv_model::Name;
-use pv_tree::Space;
+use pv_procs::unveil::tree::Space;
 
 impl Parts {
     /// Sets the offset of an open file, for all its users.

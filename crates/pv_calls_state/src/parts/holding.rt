@@ -2,24 +2,18 @@
 ghost use Rattle.std.specs.Prelude.{◌≡◌, ◌<◌, ◌+◌, ℕ, [], ◌∷◌, length, nat_lt, if◌then◌else◌, IsSome, IfErr, IfOk, OnOk, OnErr, Some};
 ghost use Rattle.std.specs.Option.{IsSomeAnd};
 ghost use Rattle.pv_laws_states.specs.States.{IsValid};
-ghost use Rattle.pv_model.specs.Answer.{update};
-ghost use Rattle.pv_model.specs.Attempt.{give};
-ghost use Rattle.pv_model.specs.Calls.Restraints.{entries_of_table};
-ghost use Rattle.pv_model.specs.Held.{collect};
-ghost use Rattle.pv_model.specs.State.{Process, process_at};
-ghost use Rattle.pv_model.specs.Tree.{node_at};
-ghost use Rattle.pv_model.specs.Unveil.{target_directory};
+ghost use Rattle.pv_model.specs.Machine.{update, give, entries_of_table, collect, Process, process_at, node_at, target_directory};
 ghost use Rattle.pv_calls_state.specs.Changes.{AddsEntry, Unveils, unveiled_of, with_directory};
 ghost use Rattle.pv_calls_state.specs.Counts.{times};
 ghost use Rattle.pv_procs.specs.ProcessTable.{process_in, update as process_updated};
-ghost use Rattle.pv_tree.specs.Holding.{holds_at};
-ghost use Rattle.pv_unveil.specs.Added.{add_to, refusal};
+ghost use Rattle.pv_procs.specs.OfTree.Holding.{holds_at};
+ghost use Rattle.pv_procs.specs.OfUnveil.Added.{add_to, refusal};
 
 use super::Parts;
 use pv_model::{Perms, Target};
 use pv_procs::Processes;
-use pv_tree::Tree;
-use pv_unveil::{AddFault, Table};
+use pv_procs::unveil::tree::Tree;
+use pv_procs::unveil::{AddFault, Table};
 
 // Returns the directory that an unveil entry for a target references.
 pub(super) fn directory_of(target: &Target) -> u16

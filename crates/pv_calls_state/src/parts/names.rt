@@ -1,17 +1,14 @@
 //! Names: new nodes, links, unlinking and renaming.
 ghost use Rattle.std.specs.Prelude.{◌≡◌, [], IsSome, IsTrue, IfSome, None, false};
 ghost use Rattle.pv_laws_states.specs.States.{IsValid};
-ghost use Rattle.pv_model.specs.Calls.Paths.{contains_directory, entries_there};
-ghost use Rattle.pv_model.specs.Held.{collect};
-ghost use Rattle.pv_model.specs.State.{with_tree};
-ghost use Rattle.pv_model.specs.Tree.{node_at, find_entry, is_directory_at, is_name, is_node, with_entry, without_entry, with_new_node};
+ghost use Rattle.pv_model.specs.Machine.{contains_directory, entries_there, collect, with_tree, node_at, find_entry, is_directory_at, is_name, is_node, with_entry, without_entry, with_new_node};
 ghost use Rattle.pv_calls_state.specs.Changes.{ChangesTree};
-ghost use Rattle.pv_tree.specs.Changes.{moved, new_node, IsOtherName};
+ghost use Rattle.pv_procs.specs.OfTree.Changes.{moved, new_node, IsOtherName};
 ghost use Rattle.pv_laws_trees.specs.Tree.{Appears};
 
 use super::Parts;
 use pv_model::NewNode;
-use pv_tree::Space;
+use pv_procs::unveil::tree::Space;
 
 impl Parts {
     /// Makes a new node under a name that does not exist in the directory.

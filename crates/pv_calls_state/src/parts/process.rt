@@ -1,19 +1,15 @@
 //! Changes within one process.
 ghost use Rattle.std.specs.Prelude.{◌≡◌, ◌<◌, ◌≤◌, ◌++◌, drop, length, IsSome, IsTrue, true};
-ghost use Rattle.pv_model.specs.Answer.{at_next_line, with_front, update};
-ghost use Rattle.pv_model.specs.Calls.Processes.{with_result};
-ghost use Rattle.pv_model.specs.State.{Process, process_at};
-ghost use Rattle.pv_model.specs.Sealed.{is_file};
-ghost use Rattle.pv_model.specs.Tree.{node_at};
+ghost use Rattle.pv_model.specs.Machine.{at_next_line, with_front, update, with_result, Process, process_at, is_file, node_at};
 ghost use Rattle.pv_calls_state.specs.Changes.{IsRegistered, PassesInside, bytes_read};
 ghost use Rattle.pv_procs.specs.Turns.{AwaitsCall};
 
 use super::Parts;
 use pv_model::limits::BUFFER;
 use pv_procs::Fetched;
-use pv_promises::Pledge;
-use pv_script::CallTexts;
-use pv_tree::Tree;
+use pv_procs::promises::Pledge;
+use pv_procs::script::CallTexts;
+use pv_procs::unveil::tree::Tree;
 
 // Reads at most `count` bytes of a file, from offset `at`, to the front of a buffer. Returns the number of bytes read.
 fn read_part(tree: &Tree, node: u16, at: u32, count: usize, buffer: &mut [u8]) -> usize

@@ -1,9 +1,7 @@
 //! Counting the entries for each node.
 ghost use Rattle.std.specs.Prelude.{◌≡◌, ℕ, ◌+◌, ◌<◌, ◌≤◌, if◌then◌else◌, nat_lt, length, slice_index, IsTrue, Some};
-ghost use Rattle.pv_model.specs.Bytes.{Bytes};
+ghost use Rattle.pv_model.specs.Machine.{Bytes, greatest_entries, entries_at, is_directory_at, find_entry};
 ghost use Rattle.pv_model.specs.declared.version.Version.TheVariants.{V2};
-ghost use Rattle.pv_model.specs.Room.{greatest_entries};
-ghost use Rattle.pv_model.specs.Tree.{entries_at, is_directory_at, find_entry};
 ghost use Rattle.pv_dirs.specs.Counts.{count_in};
 
 use super::Directories;

@@ -1,7 +1,6 @@
 //! The directories of an existing image.
 ghost use Rattle.std.specs.Prelude.{◌≡◌, IfOk};
-ghost use Rattle.pv_model.specs.Image.{IsImageOf};
-ghost use Rattle.pv_model.specs.Tree.{Tree};
+ghost use Rattle.pv_model.specs.Machine.{IsImageOf, Tree};
 ghost use Rattle.pv_dirs.specs.Images.{IsImage};
 
 use super::Directories;

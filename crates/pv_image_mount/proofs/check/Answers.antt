@@ -1,8 +1,9 @@
 use Rattle.std.proofs.Common.{inr, ap, sym, subst, refl, ◌∙◌}
 use Rattle.std.proofs.lemmas.Result.{err_from_is_err_and}
-use Rattle.pv_laws_trees.proofs.Faults.{accepted, answered}
+use Rattle.pv_laws_trees.proofs.FirstErrors.{accepted, answered}
 use Rattle.pv_model.specs.declared.fault.ImageFault.TheVariants.{Inode, Block, Dir, Tree as NoTree}
-use Rattle.pv_model.specs.Mount.{mounted, tree_in, HasSizes, bad_inode, bad_block, bad_content, bad_place}
+use Rattle.pv_model.specs.Machine.{mounted, tree_in}
+use Rattle.pv_model.specs.Mount.{HasSizes, bad_inode, bad_block, bad_content, bad_place}
 use Rattle.pv_image_mount.proofs.HeaderSizes.{root_within}
 use Rattle.pv_image_mount.proofs.check.Goals as goal
 

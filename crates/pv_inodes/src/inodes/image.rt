@@ -1,7 +1,7 @@
 //! The inodes of an existing image.
 ghost use Rattle.std.specs.Prelude.{◌≡◌, ◌+◌, ◌*◌, ◌/◌, ◌%◌, ◌≤◌, vec_len};
 ghost use Rattle.pv_model.specs.declared.limits.TheConstants.{BLOCK, BLOCKS_V2};
-ghost use Rattle.pv_model.specs.Image.{inode_blocks};
+ghost use Rattle.pv_model.specs.Machine.{inode_blocks};
 ghost use Rattle.pv_inodes.specs.Images.{AreInodes, files_in};
 
 use super::Inodes;

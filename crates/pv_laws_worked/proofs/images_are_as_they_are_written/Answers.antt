@@ -1,6 +1,6 @@
-use Rattle.pv_laws_worked.proofs.Example.{example_is_written}
-use Rattle.pv_laws_worked.proofs.PastSlot.{past_slot_has_no_tree}
-use Rattle.pv_laws_worked.proofs.Smallest.{smallest_is_written}
+use Rattle.pv_laws_worked.proofs.ExampleImage.{example_is_written}
+use Rattle.pv_laws_worked.proofs.PastSlotImage.{past_slot_has_no_tree}
+use Rattle.pv_laws_worked.proofs.SmallestImage.{smallest_is_written}
 use Rattle.pv_laws_worked.proofs.images_are_as_they_are_written.Goals as goal
 
 pub returns-clause-smallest : goal.returns-clause-smallest

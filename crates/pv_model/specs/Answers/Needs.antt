@@ -4,8 +4,10 @@ use Rattle.std.specs.Fmt.{decimal}
 use Rattle.std.specs.List.{list_any, range_with_len}
 use Rattle.pv_model.specs.declared.call.Call.{Call}
 use Rattle.pv_model.specs.declared.call.Call.TheVariants.{Unveil, Execve}
+use Rattle.pv_model.specs.declared.outcome.Cause.{Cause}
+use Rattle.pv_model.specs.declared.outcome.Cause.TheVariants.{Plain}
 use Rattle.pv_model.specs.declared.outcome.Outcome.{Outcome}
-use Rattle.pv_model.specs.declared.outcome.Outcome.TheVariants.{Value}
+use Rattle.pv_model.specs.declared.outcome.Outcome.TheVariants.{Value, Failed, Killed}
 use Rattle.pv_model.specs.declared.perms.Perms.{Perms}
 use Rattle.pv_model.specs.declared.place.Place.{Place}
 use Rattle.pv_model.specs.declared.promise.Promise.{Promise}
@@ -24,6 +26,19 @@ use Rattle.pv_model.specs.Step.{step, run}
 use Rattle.pv_model.specs.Touch.{place_found}
 use Rattle.pv_model.specs.Unveil.{same_target, target_of}
 use Rattle.pv_model.specs.Walks.{Walk, walks_of}
+
+-- ---- refused calls
+
+-- the reason is a promise or a table, and not an error of the call itself
+abbrev pub is_of_sandbox : Cause → Bool
+is_of_sandbox Plain = false
+is_of_sandbox cause = true
+
+-- a promise or a table refused the call
+abbrev pub is_refused : Outcome → Bool
+is_refused (Killed p) = true
+is_refused (Failed errno cause) = is_of_sandbox cause
+is_refused outcome = false
 
 -- ---- the needs of a call
 

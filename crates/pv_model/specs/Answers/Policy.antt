@@ -1,5 +1,5 @@
 -- The text of `policy`: what each program needs of its sandbox under any schedule, and what it holds and never uses.
-use Rattle.std.specs.Prelude.{ℕ, Bool, false, not, ◌&&◌, if◌then◌else◌, List, [], ◌∷◌, ◌++◌, map, flat_map, filter, fold, codes, bytes_eq, Option, None, Some, is_some, slice_get}
+use Rattle.std.specs.Prelude.{ℕ, Bool, true, false, not, ◌&&◌, if◌then◌else◌, List, [], ◌∷◌, ◌++◌, map, flat_map, filter, fold, codes, bytes_eq, Option, None, Some, is_some, slice_get}
 use Rattle.std.specs.Fmt.{decimal}
 use Rattle.std.specs.List.{list_any}
 use Rattle.pv_model.specs.declared.call.Call.{Call}
@@ -14,7 +14,7 @@ use Rattle.pv_model.specs.Answer.{answer}
 use Rattle.pv_model.specs.Answers.Explain.{need_text, permissions_lacked}
 use Rattle.pv_model.specs.Answers.Explore.{is_complete, done_line, by_line}
 use Rattle.pv_model.specs.Answers.Lines.{AnswerLine, answer_line, permissions_in_places, counted_from}
-use Rattle.pv_model.specs.Answers.Needs.{Judged, Asked, asked_by, same_promise}
+use Rattle.pv_model.specs.Answers.Needs.{Judged, Asked, asked_by, is_refused, same_promise}
 use Rattle.pv_model.specs.Answers.Nodes.{first_of, target_words}
 use Rattle.pv_model.specs.Answers.Numbers.{Numbers}
 use Rattle.pv_model.specs.Answers.Observed.{Observation, observed, of_calls, observations, groups, is_pledge, is_unveil}
@@ -52,6 +52,15 @@ module _ (program_of : Bytes → Option Program) where
   -- the calls of a search
   abbrev pub requests : ℕ → State → Requests
   requests limit s = observations (of_calls request) program_of limit s
+
+-- the calls that neither a promise nor a table refused
+abbrev pub granted_calls : Requests → Requests
+granted_calls rs = filter (λ r. not (is_refused r.move.stepped.outcome)) rs
+
+-- all calls, or the granted ones alone
+abbrev pub calls_counted : Bool → Requests → Requests
+calls_counted false rs = rs
+calls_counted true rs = granted_calls rs
 
 -- ---- promises
 
@@ -197,7 +206,15 @@ module _ (program_of : Bytes → Option Program) (limit : ℕ) (s : State) where
   policy_of_program (k, (first, rs)) =
       program_line program_of s.tree k first.item.process.program ∷ promise_lines rs ++ target_lines rs ++ idle_lines rs
 
-  unfoldable pub policy_lines : List AnswerLine
-  policy_lines =
-      flat_map policy_of_program (counted_from 1 (groups program_key (requests program_of limit s)))
+  abbrev pub lines_of_requests : Requests → List AnswerLine
+  lines_of_requests rs =
+      flat_map policy_of_program (counted_from 1 (groups program_key rs))
       ++ done_line program_of limit s ∷ []
+
+  -- the lines of all calls
+  unfoldable pub policy_lines : List AnswerLine
+  policy_lines = lines_of_requests (requests program_of limit s)
+
+  -- the lines of the granted calls alone
+  unfoldable pub granted_policy_lines : List AnswerLine
+  granted_policy_lines = lines_of_requests (granted_calls (requests program_of limit s))

@@ -7,7 +7,7 @@ use super::words::{NAMES, Want, say_invalid, wants_of};
 use crate::programs::{Label, begins_with_letter, is_jump, label_of};
 use crate::words::{content, last_word, next_word, push_words};
 use pv_model::limits::LINES;
-use pv_model::{Instruction, Text};
+use pv_model::{Instruction, Perms, Text};
 use pv_promises::{ALL, read_promises};
 use pv_script::instruction::instruction as parsed;
 use pv_text::lines::{after_one_space, split_word};
@@ -28,7 +28,7 @@ pub fn second_label(alloc: Global, label: Option<&[u8]>) -> Result<Saying, Alloc
 }
 
 // Returns the first word of a promises argument that is no keyword.
-fn unknown_word(promises: &Option<Text>) -> Option<&[u8]> {
+fn unknown_keyword(promises: &Option<Text>) -> Option<&[u8]> {
     let Some(promises) = promises else {
         return None;
     };
@@ -48,16 +48,38 @@ fn say_unknown_promise(alloc: Global, out: &mut Saying, word: &[u8]) -> Result<(
     say_nearest(alloc, out, word, &keywords)
 }
 
-/// Returns the message that a line is a pledge(2) with a word that is no keyword.
+// Writes that a letter is no permission of unveil(2).
+fn say_unknown_permission(out: &mut Saying, permissions: &Option<Text>) -> Result<(), AllocError> {
+    let text = match permissions {
+        Some(text) => text.as_slice(),
+        None => b"",
+    };
+    let mut letters = text.windows(1);
+    let letter = letters.find(|letter| Perms::read(letter).is_none());
+    let after = b": expected r, w, x and c";
+    say_word(
+        out,
+        b"warning: unknown permission ",
+        letter.unwrap_or(b""),
+        after,
+    )
+}
+
+/// Returns the message that a line is a pledge(2) with a word that is no keyword, or an unveil(2) with a letter that is
+/// no permission.
 ///
 /// # Errors
 ///
 /// Returns `AllocError` if memory cannot be allocated.
-pub fn unknown_promise(alloc: Global, line: &[u8]) -> Result<Saying, AllocError> {
+pub fn unknown_word(alloc: Global, line: &[u8]) -> Result<Saying, AllocError> {
     let mut out = Saying::new(alloc);
-    if let Ok(Instruction::Pledge(promises, execpromises)) = parsed(LINES as u16, line) {
-        let word = unknown_word(&promises).or(unknown_word(&execpromises));
-        say_unknown_promise(alloc, &mut out, word.unwrap_or(b""))?;
+    match parsed(LINES as u16, line) {
+        Ok(Instruction::Pledge(promises, execpromises)) => {
+            let word = unknown_keyword(&promises).or(unknown_keyword(&execpromises));
+            say_unknown_promise(alloc, &mut out, word.unwrap_or(b""))?;
+        }
+        Ok(Instruction::Unveil(_, permissions)) => say_unknown_permission(&mut out, &permissions)?,
+        _ => {}
     }
     Ok(out)
 }
@@ -97,6 +119,9 @@ fn say_no_name(
     say_word(out, b"unknown call or instruction ", word, b"")?;
     if let [b' ', b':', ..] = rest {
         return say(out, b"; write a label and its colon as one word");
+    }
+    if matches!(word, [b'E' | b'e', b'N' | b'n', b'D' | b'd']) {
+        return say(out, b"; did you mean 'END'?");
     }
     say_nearest(alloc, out, word, &NAMES)
 }
@@ -278,7 +303,8 @@ fn say_argument(
             if let [b'"', ..] = bytes {
                 return say_no_text(out, bytes);
             }
-            say_invalid(out, want, word)
+            say_invalid(out, want, word)?;
+            say_nearest(alloc, out, word, &[b"null"])
         }
         Want::Line => say_target(alloc, out, word, labels),
         _ => say_invalid(out, want, word),

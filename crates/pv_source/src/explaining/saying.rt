@@ -1,7 +1,7 @@
 //! Formatting bytes in messages.
 ghost use Rattle.std.specs.Prelude.{◌≡◌, ◌++◌, [], ◌∷◌, true, codes, flat_map, OnOk};
 ghost use Rattle.std.specs.Fmt.{decimal};
-ghost use Rattle.pv_model.specs.Trace.{hex_byte};
+ghost use Rattle.pv_model.specs.Machine.{hex_byte};
 ghost use Rattle.pv_source.specs.Saying.{is_printable, IsPrintable, said_byte, said, said_part};
 
 use itoa::Buffer;

@@ -2,16 +2,14 @@
 ghost use Rattle.std.specs.Prelude.{◌≡◌, ◌+◌, ◌<◌, ◌≤◌, false, length, IsTrue, OnOk};
 ghost use Rattle.std.specs.Result.{is_err};
 ghost use Rattle.pv_dirs.specs.Trees.{bytes_at};
-ghost use Rattle.pv_model.specs.Room.{greatest_length};
-ghost use Rattle.pv_model.specs.Sealed.{is_file};
-ghost use Rattle.pv_model.specs.Tree.{node_at, find_entry};
+ghost use Rattle.pv_model.specs.Machine.{greatest_length, is_file, node_at, find_entry};
 ghost use Rattle.pv_laws_trees.specs.Found.{Alike};
 ghost use Rattle.pv_tree.specs.Changes.{overwritten, resized};
 ghost use Rattle.pv_tree.specs.Holding.{with_tree};
 ghost use Rattle.pv_tree.specs.Rooms.{HeldTreeChanges};
 
 use super::Tree;
-use pv_inodes::Space;
+use pv_dirs::inodes::Space;
 
 impl Tree {
     /// Writes `bytes` to a file at offset `at`. A gap past the end of the file is filled with zeros. A write of zero

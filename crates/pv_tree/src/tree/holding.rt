@@ -1,6 +1,6 @@
 //! Reference counts.
 ghost use Rattle.std.specs.Prelude.{◌≡◌, ◌≢◌, ◌<◌, suc, ◌+◌, ◌-◌, ℕ, IsSome};
-ghost use Rattle.pv_model.specs.Tree.{node_at, find_entry};
+ghost use Rattle.pv_model.specs.Machine.{node_at, find_entry};
 ghost use Rattle.pv_laws_trees.specs.Found.{Alike};
 ghost use Rattle.pv_tree.specs.Changes.{settled};
 ghost use Rattle.pv_tree.specs.Holding.{HeldTree, holds_at, held_more, held_less, collected};

@@ -1,7 +1,6 @@
 //! The tree of an existing image.
 ghost use Rattle.std.specs.Prelude.{◌≡◌, replicate, IfOk};
-ghost use Rattle.pv_model.specs.Image.{IsImageOf};
-ghost use Rattle.pv_model.specs.Tree.{Tree as Nodes};
+ghost use Rattle.pv_model.specs.Machine.{IsImageOf, Tree as Nodes};
 ghost use Rattle.pv_dirs.specs.Images.{IsImage};
 
 use super::{NUMBERS, Tree, no_holds, no_names, root_above_itself};

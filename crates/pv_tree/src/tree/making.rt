@@ -1,7 +1,6 @@
 //! Creating nodes.
 ghost use Rattle.std.specs.Prelude.{◌≡◌, ◌<◌, length, IsTrue, false, None, Some, IsSome, IfOk, OnOk, OnErr};
-ghost use Rattle.pv_model.specs.Room.{greatest_entries, is_too_long};
-ghost use Rattle.pv_model.specs.Tree.{node_at, entries_at, find_entry, is_name, is_node, with_node, with_entry, with_new_node, new_number, IsWellFormed};
+ghost use Rattle.pv_model.specs.Machine.{greatest_entries, is_too_long, node_at, entries_at, find_entry, is_name, is_node, with_node, with_entry, with_new_node, new_number, IsWellFormed};
 ghost use Rattle.pv_laws_trees.specs.Found.{AlikeBut};
 ghost use Rattle.pv_laws_trees.specs.Encoded.{are_bytes, has_bytes};
 ghost use Rattle.pv_laws_trees.specs.Tree.{Appears};
@@ -13,7 +12,7 @@ ghost use Rattle.pv_tree.specs.Present.{IsShaped};
 
 use super::Tree;
 use pv_dirs::Directories;
-use pv_inodes::Space;
+use pv_dirs::inodes::Space;
 use pv_model::{Kind, NewNode};
 
 // Returns the kind of a new node.

@@ -1,8 +1,6 @@
 //! Adding and removing names.
 ghost use Rattle.std.specs.Prelude.{◌≡◌, [], IsTrue, false, None, IsSome, IfSome, IfOk, OnErr};
-ghost use Rattle.pv_model.specs.Calls.Paths.{contains_directory, entries_there};
-ghost use Rattle.pv_model.specs.Room.{fits};
-ghost use Rattle.pv_model.specs.Tree.{node_at, find_entry, is_directory_at, is_name, with_entry, without_entry, IsWellFormed};
+ghost use Rattle.pv_model.specs.Machine.{contains_directory, entries_there, fits, node_at, find_entry, is_directory_at, is_name, with_entry, without_entry, IsWellFormed};
 ghost use Rattle.pv_laws_trees.specs.Found.{AlikeBut, AlikeButTwo};
 ghost use Rattle.pv_laws_trees.specs.Tree.{Appears};
 ghost use Rattle.pv_tree.specs.Changes.{moved, AreMoved, IsOtherName};
@@ -14,7 +12,7 @@ use super::Tree;
 use super::holding::settle;
 use super::making::enter;
 use pv_dirs::Directories;
-use pv_inodes::Space;
+use pv_dirs::inodes::Space;
 
 /// An entry that was moved.
 #[derive(Clone, Copy)]

@@ -1,7 +1,7 @@
 //! Iterating over the names of a node.
 ghost use Rattle.std.specs.Prelude.{◌≡◌};
 ghost use Rattle.pv_model.specs.Answers.Nodes.{least_name};
-ghost use Rattle.pv_model.specs.Tree.{names_of};
+ghost use Rattle.pv_model.specs.Machine.{names_of};
 ghost use Rattle.pv_tree.specs.NodeNames.{first_after, names_after, names_from, last_of, IsNextNameOfNode};
 
 use super::Tree;

@@ -1,5 +1,5 @@
-use Rattle.pv_answers.proofs.Writing.{or_as, or_longer}
-use Rattle.pv_explain.proofs.Stops.{still_ok, stopped, then_stops}
+use Rattle.pv_reduced.proofs.OfAnswers.Writing.{or_as, or_longer}
+use Rattle.pv_reduced.proofs.OfStepLines.Stops.{still_ok, stopped, then_stops}
 use Rattle.pv_access.proofs.Written.{access-bytes, complete-found, last-bytes}
 use Rattle.pv_access.proofs.access.write_access.Goals as goal
 

@@ -1,14 +1,9 @@
 use Rattle.std.proofs.Common.{◌∙◌, ◌++◌, ap, ap₂, sym, List}
 use Rattle.std.specs.Prelude.{flat_map}
-use Rattle.pv_model.specs.Answer.{Answered}
+use Rattle.pv_model.specs.Machine.{Answered, Bytes, call_of, State, process_at, Stepped, flags_of}
 use Rattle.pv_model.specs.Answers.Access.{accesses_by_open}
-use Rattle.pv_model.specs.Bytes.{Bytes}
-use Rattle.pv_model.specs.CallRef.{call_of}
-use Rattle.pv_model.specs.State.{State, process_at}
-use Rattle.pv_model.specs.Step.{Stepped}
-use Rattle.pv_model.specs.Touch.{flags_of}
-use Rattle.pv_session.specs.Running.{stepped}
-use Rattle.pv_session.proofs.Stepping.{step-called}
+use Rattle.pv_reduced.specs.OfSession.Running.{stepped}
+use Rattle.pv_reduced.proofs.OfSession.Stepping.{step-called}
 use Rattle.pv_access.specs.Candidates.{candidates}
 use Rattle.pv_access.specs.Texts.{line_in, texts_by, texts_with, with_texts}
 use Rattle.pv_access.proofs.Prepared.{call-texts}

@@ -1,7 +1,6 @@
 use Rattle.std.proofs.Common.{ℕ, ◌<◌, ◌∙◌, ap, option_map, w32, arith}
 use Rattle.std.proofs.lemmas.Int.{to_z_pos}
-use Rattle.pv_model.specs.Effect.{open_file}
-use Rattle.pv_model.specs.State.{OpenFile}
+use Rattle.pv_model.specs.Machine.{open_file, OpenFile}
 use Rattle.pv_access.proofs.step.node_at_number.Goals as goal
 
 pub returns-then-d-lt16 : goal.returns-then-d-lt16

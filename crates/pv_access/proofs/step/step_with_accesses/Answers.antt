@@ -1,7 +1,6 @@
 use Rattle.std.proofs.Common.{◌∙◌, ap, sym}
 use Rattle.pv_laws_access.proofs.Ends.{step-is}
-use Rattle.pv_model.specs.Grammar.Programs.{program_of}
-use Rattle.pv_model.specs.Step.{Stepped, step_by}
+use Rattle.pv_model.specs.Machine.{program_of, Stepped, step_by}
 use Rattle.pv_access.proofs.step.step_with_accesses.Goals as goal
 
 pub returns-in-Register-clause-after : goal.returns-in-Register-clause-after

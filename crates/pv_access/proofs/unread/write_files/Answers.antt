@@ -1,7 +1,7 @@
 use Rattle.std.proofs.Common.{◌∙◌, ℕ, List, ap, map, rules}
 use Rattle.std.proofs.lemmas.List.{drop_more}
 use Rattle.pv_listing.proofs.Rests.{rest_after, rest_begins}
-use Rattle.pv_model.specs.Answers.Lines.{answer_bytes}
+use Rattle.pv_model.specs.Machine.{answer_bytes}
 use Rattle.pv_streams.proofs.Reporting.{on_err}
 use Rattle.pv_access.specs.Unread.{unread_file_line}
 use Rattle.pv_access.proofs.unread.write_files.Goals as goal

@@ -1,4 +1,4 @@
-use Rattle.pv_model.specs.Trace.{text_line}
+use Rattle.pv_model.specs.Machine.{text_line}
 use Rattle.std.proofs.Common.{rules}
 use Rattle.std.specs.Option.{option_copied}
 use Rattle.pv_answers.proofs.OpenLines.{line-is}

@@ -1,7 +1,6 @@
 use Rattle.std.proofs.Common.{◌≡◌, drop}
 use Rattle.pv_listing.proofs.Rests.{LeavesRest}
-use Rattle.pv_model.specs.Answers.Lines.{answer_bytes}
-use Rattle.pv_model.specs.Calls.Restraints.{entries_of_table}
+use Rattle.pv_model.specs.Machine.{answer_bytes, entries_of_table}
 use Rattle.pv_answers.specs.Holdings.{entry_lines}
 use Rattle.pv_answers.proofs.Holdings.{entry_lines_from}
 use Rattle.pv_answers.proofs.holding.write_entries.Given as goal

@@ -1,6 +1,6 @@
 use Rattle.std.proofs.Common.{◌≡◌, ◌<◌, ◌+◌, ℕ, [], ◌∷◌, length, refl, arith, rules, slice_index_or}
 use Rattle.std.proofs.lemmas.Fmt.{decimal_digit}
-use Rattle.pv_model.specs.Bytes.{Bytes}
+use Rattle.pv_model.specs.Machine.{Bytes}
 use Rattle.pv_answers.specs.Texts.{line_front}
 use Rattle.pv_answers.proofs.lines.front_of.Goals as goal
 

@@ -1,8 +1,7 @@
 use Rattle.std.proofs.Common.{◌∙◌, arith, refl, sym, subst, rules}
 use Rattle.std.proofs.lemmas.Grind.{common_steps}
 use Rattle.pv_listing.proofs.Rests.{LeavesRest, rest_all, rest_after, rest_begins}
-use Rattle.pv_model.specs.Answers.Lines.{spaced}
-use Rattle.pv_model.specs.Promise.{all_promises}
+use Rattle.pv_model.specs.Machine.{spaced, all_promises}
 use Rattle.pv_streams.proofs.Reporting.{on_err}
 use Rattle.pv_answers.specs.Texts.{keywords_in}
 use Rattle.pv_answers.proofs.Keywords.{keywords-end, keyword-next, keyword-none}

@@ -1,6 +1,5 @@
 use Rattle.std.proofs.Common.{◌≡◌, length}
-use Rattle.pv_model.specs.Answers.Lines.{answer_bytes}
-use Rattle.pv_model.specs.Answers.Reach.{reach_lines}
+use Rattle.pv_model.specs.Machine.{answer_bytes, reach_lines}
 use Rattle.pv_listing.proofs.Rests.{LeavesRest}
 use Rattle.pv_answers.proofs.Following.{records_after}
 use Rattle.pv_answers.proofs.Reached.{rows}

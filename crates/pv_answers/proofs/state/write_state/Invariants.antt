@@ -1,6 +1,5 @@
 use Rattle.std.proofs.Common.{length}
-use Rattle.pv_model.specs.Answers.Lines.{answer_bytes}
-use Rattle.pv_model.specs.Answers.ProcessRecord.{state_lines}
+use Rattle.pv_model.specs.Machine.{answer_bytes, state_lines}
 use Rattle.pv_answers.proofs.Following.{records_after}
 use Rattle.pv_answers.proofs.States.{lines_of_all}
 use Rattle.pv_answers.proofs.Writing.{WritesBut}

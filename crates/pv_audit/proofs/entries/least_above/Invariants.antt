@@ -1,6 +1,6 @@
 use Rattle.std.proofs.Common.{◌≡◌, ◌+◌, ℕ, true}
-use Rattle.pv_model.specs.Calls.Restraints.{entries_of_table}
-use Rattle.pv_model.specs.Tree.{is_directory_at, ancestors_within}
+use Rattle.pv_model.specs.Machine.{entries_of_table, is_directory_at}
+use Rattle.pv_model.specs.Tree.{ancestors_within}
 use Rattle.pv_audit.specs.Findings.{lesser}
 use Rattle.pv_audit.proofs.TableEntries.{least_own}
 use Rattle.pv_audit.proofs.entries.least_above.Given as goal

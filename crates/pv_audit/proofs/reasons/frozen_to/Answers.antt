@@ -1,6 +1,5 @@
 use Rattle.std.proofs.Common.{List, [], ◌∷◌, map, get_or, is_some, ap, ◌∙◌}
-use Rattle.pv_model.specs.State.{process_at}
-use Rattle.pv_model.specs.Tree.{names_of}
+use Rattle.pv_model.specs.Machine.{process_at, names_of}
 use Rattle.pv_audit.specs.declared.suspects.Suspect.{Suspect}
 use Rattle.pv_audit.specs.Findings.{noted_by, suspect}
 use Rattle.pv_audit.specs.Reasons.{preserved_at}

@@ -1,7 +1,7 @@
 use Rattle.std.proofs.Common.{◌∙◌, sym, ap, List, [], ◌∷◌, map, get_or, option_map}
 use Rattle.std.proofs.lemmas.Option.{same_Some}
-use Rattle.pv_model.specs.Tree.{names_of}
-use Rattle.pv_procs.specs.Parts.{record_of}
+use Rattle.pv_model.specs.Machine.{names_of}
+use Rattle.pv_calls_state.specs.OfProcs.Parts.{record_of}
 use Rattle.pv_audit.specs.declared.suspects.Suspect.{Suspect}
 use Rattle.pv_audit.specs.Findings.{noted_by, suspect}
 use Rattle.pv_audit.specs.Reasons.{all_reasons_of}

@@ -1,7 +1,7 @@
 use Rattle.std.proofs.Common.{◌≡◌, ◌<◌, [], ◌∷◌, ◌++◌, nat_le, ◌&&◌, is_some, length, map, lit<, refl, ap, sym, ◌∙◌, arith}
 use Rattle.pv_audit.specs.declared.suspects.Suspect.{Suspect}
 use Rattle.std.proofs.lemmas.Bool.{and_parts, leb-true}
-use Rattle.pv_procs.specs.ProcessTable.{ProcessTable, process_in}
+use Rattle.pv_calls_state.specs.OfProcs.ProcessTable.{ProcessTable, process_in}
 use Rattle.pv_audit.specs.Findings.{suspect}
 use Rattle.pv_audit.proofs.LiveOnes.{Recorded, start, below-zero, below-all, suspects-more, suspects-same, suspects-few}
 use Rattle.pv_audit.proofs.suspects.live_suspects.Goals as goal

@@ -1,7 +1,7 @@
 use Rattle.std.proofs.Common.{List, get_or, is_some, ◌∙◌, ap, arith}
 use Rattle.std.proofs.lemmas.List.{get_or_default}
-use Rattle.pv_model.specs.State.{process_at}
-use Rattle.pv_procs.proofs.Steps.{mapped_further}
+use Rattle.pv_model.specs.Machine.{process_at}
+use Rattle.pv_calls_state.proofs.OfProcs.Steps.{mapped_further}
 use Rattle.pv_audit.specs.declared.suspects.Suspect.{Suspect}
 use Rattle.pv_audit.specs.Findings.{note_of, suspect}
 use Rattle.pv_audit.proofs.FoundOnes.{live-at, undone}

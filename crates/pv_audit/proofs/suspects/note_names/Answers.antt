@@ -1,7 +1,6 @@
 use Rattle.std.proofs.Common.{◌≡◌, ◌<◌, Option, None, Some, length, sym, subst}
-use Rattle.pv_model.specs.Bytes.{Bytes}
-use Rattle.pv_model.specs.Tree.{Tree, names_of}
-use Rattle.pv_tree.specs.NodeNames.{names_after, names_from, IsNextNameOfNode}
+use Rattle.pv_model.specs.Machine.{Bytes, Tree, names_of}
+use Rattle.pv_calls_state.specs.OfTree.NodeNames.{names_after, names_from, IsNextNameOfNode}
 use Rattle.pv_audit.proofs.FoundOnes.{Named, IsNotedTo, IsOfNode, noted-all, noted-first, noted-next, noted-fewer, of-next, of-directory}
 use Rattle.pv_audit.proofs.suspects.note_names.Goals as goal
 

@@ -1,7 +1,7 @@
 use Rattle.std.proofs.Common.{length}
-use Rattle.pv_model.specs.Tree.{names_of}
+use Rattle.pv_model.specs.Machine.{names_of}
 use Rattle.pv_audit.proofs.FoundOnes.{IsNotedTo, IsOfNode}
-use Rattle.pv_tree.specs.NodeNames.{names_from}
+use Rattle.pv_calls_state.specs.OfTree.NodeNames.{names_from}
 use Rattle.pv_audit.proofs.suspects.note_names.Given as goal
 
 abbrev pub invariant-loop-next : goal.invariant-loop-next

@@ -1,7 +1,6 @@
 use Rattle.std.proofs.Common.{◌≢◌, true, false, [], map, length, ap, sym, ◌∙◌}
 use Rattle.std.proofs.lemmas.List.{nil_from_length}
-use Rattle.pv_model.specs.Held.{live_processes}
-use Rattle.pv_model.specs.Tree.{Tree, names_of}
+use Rattle.pv_model.specs.Machine.{live_processes, Tree, names_of}
 use Rattle.pv_laws_access.proofs.Verdicts.{verdicts-exact}
 use Rattle.pv_audit.specs.Findings.{are_live}
 use Rattle.pv_audit.proofs.AllVerdicts.{some-of, verdict-exposed, verdict-preserved}

@@ -1,11 +1,8 @@
 use Rattle.std.proofs.Common.{◌≡◌, ◌∙◌, ap, sym, true, false, arith, refl}
 use Rattle.std.proofs.lemmas.Result.{err_from_is_err_and}
-use Rattle.pv_calls_state.specs.Attempts.{collected}
-use Rattle.pv_calls_state.specs.Changes.{with_directory}
-use Rattle.pv_model.specs.Answer.{update_live}
-use Rattle.pv_model.specs.Held.{collect}
-use Rattle.pv_model.specs.State.{with_process}
-use Rattle.pv_model.specs.Tree.{find_entry, is_directory_at}
+use Rattle.pv_calls_plain.specs.OfCallsState.Attempts.{collected}
+use Rattle.pv_calls_plain.specs.OfCallsState.Changes.{with_directory}
+use Rattle.pv_model.specs.Machine.{update_live, collect, with_process, find_entry, is_directory_at}
 use Rattle.pv_calls_path.proofs.Naming.{alike_update}
 use Rattle.pv_calls_path.proofs.NodeCalls.{chdir_refused, chdir_goes}
 use Rattle.pv_calls_path.proofs.Reaching.{found-as, missed-as}

@@ -1,4 +1,4 @@
-use Rattle.pv_model.specs.Grammar.Programs.{program_of}
+use Rattle.pv_model.specs.Machine.{program_of}
 use Rattle.pv_calls_path.proofs.Begun.{begun-ends}
 use Rattle.pv_calls_path.proofs.ends.begun_ends.Goals as goal
 

@@ -1,16 +1,9 @@
 use Rattle.std.specs.Result.{result_ok}
 use Rattle.std.proofs.Common.{◌≡◌, ◌∙◌, rules, None, Some, option_map, refl, ap, sym}
-use Rattle.pv_dirs.specs.Trees.{sort_of}
-use Rattle.pv_calls_state.specs.Attempts.{collected}
+use Rattle.pv_namei.specs.OfDirs.Trees.{sort_of}
+use Rattle.pv_calls_plain.specs.OfCallsState.Attempts.{collected}
 use Rattle.pv_model.specs.declared.kind.Kind.TheVariants.{Executable}
-use Rattle.pv_model.specs.Answer.{update_live}
-use Rattle.pv_model.specs.Calls.Processes.{executable_bytes, with_program}
-use Rattle.pv_model.specs.Effect.{bytes_of}
-use Rattle.pv_model.specs.Grammar.Programs.{program_of, read_program}
-use Rattle.pv_model.specs.Held.{collect}
-use Rattle.pv_model.specs.Walks.{execve_walk}
-use Rattle.pv_model.specs.State.{with_process}
-use Rattle.pv_model.specs.Tree.{find_entry, node_at}
+use Rattle.pv_model.specs.Machine.{update_live, executable_bytes, with_program, bytes_of, program_of, read_program, collect, execve_walk, with_process, find_entry, node_at}
 use Rattle.pv_laws_states.proofs.ByTree.{place-there}
 use Rattle.pv_calls_path.proofs.Naming.{alike_update}
 use Rattle.pv_calls_path.proofs.NodeCalls.{no_bytes, own_bytes, execve_refused, execve_unspelled, execve_goes, found_there, leads_to, unspelled}

@@ -1,7 +1,5 @@
 use Rattle.std.proofs.Common.{◌≡◌, subst}
-use Rattle.pv_model.specs.Answer.{answer_by_attempt}
-use Rattle.pv_model.specs.Calls.Paths.{stat_at}
-use Rattle.pv_model.specs.Walks.{Walk}
+use Rattle.pv_model.specs.Machine.{answer_by_attempt, stat_at, Walk}
 use Rattle.pv_calls_plain.specs.Performed.{answered}
 use Rattle.pv_calls_path.proofs.looking.lstat.Goals as goal
 

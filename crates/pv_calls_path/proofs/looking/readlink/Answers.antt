@@ -1,14 +1,9 @@
 use Rattle.std.proofs.Common.{◌≡◌, ◌∙◌, ◌≤◌, true, false, length, refl, ap, ap₂, sym, subst}
-use Rattle.pv_dirs.specs.Trees.{bytes_at}
+use Rattle.pv_namei.specs.OfDirs.Trees.{bytes_at}
 use Rattle.pv_model.specs.declared.errno.Errno.TheVariants.{EINVAL}
 use Rattle.pv_model.specs.declared.outcome.Cause.TheVariants.{Plain}
-use Rattle.pv_model.specs.Answer.{answer_by_attempt}
-use Rattle.pv_model.specs.Attempt.{done, refused}
-use Rattle.pv_model.specs.Calls.Descriptors.{is_link}
-use Rattle.pv_model.specs.Effect.{returns_bytes}
-use Rattle.pv_model.specs.State.{process_at}
-use Rattle.pv_model.specs.Tree.{find_entry, node_at}
-use Rattle.pv_calls_state.proofs.Alone.{some-at}
+use Rattle.pv_model.specs.Machine.{answer_by_attempt, done, refused, is_link, returns_bytes, process_at, find_entry, node_at}
+use Rattle.pv_calls_plain.proofs.OfCallsState.Alone.{some-at}
 use Rattle.pv_calls_path.proofs.LookCalls.{link_rest, names-refused, names-reported, readlink-is, readlink-not, text-short, whole-text}
 use Rattle.pv_calls_path.proofs.Reaching.{found-as, missed-as}
 use Rattle.pv_calls_path.proofs.looking.readlink.Goals as goal

@@ -1,11 +1,6 @@
 use Rattle.std.proofs.Common.{◌∙◌, refl, ap, sym}
-use Rattle.pv_model.specs.Answer.{answer_by_attempt}
-use Rattle.pv_model.specs.Attempt.{done, refused}
-use Rattle.pv_model.specs.Effect.{answers_bytes, returns_bytes, status}
-use Rattle.pv_model.specs.State.{process_at}
-use Rattle.pv_model.specs.Tree.{find_entry}
-use Rattle.pv_calls_state.proofs.Alone.{some-at}
-use Rattle.pv_model.specs.CallRef.{walk_of}
+use Rattle.pv_model.specs.Machine.{answer_by_attempt, done, refused, answers_bytes, returns_bytes, status, process_at, find_entry, walk_of}
+use Rattle.pv_calls_plain.proofs.OfCallsState.Alone.{some-at}
 use Rattle.pv_calls_path.proofs.LookCalls.{names-refused, names-reported, stat-walks}
 use Rattle.pv_calls_path.proofs.looking.stat_at.Goals as goal
 

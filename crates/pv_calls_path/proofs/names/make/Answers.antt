@@ -1,13 +1,10 @@
 use Rattle.std.proofs.Common.{◌≡◌, ◌∙◌, ap, sym, true, false, is_some, refl}
 use Rattle.std.proofs.lemmas.Result.{err_from_is_err_and}
-use Rattle.pv_calls_state.specs.Attempts.{collected}
-use Rattle.pv_model.specs.CallRef.{walk_of}
-use Rattle.pv_model.specs.Effect.{node_of}
-use Rattle.pv_model.specs.Tree.{find_entry}
-use Rattle.pv_model.specs.Room.{fits}
+use Rattle.pv_calls_plain.specs.OfCallsState.Attempts.{collected}
+use Rattle.pv_model.specs.Machine.{walk_of, node_of, find_entry, fits}
 use Rattle.pv_calls_path.proofs.NameCalls.{make_crowded, names_made}
 use Rattle.pv_laws_trees.proofs.NewNodes.{new-entries}
-use Rattle.pv_tree.specs.Changes.{new_node}
+use Rattle.pv_namei.specs.OfTree.Changes.{new_node}
 use Rattle.pv_calls_path.proofs.names.make.Goals as goal
 
 pub returns-in_err-place-clause-performed : goal.returns-in_err-place-clause-performed

@@ -1,8 +1,7 @@
 use Rattle.std.proofs.Common.{◌≡◌, [], subst}
 use Rattle.pv_model.specs.Calls.Paths.{make}
-use Rattle.pv_model.specs.Tree.{directory_node}
-use Rattle.pv_model.specs.Walks.{Walk}
-use Rattle.pv_calls_state.specs.Attempts.{collected}
+use Rattle.pv_model.specs.Machine.{directory_node, Walk}
+use Rattle.pv_calls_plain.specs.OfCallsState.Attempts.{collected}
 use Rattle.pv_calls_plain.specs.Performed.{attempt_of}
 use Rattle.pv_calls_path.proofs.names.mkdir.Goals as goal
 

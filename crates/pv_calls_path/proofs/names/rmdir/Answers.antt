@@ -1,9 +1,7 @@
 use Rattle.std.proofs.Common.{◌≡◌, ◌∙◌, ap, sym, true, false, refl}
 use Rattle.std.proofs.lemmas.Result.{err_from_is_err_and}
-use Rattle.pv_calls_state.specs.Attempts.{collected}
-use Rattle.pv_model.specs.Bytes.{is_empty}
-use Rattle.pv_model.specs.Calls.Paths.{ends_in_dot}
-use Rattle.pv_model.specs.Tree.{find_entry, is_directory_at, entries_at}
+use Rattle.pv_calls_plain.specs.OfCallsState.Attempts.{collected}
+use Rattle.pv_model.specs.Machine.{is_empty, ends_in_dot, find_entry, is_directory_at, entries_at}
 use Rattle.pv_calls_path.proofs.NameCalls.{names_left, some_left, rmdir_missed, rmdir_full}
 use Rattle.pv_calls_path.proofs.Reaching.{missed-as, reached-as}
 use Rattle.pv_calls_path.proofs.names.rmdir.Goals as goal

@@ -1,9 +1,8 @@
 use Rattle.std.proofs.Common.{◌≡◌, ◌∙◌, ap, sym, subst, false, length, nat_lt}
 use Rattle.std.proofs.lemmas.Bool.{le-ltb}
 use Rattle.pv_model.specs.Calls.Paths.{make}
-use Rattle.pv_model.specs.Tree.{link_node}
-use Rattle.pv_model.specs.Walks.{Walk}
-use Rattle.pv_calls_state.specs.Attempts.{collected}
+use Rattle.pv_model.specs.Machine.{link_node, Walk}
+use Rattle.pv_calls_plain.specs.OfCallsState.Attempts.{collected}
 use Rattle.pv_calls_plain.specs.Performed.{attempt_of}
 use Rattle.pv_calls_path.proofs.NameCalls.{empty_by_length, link_text_good, symlink_makes}
 use Rattle.pv_calls_path.proofs.names.symlink.Goals as goal

@@ -1,7 +1,7 @@
 use Rattle.std.proofs.Common.{◌≡◌, ◌∙◌, ap, sym, false, refl}
 use Rattle.std.proofs.lemmas.Result.{err_from_is_err_and}
-use Rattle.pv_calls_state.specs.Attempts.{collected}
-use Rattle.pv_model.specs.Tree.{find_entry, is_directory_at, node_at}
+use Rattle.pv_calls_plain.specs.OfCallsState.Attempts.{collected}
+use Rattle.pv_model.specs.Machine.{find_entry, is_directory_at, node_at}
 use Rattle.pv_calls_path.proofs.NameCalls.{names_left}
 use Rattle.pv_calls_path.proofs.Reaching.{missed-as}
 use Rattle.pv_calls_path.proofs.names.unlink.Goals as goal

@@ -1,9 +1,7 @@
 use Rattle.std.proofs.Common.{◌≡◌, ◌∙◌, ap, sym, true}
-use Rattle.pv_calls_state.specs.Attempts.{collected}
-use Rattle.pv_model.specs.Room.{fits}
-use Rattle.pv_model.specs.State.{process_at}
-use Rattle.pv_model.specs.Tree.{find_entry}
-use Rattle.pv_calls_state.proofs.Alone.{some-at}
+use Rattle.pv_calls_plain.specs.OfCallsState.Attempts.{collected}
+use Rattle.pv_model.specs.Machine.{fits, process_at, find_entry}
+use Rattle.pv_calls_plain.proofs.OfCallsState.Alone.{some-at}
 use Rattle.pv_calls_path.proofs.OpenCalls.{names_opened, create_crowded}
 use Rattle.pv_calls_path.proofs.opening.create_there.Goals as goal
 

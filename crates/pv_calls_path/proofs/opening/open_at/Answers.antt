@@ -1,8 +1,7 @@
 use Rattle.std.proofs.Common.{◌∙◌, ap, sym, refl}
 use Rattle.std.proofs.lemmas.Result.{err_from_is_err_and}
-use Rattle.pv_calls_state.specs.Attempts.{collected}
-use Rattle.pv_model.specs.Numbered.{least_free}
-use Rattle.pv_model.specs.State.{process_at}
+use Rattle.pv_calls_plain.specs.OfCallsState.Attempts.{collected}
+use Rattle.pv_model.specs.Machine.{least_free, process_at}
 use Rattle.pv_calls_path.proofs.Reaching.{reached-as, recorded, stopped-as}
 use Rattle.pv_laws_states.proofs.ByTree.{place-there}
 use Rattle.pv_calls_path.proofs.OpenCalls.{few_descriptors, few_files, low_files, open_stopped, open_reached}

@@ -1,8 +1,7 @@
 use Rattle.std.proofs.Common.{ap, sym, subst}
 use Rattle.std.proofs.lemmas.Result.{IfOk-weaker, IfErr-weaker}
 use Rattle.pv_calls_path.specs.Reached.{IsReached, IsStopped}
-use Rattle.pv_model.specs.CallRef.{walk_of}
-use Rattle.pv_model.specs.State.{process_at}
+use Rattle.pv_model.specs.Machine.{walk_of, process_at}
 use Rattle.pv_calls_path.proofs.Reaching.{recorded}
 use Rattle.pv_calls_path.proofs.reach.reach.Goals as goal
 

@@ -1,7 +1,6 @@
 use Rattle.std.proofs.lemmas.Result.{err_from_is_err_and}
-use Rattle.pv_model.specs.Attempt.{demand, ◌>>=◌}
+use Rattle.pv_model.specs.Machine.{demand, ◌>>=◌, node_of}
 use Rattle.pv_model.specs.declared.errno.Errno.TheVariants.{ENOENT}
-use Rattle.pv_model.specs.Effect.{node_of}
 use Rattle.pv_calls_path.proofs.reach.reach_found.Goals as goal
 
 pub returns-in_err-place-clause-missed : goal.returns-in_err-place-clause-missed

@@ -1,8 +1,6 @@
 use Rattle.std.proofs.Common.{ap, refl, arith}
 use Rattle.std.proofs.lemmas.Result.{err_from_is_err_and}
-use Rattle.pv_model.specs.Attempt.{◌>>◌}
-use Rattle.pv_model.specs.CallRef.{walk_of}
-use Rattle.pv_model.specs.Effect.{judge_for, judgement_or_refusal}
+use Rattle.pv_model.specs.Machine.{◌>>◌, walk_of, judge_for, judgement_or_refusal}
 use Rattle.pv_model.specs.declared.errno.Errno.TheVariants.{ENOENT, EACCES}
 use Rattle.pv_model.specs.declared.judgement.Judgement.TheVariants.{Allowed, Hidden, Denied}
 use Rattle.pv_model.specs.declared.outcome.Cause.TheVariants.{Unveil as ByUnveil}

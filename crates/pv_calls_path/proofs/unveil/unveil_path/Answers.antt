@@ -1,15 +1,11 @@
 use Rattle.std.proofs.Common.{◌≡◌, ◌∙◌, ap, sym, subst, true, is_some, arith, refl}
 use Rattle.std.proofs.lemmas.Result.{err_from_is_err_and}
-use Rattle.pv_calls_state.specs.Attempts.{collected}
-use Rattle.pv_calls_state.specs.Changes.{unveiled_of, with_table}
+use Rattle.pv_calls_plain.specs.OfCallsState.Attempts.{collected}
+use Rattle.pv_calls_plain.specs.OfCallsState.Changes.{unveiled_of, with_table}
 use Rattle.pv_model.specs.declared.target.Target.{Target}
-use Rattle.pv_model.specs.Attempt.{refused}
-use Rattle.pv_model.specs.Held.{collect}
-use Rattle.pv_model.specs.State.{State, process_at, with_process}
-use Rattle.pv_model.specs.Tree.{Tree, find_entry, node_at}
-use Rattle.pv_model.specs.Unveil.{target_of, target_directory}
-use Rattle.pv_unveil.specs.Added.{add_to}
-use Rattle.pv_calls_state.proofs.Alone.{some-at}
+use Rattle.pv_model.specs.Machine.{refused, collect, State, process_at, with_process, Tree, find_entry, node_at, target_of, target_directory}
+use Rattle.pv_calls_plain.specs.OfUnveil.Added.{add_to}
+use Rattle.pv_calls_plain.proofs.OfCallsState.Alone.{some-at}
 use Rattle.pv_calls_path.proofs.UnveilCalls.{walked_by, lost_by, place_target, is_unlocked, unveil_lost, unveil_refused, unveil_added, leaves}
 use Rattle.pv_calls_path.proofs.unveil.unveil_path.Goals as goal
 

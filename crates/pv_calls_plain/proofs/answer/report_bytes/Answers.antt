@@ -1,5 +1,5 @@
 use Rattle.std.proofs.Common.{◌∙◌, refl, sym}
-use Rattle.pv_model.specs.Answer.{with_front}
+use Rattle.pv_model.specs.Machine.{with_front}
 use Rattle.pv_calls_plain.proofs.Reporting.{live-update, same-front, collect-update}
 use Rattle.pv_calls_plain.proofs.answer.report_bytes.Goals as goal
 

@@ -1,7 +1,7 @@
 use Rattle.std.proofs.Common.{◌∙◌, ap, sym, w32}
 use Rattle.std.proofs.lemmas.Int.{to_z-of_z}
 use Rattle.pv_calls_state.specs.Attempts.{collected}
-use Rattle.pv_model.specs.Calls.Descriptors.{close}
+use Rattle.pv_model.specs.Machine.{close}
 use Rattle.pv_laws_states.proofs.ByProcess.{good-close}
 use Rattle.pv_calls_plain.proofs.Plain.{plainly-performed}
 use Rattle.pv_calls_plain.proofs.descriptors.close.Goals as goal

@@ -1,7 +1,7 @@
 use Rattle.std.proofs.Common.{◌∙◌, ap₂, sym, w32}
 use Rattle.std.proofs.lemmas.Int.{to_z-of_z}
 use Rattle.pv_calls_state.specs.Attempts.{collected}
-use Rattle.pv_model.specs.Calls.Descriptors.{dup2}
+use Rattle.pv_model.specs.Machine.{dup2}
 use Rattle.pv_laws_states.proofs.ByProcess.{good-dup2}
 use Rattle.pv_calls_plain.proofs.Plain.{plainly-performed}
 use Rattle.pv_calls_plain.proofs.descriptors.dup2.Goals as goal

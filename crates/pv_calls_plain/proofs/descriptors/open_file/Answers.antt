@@ -6,9 +6,8 @@ use Rattle.std.proofs.lemmas.Int.{to_z-of_z}
 use Rattle.pv_calls_plain.specs.Performed.{IsOn}
 use Rattle.pv_files.specs.Descriptors.{descriptor_under}
 use Rattle.pv_model.specs.declared.errno.Errno.TheVariants.{EBADF}
-use Rattle.pv_model.specs.Effect.{open_file}
-use Rattle.pv_model.specs.State.{Descriptor, Process, process_at}
-use Rattle.pv_procs.specs.declared.record.ProcessRecord.{ProcessRecord}
+use Rattle.pv_model.specs.Machine.{open_file, Descriptor, Process, process_at}
+use Rattle.pv_calls_state.specs.OfProcs.declared.record.ProcessRecord.{ProcessRecord}
 use Rattle.pv_calls_state.proofs.Alone.{some-at, lent-is}
 use Rattle.pv_calls_plain.proofs.Opened.{on-file, on-opened}
 use Rattle.pv_calls_plain.proofs.descriptors.open_file.Goals as goal

@@ -1,10 +1,7 @@
 use Rattle.std.proofs.Common.{◌∙◌, ap, ap₂, sym, subst, w32}
 use Rattle.std.proofs.lemmas.Int.{to_z-of_z}
 use Rattle.pv_calls_plain.specs.Performed.{IsOn}
-use Rattle.pv_model.specs.Answer.{answer_by_attempt}
-use Rattle.pv_model.specs.Attempt.{done}
-use Rattle.pv_model.specs.Effect.{returns_bytes, status}
-use Rattle.pv_model.specs.State.{OpenFile}
+use Rattle.pv_model.specs.Machine.{answer_by_attempt, done, returns_bytes, status, OpenFile}
 use Rattle.pv_calls_plain.proofs.FileCalls.{file-part, fstat-is, node-used}
 use Rattle.pv_calls_plain.proofs.files.fstat.Goals as goal
 

@@ -1,8 +1,5 @@
 use Rattle.std.proofs.Common.{◌∙◌, ap, arith, rules, sym}
-use Rattle.pv_model.specs.Numbered.{at_number}
-use Rattle.pv_model.specs.Sealed.{is_file}
-use Rattle.pv_model.specs.State.{OpenFile, writes}
-use Rattle.pv_model.specs.Tree.{node_at}
+use Rattle.pv_model.specs.Machine.{at_number, is_file, OpenFile, writes, node_at}
 use Rattle.pv_calls_state.proofs.Alone.{some-at}
 use Rattle.pv_calls_plain.proofs.FileCalls.{file-part, is-written}
 use Rattle.pv_calls_plain.proofs.files.ftruncate.Goals as goal

@@ -1,13 +1,7 @@
 use Rattle.std.proofs.Common.{◌∙◌, Some, ap, ap₂, sym, subst, w32, length}
 use Rattle.std.proofs.lemmas.Int.{to_z-of_z}
 use Rattle.pv_calls_plain.specs.Performed.{IsOn}
-use Rattle.pv_model.specs.Answer.{answer_by_attempt}
-use Rattle.pv_model.specs.Attempt.{done}
-use Rattle.pv_model.specs.Calls.Descriptors.{next_name}
-use Rattle.pv_model.specs.Effect.{returns_bytes, with_file}
-use Rattle.pv_model.specs.Numbered.{at_number}
-use Rattle.pv_model.specs.State.{OpenFile}
-use Rattle.pv_model.specs.Tree.{entries_at, is_directory_at}
+use Rattle.pv_model.specs.Machine.{answer_by_attempt, done, next_name, returns_bytes, with_file, at_number, OpenFile, entries_at, is_directory_at}
 use Rattle.pv_calls_plain.proofs.FileCalls.{file-part, getdents-none, getdents-some, part-is}
 use Rattle.pv_calls_plain.proofs.files.getdents.Goals as goal
 

@@ -3,13 +3,7 @@ use Rattle.std.proofs.lemmas.Int.{to_z-of_z}
 use Rattle.pv_calls_state.specs.Attempts.{collected}
 use Rattle.pv_calls_plain.specs.Performed.{IsOn, attempt_of}
 use Rattle.pv_model.specs.declared.limits.TheConstants.{OFFSET}
-use Rattle.pv_model.specs.Attempt.{done}
-use Rattle.pv_model.specs.Calls.Descriptors.{within}
-use Rattle.pv_model.specs.Effect.{returns as returns_number, with_file}
-use Rattle.pv_model.specs.Held.{collect}
-use Rattle.pv_model.specs.Numbered.{at_number}
-use Rattle.pv_model.specs.State.{OpenFile}
-use Rattle.pv_model.specs.Tree.{is_directory_at}
+use Rattle.pv_model.specs.Machine.{done, within, returns as returns_number, with_file, collect, at_number, OpenFile, is_directory_at}
 use Rattle.pv_calls_plain.proofs.FileCalls.{file-part, lseek-out, lseek-to, part-is}
 use Rattle.pv_calls_plain.proofs.files.lseek.Goals as goal
 

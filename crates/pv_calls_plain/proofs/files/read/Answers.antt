@@ -1,10 +1,7 @@
 use Rattle.std.proofs.Common.{◌∙◌, Err, ap, ap₂, sym, w32}
 use Rattle.std.proofs.lemmas.Int.{to_z-of_z}
 use Rattle.pv_model.specs.declared.outcome.Cause.TheVariants.{Plain}
-use Rattle.pv_model.specs.Answer.{answer_by_attempt}
-use Rattle.pv_model.specs.Attempt.{refused}
-use Rattle.pv_model.specs.Calls.Descriptors.{read}
-use Rattle.pv_model.specs.Held.{collect}
+use Rattle.pv_model.specs.Machine.{answer_by_attempt, refused, read, collect}
 use Rattle.pv_calls_plain.specs.Performed.{attempt_of}
 use Rattle.pv_calls_plain.proofs.files.read.Goals as goal
 

@@ -3,14 +3,7 @@ use Rattle.std.proofs.lemmas.Int.{to_z-of_z}
 use Rattle.std.proofs.lemmas.List.{length-take}
 use Rattle.pv_calls_plain.specs.Performed.{IsOn}
 use Rattle.pv_model.specs.declared.limits.TheConstants.{BUFFER}
-use Rattle.pv_model.specs.Answer.{update, with_front}
-use Rattle.pv_model.specs.Attempt.{done}
-use Rattle.pv_model.specs.Calls.Descriptors.{within}
-use Rattle.pv_model.specs.Effect.{bytes_of, returns_bytes, with_file}
-use Rattle.pv_model.specs.Numbered.{at_number}
-use Rattle.pv_model.specs.Sealed.{is_file}
-use Rattle.pv_model.specs.State.{OpenFile, process_at, reads}
-use Rattle.pv_model.specs.Tree.{is_directory_at, node_at}
+use Rattle.pv_model.specs.Machine.{update, with_front, done, within, bytes_of, returns_bytes, with_file, at_number, is_file, OpenFile, process_at, reads, is_directory_at, node_at}
 use Rattle.pv_laws_states.proofs.ByProcess.{within-limit}
 use Rattle.pv_calls_state.specs.Changes.{bytes_read}
 use Rattle.pv_calls_state.proofs.Alone.{some-at}

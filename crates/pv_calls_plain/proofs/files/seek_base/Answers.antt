@@ -1,6 +1,5 @@
 use Rattle.std.proofs.Common.{◌∙◌, ap, sym}
-use Rattle.pv_model.specs.Calls.Descriptors.{seek_base}
-use Rattle.pv_model.specs.State.{OpenFile}
+use Rattle.pv_model.specs.Machine.{seek_base, OpenFile}
 use Rattle.pv_calls_plain.proofs.FileCalls.{file-part, node-used, size-is}
 use Rattle.pv_calls_plain.proofs.files.seek_base.Goals as goal
 

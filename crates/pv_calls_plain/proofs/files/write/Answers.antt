@@ -4,8 +4,7 @@ use Rattle.std.proofs.lemmas.Result.{IfOk-weaker}
 use Rattle.pv_calls_state.specs.Attempts.{collected}
 use Rattle.pv_calls_plain.specs.Performed.{IsOn}
 use Rattle.pv_model.specs.declared.limits.TheConstants.{BUFFER}
-use Rattle.pv_model.specs.Calls.Descriptors.{within}
-use Rattle.pv_model.specs.State.{OpenFile, writes}
+use Rattle.pv_model.specs.Machine.{within, OpenFile, writes}
 use Rattle.pv_calls_plain.proofs.FileCalls.{file-part, is-written, write-is}
 use Rattle.pv_calls_plain.proofs.files.write.Goals as goal
 

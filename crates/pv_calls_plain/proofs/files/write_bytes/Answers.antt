@@ -1,8 +1,7 @@
 use Rattle.std.proofs.Common.{◌≡◌, ◌∙◌, ◌+◌, ap, sym}
 use Rattle.pv_calls_state.specs.Attempts.{collected}
 use Rattle.pv_calls_plain.specs.Performed.{attempt_of}
-use Rattle.pv_model.specs.Calls.Descriptors.{is_past_greatest}
-use Rattle.pv_model.specs.Room.{is_too_long, fits}
+use Rattle.pv_model.specs.Machine.{is_past_greatest, is_too_long, fits}
 use Rattle.pv_calls_plain.proofs.FileCalls.{some-past, some-crowded, some-written}
 use Rattle.pv_calls_plain.proofs.files.write_bytes.Goals as goal
 

@@ -1,8 +1,5 @@
 use Rattle.std.proofs.Common.{◌∙◌, ◌≤◌, if◌then◌else◌, length, ap, sym, subst}
-use Rattle.pv_model.specs.Effect.{bytes_of}
-use Rattle.pv_model.specs.Numbered.{at_number}
-use Rattle.pv_model.specs.State.{OpenFile}
-use Rattle.pv_model.specs.Tree.{node_at}
+use Rattle.pv_model.specs.Machine.{bytes_of, at_number, OpenFile, node_at}
 use Rattle.pv_calls_state.proofs.Alone.{some-at}
 use Rattle.pv_calls_plain.proofs.FileCalls.{file-part, node-used, size-is}
 use Rattle.pv_calls_plain.proofs.files.write_place.Goals as goal

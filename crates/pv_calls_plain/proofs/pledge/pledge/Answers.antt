@@ -2,11 +2,8 @@ use Rattle.std.proofs.Common.{◌∙◌, ap, arith, refl, sym}
 use Rattle.std.specs.Prelude.{option_copied}
 use Rattle.pv_calls_state.specs.Attempts.{collected}
 use Rattle.pv_calls_plain.specs.Performed.{attempt_of}
-use Rattle.pv_model.specs.Attempt.{done}
-use Rattle.pv_model.specs.Effect.{returns}
-use Rattle.pv_model.specs.Held.{collect}
-use Rattle.pv_model.specs.State.{process_at}
-use Rattle.pv_procs.specs.declared.record.ProcessRecord.{ProcessRecord}
+use Rattle.pv_model.specs.Machine.{done, returns, collect, process_at}
+use Rattle.pv_calls_state.specs.OfProcs.declared.record.ProcessRecord.{ProcessRecord}
 use Rattle.pv_promises.specs.Pledge.{bits_of, narrow_both}
 use Rattle.pv_laws_states.proofs.Processes.{update-is}
 use Rattle.pv_calls_state.proofs.Alone.{lent-is}

@@ -1,5 +1,5 @@
 use Rattle.pv_laws_states.proofs.ByTable.{good-fork}
-use Rattle.pv_model.specs.Calls.Processes.{fork}
+use Rattle.pv_model.specs.Machine.{fork}
 use Rattle.pv_calls_plain.proofs.Plain.{plainly-performed}
 use Rattle.pv_calls_plain.proofs.processes.fork.Goals as goal
 

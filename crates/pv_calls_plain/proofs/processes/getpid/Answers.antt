@@ -1,8 +1,6 @@
 use Rattle.std.proofs.Common.{◌∙◌, ◌≤◌, ap, sym, subst}
 use Rattle.std.specs.Prelude.{IfOk}
-use Rattle.pv_model.specs.Attempt.{done}
-use Rattle.pv_model.specs.Effect.{returns as returns_number}
-use Rattle.pv_model.specs.State.{process_at}
+use Rattle.pv_model.specs.Machine.{done, returns as returns_number, process_at}
 use Rattle.pv_laws_states.proofs.ByProcess.{good-getpid}
 use Rattle.pv_calls_state.proofs.Alone.{some-at}
 use Rattle.pv_calls_plain.specs.Performed.{attempt_of}

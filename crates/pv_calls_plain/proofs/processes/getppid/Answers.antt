@@ -2,11 +2,8 @@ use Rattle.std.proofs.Common.{◌≡◌, ◌∙◌, ◌≤◌, Some, ap, sym, su
 use Rattle.std.specs.FinMap.Entries.{find}
 use Rattle.std.specs.Ordering.{nat_cmp}
 use Rattle.std.specs.Prelude.{IfOk, option_map, unwrap_or}
-use Rattle.pv_model.specs.Attempt.{done}
-use Rattle.pv_model.specs.Calls.Processes.{parent_of}
-use Rattle.pv_model.specs.Effect.{returns as returns_number}
-use Rattle.pv_model.specs.State.{Process, process_at}
-use Rattle.pv_procs.specs.ProcessTable.{ProcessTable}
+use Rattle.pv_model.specs.Machine.{done, parent_of, returns as returns_number, Process, process_at}
+use Rattle.pv_calls_state.specs.OfProcs.ProcessTable.{ProcessTable}
 use Rattle.pv_laws_states.proofs.ByProcess.{good-getppid}
 use Rattle.pv_laws_states.proofs.Members.{live-found}
 use Rattle.pv_calls_plain.specs.Performed.{attempt_of}

@@ -1,10 +1,7 @@
 use Rattle.std.proofs.Common.{◌∙◌, ap, sym}
 use Rattle.pv_calls_plain.specs.Performed.{answered}
-use Rattle.pv_model.specs.Attempt.{done}
-use Rattle.pv_model.specs.Calls.Processes.{wait}
-use Rattle.pv_model.specs.Effect.{returns_bytes}
-use Rattle.pv_model.specs.State.{process_at}
-use Rattle.pv_procs.specs.Reaping.{waited}
+use Rattle.pv_model.specs.Machine.{done, wait, returns_bytes, process_at}
+use Rattle.pv_calls_state.specs.OfProcs.Reaping.{waited}
 use Rattle.pv_calls_state.proofs.Alone.{some-at}
 use Rattle.pv_calls_plain.proofs.Waits.{low-child, reported-alike, waiter-lives}
 use Rattle.pv_calls_plain.proofs.processes.wait.Goals as goal

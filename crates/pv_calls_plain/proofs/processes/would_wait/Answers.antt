@@ -1,9 +1,7 @@
 use Rattle.std.proofs.Common.{◌≡◌, ◌↔◌, subst}
 use Rattle.std.specs.Prelude.{IsTrue}
-use Rattle.pv_model.specs.Attempt.{give}
-use Rattle.pv_model.specs.Calls.Processes.{wait}
-use Rattle.pv_model.specs.Effect.{waits}
-use Rattle.pv_procs.specs.ProcessTable.{ProcessTable, state_with}
+use Rattle.pv_model.specs.Machine.{give, wait, waits}
+use Rattle.pv_calls_state.specs.OfProcs.ProcessTable.{ProcessTable, state_with}
 use Rattle.pv_calls_plain.proofs.processes.would_wait.Goals as goal
 
 pub returns : goal.returns

@@ -41,7 +41,7 @@ returns-in-Some-Command-clause-verbose g c =
     let rows = above c.in_ok-parser.parser words m c.in_ok-parser.ensures c.in_ok-matches.ensures.ok.2 in
     let entered = appears c.in_ok-parser.parser words m c.in_ok-parser.ensures c.in_ok-matches.ensures.ok.2 in
     verbose_by c.checked.result c.in-Some-Command.command c.is_verbose.result _ c.checked.ensures.value
-    (c.is_verbose.ensures ∙ ap (λ rs. is_verbose_in c.args.by_default rs (subcommand_rows_of m)) rows ∙ ap (is_verbose_in c.args.by_default (matches_of pvsim_app words)) entered)
+    (c.is_verbose.ensures ∙ ap (λ rs. is_verbose_in rs (subcommand_rows_of m)) rows ∙ ap (is_verbose_in (matches_of pvsim_app words)) entered)
 
 pub returns-in-Some-Command-clause-refused : goal.returns-in-Some-Command-clause-refused
 returns-in-Some-Command-clause-refused g c =

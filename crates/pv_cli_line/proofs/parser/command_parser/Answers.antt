@@ -8,7 +8,7 @@ use Rattle.pv_cli_line.proofs.parser.command_parser.Goals as goal
 -- the flags that each command takes come first
 pub loop-argument-init : goal.loop-argument-init
 loop-argument-init c =
-    let bare = ap app_of_fields c.about-bare.ensures ∙ c.new.ensures.app in
+    let bare = ap app_of_fields c.after_help-bare.ensures ∙ ap app_of_fields c.about.ensures ∙ c.new.ensures.app in
     let command = c.in_ok-parser.ensures.app ∙ ap with_flags bare in
     record {
       rest = ap (λ app. with_arguments app c.args.row.now.arguments.now) command;

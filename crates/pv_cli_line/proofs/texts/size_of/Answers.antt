@@ -1,6 +1,6 @@
 use Rattle.std.proofs.Common.{codes, sym, ap, ◌∙◌}
 use Rattle.std.proofs.lemmas.Slice.Eq.{bytes_eq-Decides}
-use Rattle.pv_model.specs.Bytes.{Bytes}
+use Rattle.pv_model.specs.Machine.{Bytes}
 use Rattle.pv_text.specs.Reading.{held_of}
 use Rattle.pv_cli_line.specs.Line.{size_in}
 use Rattle.pv_cli_line.proofs.Sizes.{size-greatest, size-none, size-less, size-more}

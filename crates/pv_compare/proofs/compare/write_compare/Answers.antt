@@ -1,6 +1,6 @@
 use Rattle.std.proofs.Common.{◌≡◌, ◌∙◌, ap, refl, subst, IfOk}
 use Rattle.std.proofs.lemmas.Result.{err_from_is_err_and}
-use Rattle.pv_answers.proofs.Writing.{or_as}
+use Rattle.pv_explore.proofs.OfAnswers.Writing.{or_as}
 use Rattle.pv_compare.specs.Answering.{compared_by, result_text}
 use Rattle.pv_compare.specs.declared.compare.Compared.{Compared}
 use Rattle.pv_compare.proofs.Answered.{compared-is, result-is, search-is}

@@ -1,5 +1,5 @@
 use Rattle.pv_compare.proofs.Fetching.{no-call}
-use Rattle.pv_model.specs.State.{process_at}
+use Rattle.pv_model.specs.Machine.{process_at}
 use Rattle.pv_compare.proofs.observer.is_restraint.Goals as goal
 
 pub returns-in-Register : goal.returns-in-Register

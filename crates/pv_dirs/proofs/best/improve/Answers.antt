@@ -1,7 +1,7 @@
 use Rattle.std.proofs.Common.{◌≡◌, ◌<◌, ◌↔◌, IsTrue, false, length, get_or, Option, None, Some, refl, sym, subst}
 use Rattle.std.specs.Prelude.{IfNone, IfSome}
 use Rattle.std.specs.Option.{option_copied}
-use Rattle.pv_model.specs.Bytes.{Bytes}
+use Rattle.pv_model.specs.Machine.{Bytes}
 use Rattle.pv_dirs.specs.Listing.{better_of, IsShared}
 use Rattle.pv_dirs.specs.Slots.{slot_name}
 use Rattle.pv_dirs.specs.declared.best.Mark.{Mark}

@@ -1,7 +1,6 @@
 use Rattle.std.proofs.Common.{Option, Bor, sym, ap, ◌∙◌}
 use Rattle.std.specs.Option.{option_copied}
-use Rattle.pv_model.specs.Bytes.{Bytes}
-use Rattle.pv_model.specs.Calls.Descriptors.{is_past}
+use Rattle.pv_model.specs.Machine.{Bytes, is_past}
 use Rattle.pv_dirs.proofs.Next.{bytes_less}
 use Rattle.pv_dirs.proofs.best.is_past.Goals as goal
 

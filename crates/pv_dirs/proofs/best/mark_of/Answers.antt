@@ -1,7 +1,6 @@
 use Rattle.std.proofs.Common.{◌≡◌, ◌-◌, suc, Option, Bor, take, is_lt, true, subst, arith}
 use Rattle.std.specs.Option.{option_copied}
-use Rattle.pv_model.specs.Bytes.{Bytes}
-use Rattle.pv_model.specs.Calls.Descriptors.{is_past}
+use Rattle.pv_model.specs.Machine.{Bytes, is_past}
 use Rattle.pv_dirs.proofs.Between.{between}
 use Rattle.pv_dirs.proofs.Entries.{by_name}
 use Rattle.pv_dirs.proofs.Next.{less_from}

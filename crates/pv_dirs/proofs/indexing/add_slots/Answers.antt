@@ -1,7 +1,7 @@
 use Rattle.std.proofs.Common.{◌≡◌, ◌+◌, ◌-◌, ◌≤◌, length, take, refl, ap, subst, ◌∙◌, arith}
 use Rattle.std.specs.Prelude.{IfSome}
 use Rattle.std.proofs.lemmas.Option.{IfSome_then}
-use Rattle.pv_model.specs.Room.{entry_length}
+use Rattle.pv_model.specs.Machine.{entry_length}
 use Rattle.pv_dirs.specs.Dirs.{bytes_in}
 use Rattle.pv_dirs.specs.Index.{AreLedUpTo}
 use Rattle.pv_dirs.specs.Slots.{slot_at, slot_count, slot_name}

@@ -1,7 +1,7 @@
 use Rattle.std.proofs.Common.{Bor, List, Option, ℕ, ◌≡◌, ◌-◌, ◌≤◌, ap, subst, sym, ◌∙◌}
 use Rattle.std.specs.Ordering.{is_lt}
 use Rattle.std.specs.Prelude.{IfSome}
-use Rattle.pv_model.specs.Bytes.{Bytes}
+use Rattle.pv_model.specs.Machine.{Bytes}
 use Rattle.pv_dirs.specs.Dirs.{bytes_in}
 use Rattle.pv_dirs.specs.Slots.{slot_at, slot_name}
 use Rattle.pv_dirs.proofs.Ascending.{ascend_to}

@@ -1,6 +1,6 @@
 use Rattle.std.proofs.Common.{◌∙◌, ap, sym, option_map}
 use Rattle.std.specs.Prelude.{unwrap_or}
-use Rattle.pv_model.specs.CallRef.{call_of}
+use Rattle.pv_model.specs.Machine.{call_of}
 use Rattle.pv_explain.specs.ErrorParts.{reason_in}
 use Rattle.pv_explain.specs.Errors.{descriptor_reason, descriptor_used, reason_of}
 use Rattle.pv_explain.proofs.errors.reason_of.Goals as goal

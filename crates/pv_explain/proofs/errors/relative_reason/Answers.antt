@@ -1,6 +1,5 @@
 use Rattle.std.proofs.Common.{rules, ◌≡◌, ◌∙◌, ℤ, ap, sym, w32, to_z, of_z}
-use Rattle.pv_model.specs.CallRef.{call_of}
-use Rattle.pv_model.specs.Effect.{open_file}
+use Rattle.pv_model.specs.Machine.{call_of, open_file}
 use Rattle.pv_explain.specs.Errors.{descriptor_reason, file_reason, start_descriptor}
 use Rattle.pv_explain.proofs.errors.relative_reason.Goals as goal
 

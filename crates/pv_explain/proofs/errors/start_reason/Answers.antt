@@ -1,6 +1,5 @@
 use Rattle.std.proofs.Common.{◌∙◌, Bool, ◌||◌, not, if◌then◌else◌, None, ap, ap₂, sym}
-use Rattle.pv_model.specs.CallRef.{call_of}
-use Rattle.pv_model.specs.Walk.{is_absolute}
+use Rattle.pv_model.specs.Machine.{call_of, is_absolute}
 use Rattle.pv_explain.specs.Errors.{descriptor_reason, start_descriptor}
 use Rattle.pv_explain.proofs.errors.start_reason.Goals as goal
 

@@ -1,14 +1,14 @@
 use Rattle.std.proofs.Common.{◌∙◌, ap, refl}
 use Rattle.std.proofs.lemmas.Result.{err_from_is_err_and}
-use Rattle.pv_model.specs.Answers.Settings.{settings_of}
-use Rattle.pv_model.specs.State.{process_at}
-use Rattle.pv_answers.proofs.Writing.{or_ok, writes_as, writes_both, writes_longer}
-use Rattle.pv_explain.specs.declared.making.MadeStep.TheVariants.{Call as CallMade}
-use Rattle.pv_explain.specs.Keeping.{settings_in}
+use Rattle.pv_model.specs.Machine.{settings_of, process_at}
+use Rattle.pv_step_lines.proofs.OfAnswers.Writing.{or_ok, writes_as, writes_both, writes_longer}
+use Rattle.pv_step_lines.specs.declared.making.MadeStep.TheVariants.{Call as CallMade}
+use Rattle.pv_step_lines.specs.Origin.{settings_in}
 use Rattle.pv_explain.specs.Made.{settings_made}
-use Rattle.pv_explain.proofs.Made.{left-by, settings-made, step-text}
+use Rattle.pv_step_lines.proofs.Made.{left-by}
+use Rattle.pv_explain.proofs.Made.{settings-made, step-text}
 use Rattle.pv_explain.proofs.Steps.{stops-here}
-use Rattle.pv_explain.proofs.Stops.{no_memory, unwritten}
+use Rattle.pv_step_lines.proofs.Stops.{no_memory, unwritten}
 use Rattle.pv_explain.proofs.explain.explain_call.Goals as goal
 
 pub returns-in_err-made-clause-written : goal.returns-in_err-made-clause-written

@@ -1,5 +1,5 @@
 use Rattle.std.proofs.Common.{◌≡◌, ◌≤◌, ◌+◌, ◌*◌, ◌^◌, length, take}
-use Rattle.pv_model.specs.Step.{steps_of}
+use Rattle.pv_model.specs.Machine.{steps_of}
 use Rattle.pv_explain.proofs.Steps.{IsMadeUpTo}
 use Rattle.pv_explain.proofs.explain.explain_steps.Given as goal
 

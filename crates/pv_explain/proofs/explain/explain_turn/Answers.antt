@@ -1,11 +1,11 @@
 use Rattle.std.proofs.Common.{◌+◌, ℕ, ap, sym, subst, refl, rules, [], ◌∷◌}
 use Rattle.std.proofs.lemmas.Result.{err_from_is_err_and}
-use Rattle.pv_model.specs.Answers.Lines.{answer_bytes}
-use Rattle.pv_session.specs.declared.session.Stop.{Stop}
-use Rattle.pv_answers.proofs.Writing.{or_as}
+use Rattle.pv_model.specs.Machine.{answer_bytes}
+use Rattle.pv_step_lines.specs.OfSession.declared.session.Stop.{Stop}
+use Rattle.pv_step_lines.proofs.OfAnswers.Writing.{or_as}
 use Rattle.pv_explain.specs.Steps.{StopsExplained, step_lines}
 use Rattle.pv_explain.proofs.Steps.{none-made, turn-on, turn-begun, turn-stopped}
-use Rattle.pv_explain.proofs.Stops.{stopped}
+use Rattle.pv_step_lines.proofs.Stops.{stopped}
 use Rattle.pv_explain.proofs.explain.explain_turn.Goals as goal
 
 pub loop-step-init : goal.loop-step-init

@@ -1,11 +1,10 @@
 use Rattle.std.proofs.Common.{◌∙◌, ◌++◌, List, Bool, ap, sym}
 use Rattle.std.proofs.lemmas.Grind.{flat_map-append}
-use Rattle.pv_model.specs.Answers.Lines.{AnswerLine, answer_bytes, answer_line_bytes}
-use Rattle.pv_model.specs.CallRef.{call_of}
-use Rattle.pv_model.specs.State.{State, process_at}
-use Rattle.pv_answers.proofs.Writing.{writes_as, writes_both, writes_failed, writes_longer}
-use Rattle.pv_explain.specs.Keeping.{settings_in}
-use Rattle.pv_explain.specs.Made.{call_made_lines, error_after, error_made}
+use Rattle.pv_model.specs.Machine.{AnswerLine, answer_bytes, answer_line_bytes, call_of, State, process_at}
+use Rattle.pv_step_lines.proofs.OfAnswers.Writing.{writes_as, writes_both, writes_failed, writes_longer}
+use Rattle.pv_step_lines.specs.Origin.{settings_in}
+use Rattle.pv_step_lines.specs.Made.{call_made_lines}
+use Rattle.pv_explain.specs.Made.{error_after, error_made}
 use Rattle.pv_explain.proofs.explained.write_call_and_error.Goals as goal
 
 pub returns-in_err-write_call : goal.returns-in_err-write_call

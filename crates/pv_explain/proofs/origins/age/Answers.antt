@@ -1,5 +1,5 @@
 use Rattle.std.proofs.Common.{◌<◌, ◌∙◌, ap, length, get_or, false, arith}
-use Rattle.pv_explain.specs.declared.origins.Origin.{Origin}
+use Rattle.pv_step_lines.specs.declared.origin.Origin.{Origin}
 use Rattle.pv_explain.specs.Keeping.{aged}
 use Rattle.pv_explain.proofs.ProcessOrigins.{got-own}
 use Rattle.pv_procs.proofs.Steps.{mapped_further}

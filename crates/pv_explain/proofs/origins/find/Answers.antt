@@ -1,6 +1,6 @@
 use Rattle.std.proofs.Common.{◌∙◌, ap, sym, [], option_map}
 use Rattle.std.specs.Prelude.{unwrap_or}
-use Rattle.pv_explain.specs.Keeping.{settings_in}
+use Rattle.pv_step_lines.specs.Origin.{settings_in}
 use Rattle.pv_explain.proofs.ProcessOrigins.{found-of}
 use Rattle.pv_explain.proofs.origins.find.Goals as goal
 

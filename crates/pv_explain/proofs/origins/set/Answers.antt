@@ -1,5 +1,5 @@
 use Rattle.std.proofs.Common.{◌∙◌, ap, length, arith}
-use Rattle.pv_explain.specs.Keeping.{settings_in}
+use Rattle.pv_step_lines.specs.Origin.{settings_in}
 use Rattle.pv_explain.proofs.ProcessOrigins.{set-there, set-next}
 use Rattle.pv_explain.proofs.origins.set.Goals as goal
 

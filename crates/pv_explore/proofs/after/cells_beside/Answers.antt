@@ -3,7 +3,7 @@ use Rattle.pv_explore.specs.VisitedStates.{AreCellsIn, AreCellsOf}
 use Rattle.pv_explore.proofs.Afters.{cells-together}
 use Rattle.pv_explore.proofs.Rows.{grew-then}
 use Rattle.pv_explore.proofs.VisitedStates.{cells-in_grew}
-use Rattle.pv_state_encoding.specs.Encoded.{Encoded, plain, counts_group, encoded_all, encoded_record}
+use Rattle.pv_step_cache.specs.OfStateEncoding.Encoded.{Encoded, plain, counts_group, encoded_all, encoded_record}
 use Rattle.pv_step_cache.specs.declared.cells.Cell.{Cell}
 use Rattle.pv_explore.proofs.after.cells_beside.Goals as goal
 

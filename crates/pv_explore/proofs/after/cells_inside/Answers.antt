@@ -1,7 +1,7 @@
 use Rattle.std.proofs.Common.{sym, subst, List, [], ◌∷◌}
 use Rattle.pv_explore.specs.VisitedStates.{AreCellsIn, AreCellsOf}
 use Rattle.pv_explore.proofs.Afters.{cells-inside}
-use Rattle.pv_state_encoding.specs.Encoded.{Encoded}
+use Rattle.pv_step_cache.specs.OfStateEncoding.Encoded.{Encoded}
 use Rattle.pv_step_cache.specs.declared.cells.Cell.{Cell}
 use Rattle.pv_explore.proofs.after.cells_inside.Goals as goal
 

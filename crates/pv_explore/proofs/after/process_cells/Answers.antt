@@ -1,5 +1,5 @@
 use Rattle.std.proofs.Common.{sym, subst, List}
-use Rattle.pv_answers.proofs.Following.{fewer-after, next-record}
+use Rattle.pv_step_lines.proofs.OfAnswers.Following.{fewer-after, next-record}
 use Rattle.pv_explore.proofs.Afters.{LeavesCells, cells-end, cells-more-record, cells-start, lead-grew}
 use Rattle.pv_explore.proofs.Rows.{grew-none, grew-then}
 use Rattle.pv_step_cache.specs.declared.cells.Cell.{Cell}

@@ -1,5 +1,5 @@
 use Rattle.std.proofs.Common.{length}
-use Rattle.pv_answers.proofs.Following.{records_after}
+use Rattle.pv_step_lines.proofs.OfAnswers.Following.{records_after}
 use Rattle.pv_explore.specs.Afters.{LeadTo}
 use Rattle.pv_explore.specs.Rows.{Grew}
 use Rattle.pv_explore.proofs.Afters.{LeavesCells}

@@ -3,8 +3,8 @@ use Rattle.pv_explore.specs.VisitedStates.{AreCellsOf, AreCachedSteps}
 use Rattle.pv_explore.proofs.VisitedStates.{step-visited, steps-grew}
 use Rattle.pv_step_cache.specs.declared.cells.Cell.{Cell}
 use Rattle.pv_step_cache.specs.declared.steps.CachedStep.{CachedStep}
-use Rattle.pv_model.specs.State.{State}
-use Rattle.pv_session.specs.Running.{stepped}
+use Rattle.pv_model.specs.Machine.{State}
+use Rattle.pv_step_lines.specs.OfSession.Running.{stepped}
 use Rattle.pv_step_cache.specs.Steps.{texts_in}
 use Rattle.pv_explore.proofs.ahead.make_one.Goals as goal
 

@@ -1,5 +1,5 @@
-use Rattle.pv_answers.proofs.Writing.{or_as, or_longer, or_ok, writes_as}
-use Rattle.pv_explain.proofs.Stops.{stopped, then_writes, unwritten}
+use Rattle.pv_step_lines.proofs.OfAnswers.Writing.{or_as, or_longer, or_ok, writes_as}
+use Rattle.pv_step_lines.proofs.Stops.{stopped, then_writes, unwritten}
 use Rattle.pv_explore.proofs.Reported.{explore-bytes, last-bytes}
 use Rattle.pv_explore.proofs.explore.write_explore.Goals as goal
 

@@ -1,11 +1,11 @@
 use Rattle.std.proofs.Common.{◌≡◌, ◌∷◌, ◌++◌, [], List, length, append-nil, sym}
 use Rattle.std.proofs.lemmas.Grind.{flat_map-append}
-use Rattle.pv_answers.proofs.Writing.{or_as, or_longer, or_ok, writes_as}
-use Rattle.pv_explain.proofs.Stops.{stopped, then_writes, unwritten}
+use Rattle.pv_step_lines.proofs.OfAnswers.Writing.{or_as, or_longer, or_ok, writes_as}
+use Rattle.pv_step_lines.proofs.Stops.{stopped, then_writes, unwritten}
 use Rattle.pv_explore.specs.Searches.{visited_of}
 use Rattle.pv_explore.specs.Vertices.{vertices_from}
 use Rattle.pv_model.specs.Answers.Explore.{states_line}
-use Rattle.pv_model.specs.Answers.Lines.{AnswerLine, answer_bytes, answer_line_bytes}
+use Rattle.pv_model.specs.Machine.{AnswerLine, answer_bytes, answer_line_bytes}
 use Rattle.pv_explore.proofs.graph.write_found.Goals as goal
 
 -- the bytes of all lines are those of the states, followed by those of the last line

@@ -1,5 +1,5 @@
-use Rattle.pv_answers.proofs.Writing.{or_as}
-use Rattle.pv_explain.proofs.Stops.{no_memory, still_ok, stopped}
+use Rattle.pv_step_lines.proofs.OfAnswers.Writing.{or_as}
+use Rattle.pv_step_lines.proofs.Stops.{no_memory, still_ok, stopped}
 use Rattle.pv_explore.specs.Observing.{no_text}
 use Rattle.pv_explore.specs.Searches.{visited_of}
 use Rattle.pv_explore.proofs.Graphed.{graph-bytes, graph-complete, graph-many}

@@ -1,12 +1,10 @@
 use Rattle.std.proofs.Common.{◌∙◌, ap, map, refl}
 use Rattle.std.proofs.lemmas.List.{drop_all}
-use Rattle.pv_answers.proofs.Writing.{but_from, or_as}
-use Rattle.pv_explain.proofs.Stops.{but_ends, but_no_memory, but_stopped, but_then, no_memory}
+use Rattle.pv_step_lines.proofs.OfAnswers.Writing.{but_from, or_as}
+use Rattle.pv_step_lines.proofs.Stops.{but_ends, but_no_memory, but_stopped, but_then, no_memory}
 use Rattle.pv_explore.proofs.Graphed.{graph-step, steps_left_at}
 use Rattle.pv_explore.specs.Plan.{state_at}
-use Rattle.pv_model.specs.Grammar.Programs.{program_of}
-use Rattle.pv_model.specs.Held.{live_processes}
-use Rattle.pv_model.specs.State.{State}
+use Rattle.pv_model.specs.Machine.{program_of, live_processes, State}
 use Rattle.pv_explore.proofs.graph.write_steps.Goals as goal
 
 pub returns-in_err-machine-clause-written : goal.returns-in_err-machine-clause-written

@@ -1,7 +1,7 @@
 use Rattle.std.proofs.Common.{◌≡◌, drop}
-use Rattle.pv_answers.proofs.Writing.{WritesBut}
+use Rattle.pv_step_lines.proofs.OfAnswers.Writing.{WritesBut}
 use Rattle.pv_explore.specs.Vertices.{steps_at}
-use Rattle.pv_model.specs.Answers.Lines.{answer_bytes}
+use Rattle.pv_model.specs.Machine.{answer_bytes}
 use Rattle.pv_explore.proofs.graph.write_steps.Given as goal
 
 abbrev pub invariant-loop-pid : goal.invariant-loop-pid

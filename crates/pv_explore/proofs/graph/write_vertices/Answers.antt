@@ -1,6 +1,6 @@
 use Rattle.std.proofs.Common.{◌≤◌, ◌∙◌, Some, ap, arith, length, refl, sym}
-use Rattle.pv_answers.proofs.Writing.{but_from}
-use Rattle.pv_explain.proofs.Stops.{but_ends, but_no_memory, but_stopped, but_then, no_memory}
+use Rattle.pv_step_lines.proofs.OfAnswers.Writing.{but_from}
+use Rattle.pv_step_lines.proofs.Stops.{but_ends, but_no_memory, but_stopped, but_then, no_memory}
 use Rattle.pv_explore.specs.Searches.{visited_of}
 use Rattle.pv_explore.specs.Witnesses.{witness_of}
 use Rattle.pv_explore.proofs.Graphed.{vertices-next, vertices-none, vertices-past}

@@ -1,10 +1,10 @@
 use Rattle.std.proofs.Common.{◌∙◌, ap, sym, subst}
-use Rattle.pv_answers.proofs.NextOnes.{register-next}
+use Rattle.pv_step_lines.proofs.OfAnswers.NextOnes.{register-next}
 use Rattle.pv_explore.specs.Observing.{stays_inside}
-use Rattle.pv_laws_steps.specs.Commuting.{is_inward}
-use Rattle.pv_model.specs.State.{process_at}
-use Rattle.pv_procs.specs.Turns.{IsFetched}
-use Rattle.pv_procs.specs.declared.processes.Fetched.{Fetched}
+use Rattle.pv_step_cache.specs.OfLawsSteps.Commuting.{is_inward}
+use Rattle.pv_model.specs.Machine.{process_at}
+use Rattle.pv_step_lines.specs.OfProcs.Turns.{IsFetched}
+use Rattle.pv_step_lines.specs.OfProcs.declared.processes.Fetched.{Fetched}
 use Rattle.pv_explore.proofs.position.stays_inside.Goals as goal
 
 pub returns-in-Register : goal.returns-in-Register

@@ -1,6 +1,6 @@
 use Rattle.std.proofs.Common.{◌∙◌, sym}
-use Rattle.pv_answers.proofs.Writing.{or_as}
-use Rattle.pv_explain.proofs.Stops.{no_memory_after, nothing_written, still_ok, stopped}
+use Rattle.pv_step_lines.proofs.OfAnswers.Writing.{or_as}
+use Rattle.pv_step_lines.proofs.Stops.{no_memory_after, nothing_written, still_ok, stopped}
 use Rattle.pv_explore.specs.Witnesses.{longer}
 use Rattle.pv_explore.proofs.Finding.{added-known, reported-known, reported-new}
 use Rattle.pv_explore.proofs.search.report_text.Goals as goal

@@ -1,6 +1,6 @@
 use Rattle.std.proofs.Common.{◌≡◌, ◌∙◌, ap, List, ℕ, rules, true}
-use Rattle.pv_answers.proofs.Writing.{or_ok, writes_as}
-use Rattle.pv_explain.proofs.Stops.{no_memory, unwritten}
+use Rattle.pv_step_lines.proofs.OfAnswers.Writing.{or_ok, writes_as}
+use Rattle.pv_step_lines.proofs.Stops.{no_memory, unwritten}
 use Rattle.pv_explore.specs.Observing.{is_shown}
 use Rattle.pv_explore.specs.Plan.{move_bytes}
 use Rattle.pv_explore.specs.Witnesses.{longer}

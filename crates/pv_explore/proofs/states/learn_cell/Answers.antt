@@ -4,9 +4,9 @@ use Rattle.pv_explore.specs.VisitedStates.{AreCellsIn, number_of}
 use Rattle.pv_explore.specs.Rows.{IsGroupVisited, parts_in}
 use Rattle.pv_explore.proofs.VisitedStates.{keeps-more, live-cells, plain-cells}
 use Rattle.pv_step_cache.specs.declared.cells.Cell.{Cell}
-use Rattle.pv_state_encoding.specs.declared.encoded.EncodedGroup.{EncodedGroup}
-use Rattle.pv_state_encoding.specs.Groups.{parts_of}
-use Rattle.pv_state_encoding.specs.Encoded.{encoded_of}
+use Rattle.pv_step_cache.specs.OfStateEncoding.declared.encoded.EncodedGroup.{EncodedGroup}
+use Rattle.pv_step_cache.specs.OfStateEncoding.Groups.{parts_of}
+use Rattle.pv_step_cache.specs.OfStateEncoding.Encoded.{encoded_of}
 use Rattle.pv_explore.proofs.states.learn_cell.Goals as goal
 
 pub returns-in_ok-number-in-Plain-clause-cell : goal.returns-in_ok-number-in-Plain-clause-cell

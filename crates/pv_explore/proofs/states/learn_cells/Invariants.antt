@@ -1,7 +1,7 @@
 use Rattle.std.proofs.Common.{take}
 use Rattle.pv_explore.specs.VisitedStates.{AreCellsIn}
 use Rattle.pv_explore.specs.Rows.{Grew}
-use Rattle.pv_state_encoding.specs.Encoded.{encoded_all}
+use Rattle.pv_step_cache.specs.OfStateEncoding.Encoded.{encoded_all}
 use Rattle.pv_explore.proofs.states.learn_cells.Given as goal
 
 abbrev pub invariant-loop-group : goal.invariant-loop-group

@@ -1,7 +1,7 @@
 use Rattle.std.proofs.Common.{◌≡◌, map, take}
 use Rattle.std.specs.List.{AllByRecursion}
 use Rattle.pv_explore.specs.Rows.{Grew, IsAmong, number_in, parts_in}
-use Rattle.pv_state_encoding.specs.Packed.{packed_all}
+use Rattle.pv_step_cache.specs.OfStateEncoding.Packed.{packed_all}
 use Rattle.pv_explore.proofs.states.learn_row.Given as goal
 
 abbrev pub invariant-loop-part : goal.invariant-loop-part

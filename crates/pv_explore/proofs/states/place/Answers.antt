@@ -1,7 +1,7 @@
 use Rattle.std.proofs.Common.{◌∙◌, ap, subst}
 use Rattle.std.specs.Prelude.{IfOk}
 use Rattle.pv_explore.specs.VisitedStates.{ArePlaced, IsFoundIn, cells_row}
-use Rattle.pv_model.specs.Bytes.{Bytes}
+use Rattle.pv_model.specs.Machine.{Bytes}
 use Rattle.pv_explore.proofs.states.place.Goals as goal
 
 pub returns-clause-found : goal.returns-clause-found

@@ -1,6 +1,6 @@
 use Rattle.std.proofs.Common.{◌≡◌, map, take}
 use Rattle.pv_explore.specs.Rows.{number_in, parts_in}
-use Rattle.pv_state_encoding.specs.Packed.{packed_all}
+use Rattle.pv_step_cache.specs.OfStateEncoding.Packed.{packed_all}
 use Rattle.pv_explore.proofs.states.row_of_group.Given as goal
 
 abbrev pub invariant-loop-part : goal.invariant-loop-part

@@ -1,7 +1,7 @@
 use Rattle.std.proofs.Common.{◌≡◌, map, take}
 use Rattle.pv_explore.specs.Rows.{group_row, number_in}
-use Rattle.pv_state_encoding.specs.Groups.{groups_of}
-use Rattle.pv_state_encoding.specs.Packed.{packed_all}
+use Rattle.pv_step_cache.specs.OfStateEncoding.Groups.{groups_of}
+use Rattle.pv_step_cache.specs.OfStateEncoding.Packed.{packed_all}
 use Rattle.pv_explore.proofs.states.row_of_state.Given as goal
 
 abbrev pub invariant-loop-group : goal.invariant-loop-group

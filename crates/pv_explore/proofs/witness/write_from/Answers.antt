@@ -1,6 +1,6 @@
 use Rattle.std.proofs.Common.{arith, refl, sym}
-use Rattle.pv_answers.proofs.Writing.{but_after, but_failed, but_from, writes_as, writes_failed}
-use Rattle.pv_explain.proofs.Stops.{but_as, but_last}
+use Rattle.pv_step_lines.proofs.OfAnswers.Writing.{but_after, but_failed, but_from, writes_as, writes_failed}
+use Rattle.pv_step_lines.proofs.Stops.{but_as, but_last}
 use Rattle.pv_explore.proofs.Turns.{text-end, text-other, text-same}
 use Rattle.pv_explore.proofs.witness.write_from.Goals as goal
 

@@ -1,6 +1,6 @@
 use Rattle.std.proofs.Common.{◌+◌, ◌≤◌, ◌∷◌, drop}
-use Rattle.pv_answers.proofs.Writing.{WritesBut}
-use Rattle.pv_model.specs.Answers.Explore.{witness_text}
+use Rattle.pv_step_lines.proofs.OfAnswers.Writing.{WritesBut}
+use Rattle.pv_model.specs.Machine.{witness_text}
 use Rattle.pv_explore.proofs.Turns.{witness_from}
 use Rattle.pv_explore.proofs.witness.write_from.Given as goal
 

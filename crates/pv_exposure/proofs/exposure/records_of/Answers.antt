@@ -1,5 +1,5 @@
 use Rattle.std.proofs.Common.{◌∙◌, ◌<◌, ap, length, slice_get, arith}
-use Rattle.pv_explore.specs.Visiting.{Visits}
+use Rattle.pv_reduced.specs.OfExplore.Visiting.{Visits}
 use Rattle.pv_exposure.proofs.Visits.{visit-next}
 use Rattle.pv_exposure.proofs.exposure.records_of.Goals as goal
 

@@ -1,7 +1,7 @@
 use Rattle.std.proofs.Common.{◌∙◌}
 use Rattle.std.proofs.lemmas.Result.{err_from_is_err_and}
-use Rattle.pv_answers.proofs.Writing.{or_as, or_ok}
-use Rattle.pv_explore.proofs.Stopped.{unfinished, unwritten}
+use Rattle.pv_programs.proofs.OfAnswers.Writing.{or_as, or_ok}
+use Rattle.pv_reduced.proofs.OfExplore.Stopped.{unfinished, unwritten}
 use Rattle.pv_exposure.proofs.Written.{search-text}
 use Rattle.pv_exposure.proofs.exposure.write_exposure.Goals as goal
 

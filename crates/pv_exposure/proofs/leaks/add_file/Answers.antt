@@ -1,11 +1,8 @@
 use Rattle.std.proofs.Common.{◌≡◌, ◌∙◌, ◌++◌, ◌∷◌, [], List, Some, bytes_eq, true, false, ap, ap₂, sym, rules}
 use Rattle.std.specs.List.{list_any}
 use Rattle.std.proofs.lemmas.Result.{on_ok_weaker}
-use Rattle.pv_audit.specs.Reasons.{first_of}
-use Rattle.pv_model.specs.Answers.Files.{node_brief}
-use Rattle.pv_model.specs.Bytes.{Bytes}
-use Rattle.pv_model.specs.Sealed.{leaks}
-use Rattle.pv_model.specs.Tree.{Tree}
+use Rattle.pv_reduced.specs.OfAudit.Reasons.{first_of}
+use Rattle.pv_model.specs.Machine.{node_brief, Bytes, leaks, Tree}
 use Rattle.pv_exposure.specs.Collected.{RecordedLeak, has_key, record_key, recorded_of}
 use Rattle.pv_exposure.specs.Stored.{all_recorded, recorded_in, located_in}
 use Rattle.pv_exposure.proofs.Adding.{file-known, file-new, has-key}

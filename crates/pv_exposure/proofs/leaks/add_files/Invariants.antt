@@ -1,5 +1,5 @@
 use Rattle.std.proofs.Common.{◌≡◌, Some, drop, flat_map, map}
-use Rattle.pv_model.specs.State.{Process, process_at}
+use Rattle.pv_model.specs.Machine.{Process, process_at}
 use Rattle.pv_exposure.specs.Collected.{key_of, with_all}
 use Rattle.pv_exposure.specs.Stored.{all_recorded, recorded_by_file, located_in}
 use Rattle.pv_exposure.proofs.leaks.add_files.Given as goal

@@ -1,7 +1,7 @@
 use Rattle.std.proofs.Common.{◌∙◌, ◌++◌, ◌∷◌, [], ℕ, Bool, List, ap, filter, get_or, sym, take}
 use Rattle.std.proofs.lemmas.List.{take_more}
 use Rattle.std.proofs.lemmas.List.Elements.{filter-append}
-use Rattle.pv_model.specs.Answers.Exposure.{is_closed_to}
+use Rattle.pv_model.specs.Machine.{is_closed_to}
 use Rattle.pv_exposure.specs.Stored.{located_in}
 use Rattle.pv_exposure.proofs.Texts.{take-past}
 use Rattle.pv_exposure.proofs.leaks.closed_among.Goals as goal

@@ -1,6 +1,5 @@
 use Rattle.std.proofs.Common.{◌≡◌, Some, filter, take}
-use Rattle.pv_model.specs.Answers.Exposure.{is_closed_to}
-use Rattle.pv_model.specs.State.{Process, process_at}
+use Rattle.pv_model.specs.Machine.{is_closed_to, Process, process_at}
 use Rattle.pv_exposure.specs.Stored.{located_in}
 use Rattle.pv_exposure.proofs.leaks.closed_among.Given as goal
 

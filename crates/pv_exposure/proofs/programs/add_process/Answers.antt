@@ -1,11 +1,8 @@
 use Rattle.std.proofs.Common.{◌≡◌, ◌∙◌, ◌++◌, ◌∷◌, [], List, None, Some, option_map, ap, ap₂, slice_set, sym}
 use Rattle.std.specs.Prelude.{position}
 use Rattle.std.proofs.lemmas.Result.{on_ok_weaker}
-use Rattle.pv_model.specs.Answers.Exposure.{program_key}
-use Rattle.pv_model.specs.Answers.Numbers.{Numbers}
-use Rattle.pv_model.specs.Answers.ProgramNames.{program_numbers}
-use Rattle.pv_model.specs.State.{Process, Program}
-use Rattle.pv_procs.specs.ProcessTable.{ProcessTable, process_in}
+use Rattle.pv_model.specs.Machine.{program_key, Numbers, program_numbers, Process, Program}
+use Rattle.pv_programs.specs.OfProcs.ProcessTable.{ProcessTable, process_in}
 use Rattle.pv_exposure.specs.Collected.{Exposed, exposed_more, exposed_none, is_of}
 use Rattle.pv_exposure.specs.Stored.{located_in}
 use Rattle.pv_exposure.proofs.Adding.{record-new, record-there}

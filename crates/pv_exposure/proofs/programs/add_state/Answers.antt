@@ -1,8 +1,7 @@
 use Rattle.std.proofs.Common.{◌∙◌, List, Option, Some, ap, sym}
-use Rattle.pv_model.specs.Answers.Explore.{Found}
-use Rattle.pv_model.specs.State.{ProcessRecord, live_process}
-use Rattle.pv_procs.specs.ProcessTable.{ProcessTable, number_after}
-use Rattle.pv_answers.proofs.Following.{Recorded, all-after, fewer-after, next-record, none-after, records_after}
+use Rattle.pv_model.specs.Machine.{Found, ProcessRecord, live_process}
+use Rattle.pv_programs.specs.OfProcs.ProcessTable.{ProcessTable, number_after}
+use Rattle.pv_programs.proofs.OfAnswers.Following.{Recorded, all-after, fewer-after, next-record, none-after, records_after}
 use Rattle.pv_exposure.specs.Collected.{Exposed, exposed_after}
 use Rattle.pv_exposure.specs.Stored.{located_if}
 use Rattle.pv_exposure.specs.declared.leaks.Visit.{Visit}

@@ -1,5 +1,5 @@
 use Rattle.std.proofs.Common.{◌≡◌, length}
-use Rattle.pv_answers.proofs.Following.{records_after}
+use Rattle.pv_programs.proofs.OfAnswers.Following.{records_after}
 use Rattle.pv_exposure.specs.Collected.{exposed_after}
 use Rattle.pv_exposure.proofs.Adding.{located_among}
 use Rattle.pv_exposure.proofs.programs.add_state.Given as goal

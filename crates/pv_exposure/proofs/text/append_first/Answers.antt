@@ -1,8 +1,7 @@
 use Rattle.std.proofs.Common.{◌≡◌, ◌∙◌, ◌+◌, ◌++◌, ◌∷◌, List, Option, append-nil, ap, ap₂, bytes_eq, drop, sym, true, rules}
 use Rattle.std.proofs.lemmas.List.{drop_all, drop_more}
 use Rattle.std.proofs.lemmas.Result.{on_ok_weaker}
-use Rattle.pv_model.specs.Answers.Lines.{answer_bytes}
-use Rattle.pv_model.specs.Bytes.{Bytes}
+use Rattle.pv_model.specs.Machine.{answer_bytes, Bytes}
 use Rattle.pv_exposure.specs.Collected.{RecordedLeak, recorded_lines_by}
 use Rattle.pv_exposure.specs.Stored.{all_recorded, first_at, recorded_of_file}
 use Rattle.pv_exposure.specs.declared.leaks.StoredLeak.{StoredLeak}

@@ -1,7 +1,7 @@
 use Rattle.std.proofs.Common.{◌∙◌, ◌+◌, ◌++◌, ◌∷◌, [], List, append-nil, append_assoc, ap, ap₂, bytes_eq, drop, if◌then◌else◌, sym}
 use Rattle.std.specs.List.{list_any}
 use Rattle.std.proofs.lemmas.List.{drop_all, drop_more}
-use Rattle.pv_model.specs.Bytes.{Bytes}
+use Rattle.pv_model.specs.Machine.{Bytes}
 use Rattle.pv_exposure.specs.Collected.{RecordedLeak}
 use Rattle.pv_exposure.specs.Stored.{all_recorded, recorded_in}
 use Rattle.pv_exposure.specs.declared.leaks.StoredLeak.{StoredLeak}

@@ -1,5 +1,5 @@
 use Rattle.std.proofs.Common.{◌≡◌, ◌++◌, drop}
-use Rattle.pv_model.specs.Answers.Lines.{answer_bytes}
+use Rattle.pv_model.specs.Machine.{answer_bytes}
 use Rattle.pv_exposure.specs.Collected.{all_recorded_lines}
 use Rattle.pv_exposure.specs.Stored.{all_recorded}
 use Rattle.pv_exposure.proofs.Texts.{lines_left}

@@ -1,8 +1,7 @@
 use Rattle.std.proofs.Common.{◌≡◌, ◌∙◌, ◌++◌, [], ℕ, List, ap, if◌then◌else◌, map, rules}
 use Rattle.std.proofs.lemmas.Result.{on_ok_weaker}
-use Rattle.pv_model.specs.Answers.Lines.{AnswerLine, answer_bytes, answer_line_bytes}
+use Rattle.pv_model.specs.Machine.{AnswerLine, answer_bytes, answer_line_bytes, program_of}
 use Rattle.pv_model.specs.Answers.ProgramNames.{program_line}
-use Rattle.pv_model.specs.Grammar.Programs.{program_of}
 use Rattle.pv_exposure.specs.Collected.{all_recorded_lines, safe_line}
 use Rattle.pv_exposure.proofs.Texts.{three}
 use Rattle.pv_exposure.proofs.text.append_program.Goals as goal

@@ -1,7 +1,6 @@
 use Rattle.std.proofs.Common.{◌∙◌, ◌+◌, ◌++◌, ◌∷◌, List, append-nil, append_assoc, ap, drop, sym}
 use Rattle.std.proofs.lemmas.List.{drop_all, drop_more}
-use Rattle.pv_model.specs.Answers.Lines.{answer_bytes}
-use Rattle.pv_model.specs.Bytes.{Bytes}
+use Rattle.pv_model.specs.Machine.{answer_bytes, Bytes}
 use Rattle.pv_exposure.specs.Collected.{Exposed, lines_of_exposed}
 use Rattle.pv_exposure.proofs.Texts.{bytes_from, from-next}
 use Rattle.pv_exposure.proofs.text.append_programs.Goals as goal

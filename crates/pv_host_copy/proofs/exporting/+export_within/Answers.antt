@@ -2,8 +2,7 @@ use Rattle.std.proofs.Common.{◌≡◌, ◌++◌, ◌-◌, ◌∙◌, ap, sym, 
 use Rattle.std.proofs.lemmas.List.{take_all, drop_all}
 use Rattle.pv_listing.specs.Lines.{entries_after, last_name, IsNextChild}
 use Rattle.pv_listing.proofs.Children.{past-none, last-is, front-is, length-path}
-use Rattle.pv_model.specs.Bytes.{Bytes}
-use Rattle.pv_model.specs.Tree.{entries_at, node_at}
+use Rattle.pv_model.specs.Machine.{Bytes, entries_at, node_at}
 use Rattle.pv_host_copy.specs.declared.target.TargetFault.TheVariants.{Memory}
 use Rattle.pv_host_copy.specs.Exported.{Encodes, Stops}
 use Rattle.pv_host_copy.specs.Encoded.{encodes_node, encodes_within}

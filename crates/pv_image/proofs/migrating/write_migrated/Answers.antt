@@ -1,5 +1,5 @@
 use Rattle.std.proofs.Common.{◌≡◌, ◌∙◌, ℕ, true, Result, Err, sym, ap, subst, arith}
-use Rattle.pv_model.specs.Tree.{Tree}
+use Rattle.pv_model.specs.Machine.{Tree}
 use Rattle.pv_laws_trees.specs.Preserved.{EachIsNamed}
 use Rattle.pv_image_write.specs.declared.fault.WriteFault.{WriteFault}
 use Rattle.pv_image_write.specs.declared.fault.WriteFault.TheVariants.{Write}

@@ -1,6 +1,5 @@
 use Rattle.std.proofs.Common.{◌≡◌, ap, sym, ◌∙◌, Ok, []}
-use Rattle.pv_model.specs.Sealed.{is_file}
-use Rattle.pv_model.specs.Tree.{file_node, node_at, with_new_node}
+use Rattle.pv_model.specs.Machine.{is_file, file_node, node_at, with_new_node}
 use Rattle.pv_tree.specs.Changes.{new_node}
 use Rattle.pv_tree.specs.Rooms.{refusal}
 use Rattle.pv_image_manifest.proofs.NewFiles.{in-room, out-of-room, room-some, file-there, file-written-in, no-room-empty}

@@ -4,7 +4,7 @@ use Rattle.std.proofs.lemmas.Result.{err_from_is_err_and}
 use Rattle.pv_image_manifest.specs.Reading.{manifest_before}
 use Rattle.pv_image_manifest.specs.Building.{Makes}
 use Rattle.pv_image_manifest.specs.Entries.{entry_of_line}
-use Rattle.pv_model.specs.Grammar.Manifests.{add_entry, tree_of}
+use Rattle.pv_model.specs.Machine.{add_entry, tree_of}
 use Rattle.pv_image_manifest.proofs.EntryByEntry.{IsBuiltSoFar, IsBuiltSoFar-start, IsBuiltSoFar-step, IsBuiltSoFar-refused, IsBuiltSoFar-end, refuses, next_entry}
 use Rattle.std.proofs.Math.ListN.{drop_of_length-le}
 use Rattle.pv_tree.specs.Holding.{HeldTree, IsUnheld}

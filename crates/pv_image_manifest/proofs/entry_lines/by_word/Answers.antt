@@ -1,6 +1,6 @@
 use Rattle.std.proofs.Common.{sym, ◌∙◌, ap}
 use Rattle.std.specs.Prelude.{bytes_eq}
-use Rattle.pv_model.specs.Grammar.Lines.{lines_of}
+use Rattle.pv_model.specs.Machine.{lines_of}
 use Rattle.pv_image_manifest.proofs.FirstWords.{directory_is, file_is, program_is, link_is, name_is, other_entry}
 use Rattle.pv_image_manifest.proofs.entry_lines.by_word.Goals as goal
 

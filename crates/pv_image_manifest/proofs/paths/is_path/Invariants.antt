@@ -1,8 +1,7 @@
 use Rattle.std.proofs.Common.{◌≡◌, drop}
 use Rattle.std.specs.List.{list_all}
 use Rattle.std.specs.Option.{option_copied}
-use Rattle.pv_model.specs.Tree.{is_name}
-use Rattle.pv_model.specs.Walk.{split_slashes}
+use Rattle.pv_model.specs.Machine.{is_name, split_slashes}
 use Rattle.pv_text.specs.Components.{components_after, left_in}
 use Rattle.pv_image_manifest.proofs.paths.is_path.Given as goal
 

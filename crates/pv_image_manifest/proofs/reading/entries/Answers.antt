@@ -1,5 +1,5 @@
 use Rattle.std.proofs.Common.{List, Option, Some, refl, sym, ◌∙◌, arith, subst, ◌≡◌}
-use Rattle.pv_model.specs.Bytes.{Bytes}
+use Rattle.pv_model.specs.Machine.{Bytes}
 use Rattle.pv_model.specs.Grammar.Manifests.{Taking}
 use Rattle.pv_image_manifest.specs.declared.read_entry.ReadEntry.{ReadEntry}
 use Rattle.pv_image_manifest.specs.Reading.{Takes}

@@ -1,5 +1,5 @@
 use Rattle.std.proofs.Common.{length}
-use Rattle.pv_model.specs.Grammar.Lines.{lines_of}
+use Rattle.pv_model.specs.Machine.{lines_of}
 use Rattle.pv_image_manifest.proofs.ListedEntries.{IsListedSoFar}
 use Rattle.pv_image_manifest.proofs.reading.entries.Given as goal
 

@@ -1,7 +1,7 @@
 use Rattle.std.proofs.Common.{◌∙◌}
 use Rattle.std.proofs.lemmas.Result.{err_from_is_err_and}
-use Rattle.pv_model.specs.Grammar.Lines.{lines_of}
-use Rattle.pv_model.specs.Grammar.Manifests.{entry_of, manifest_by}
+use Rattle.pv_model.specs.Machine.{lines_of, entry_of}
+use Rattle.pv_model.specs.Grammar.Manifests.{manifest_by}
 use Rattle.pv_image_manifest.proofs.Ends.{end_of_end, end_after_line}
 use Rattle.pv_image_manifest.proofs.WholeManifests.{fault_of_entries, with_listed, sizes_refused, sizes_taken, refuses_along}
 use Rattle.pv_image_manifest.proofs.reading.read.Goals as goal

@@ -1,6 +1,5 @@
 use Rattle.std.proofs.Common.{◌∙◌, ap, subst}
-use Rattle.pv_model.specs.Bytes.{Bytes}
-use Rattle.pv_model.specs.Image.{field}
+use Rattle.pv_model.specs.Machine.{Bytes, field}
 use Rattle.pv_image_mount.proofs.Mounted.{Holds, is_image, is_mounted, long_enough}
 use Rattle.pv_image_mount.proofs.mounting.mount.Goals as goal
 

@@ -4,7 +4,7 @@ use Rattle.std.proofs.lemmas.Cmp.{nat_cmp_total}
 use Rattle.std.proofs.lemmas.List.{map-id}
 use Rattle.std.specs.Prelude.{◌==◌}
 use Rattle.std.specs.Cmp.{unsigned_ties}
-use Rattle.pv_model.specs.Mount.{appears_twice}
+use Rattle.pv_model.specs.Machine.{appears_twice}
 use Rattle.pv_image_mount.proofs.SortedNames.{once_sorted, pair_apart, twice_found}
 use Rattle.pv_image_mount.proofs.slots.are_keys_shared.Goals as goal
 

@@ -1,9 +1,7 @@
 use Rattle.std.proofs.Common.{◌≡◌, ℕ, ◌*◌, ◌≤◌, true, Some, length, le_refl, sym, ap, subst, ◌∙◌, arith}
 use Rattle.std.specs.Prelude.{option_map}
 use Rattle.pv_model.specs.declared.version.Version.{Version}
-use Rattle.pv_model.specs.Effect.{size_of}
-use Rattle.pv_model.specs.Room.{entry_length, greatest_length}
-use Rattle.pv_model.specs.Tree.{node_at, is_directory_at, greatest_name}
+use Rattle.pv_model.specs.Machine.{size_of, entry_length, greatest_length, node_at, is_directory_at, greatest_name}
 use Rattle.pv_tree.specs.Holding.{HeldTree}
 use Rattle.pv_tree.specs.Present.{IsPresent}
 use Rattle.pv_image_write.specs.Encoding.{content_of}

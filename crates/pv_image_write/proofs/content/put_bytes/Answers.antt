@@ -1,7 +1,7 @@
 use Rattle.std.proofs.Common.{◌≡◌, ◌+◌, ◌++◌, length, take, ap, sym, ◌∙◌, append_assoc, arith}
 use Rattle.std.proofs.Math.Seq.{take-add}
-use Rattle.pv_model.specs.Bytes.{Bytes}
-use Rattle.pv_dirs.specs.Trees.{bytes_at}
+use Rattle.pv_model.specs.Machine.{Bytes}
+use Rattle.pv_tree.specs.OfDirs.Trees.{bytes_at}
 use Rattle.pv_image_write.proofs.content.put_bytes.Goals as goal
 
 pub put-requires : goal.put-requires

@@ -1,5 +1,5 @@
 use Rattle.std.proofs.Common.{◌≡◌, ◌≤◌, ◌+◌, ◌-◌, ◌++◌, length, take, vec_capacity, vec_len}
-use Rattle.pv_dirs.specs.Trees.{bytes_at}
+use Rattle.pv_tree.specs.OfDirs.Trees.{bytes_at}
 use Rattle.pv_image_write.proofs.content.put_bytes.Given as goal
 
 -- the bytes so far follow the old ones

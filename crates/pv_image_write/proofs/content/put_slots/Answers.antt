@@ -1,7 +1,5 @@
 use Rattle.std.proofs.Common.{◌≡◌, ℕ, ◌+◌, ◌*◌, ◌<◌, ◌++◌, length, Some, sym, ap, subst, ◌∙◌, arith}
-use Rattle.pv_model.specs.Bytes.{Bytes}
-use Rattle.pv_model.specs.Room.{entry_length}
-use Rattle.pv_model.specs.Tree.{entries_at, find_entry, node_at}
+use Rattle.pv_model.specs.Machine.{Bytes, entry_length, entries_at, find_entry, node_at}
 use Rattle.pv_image_write.specs.Encoding.{slot_of}
 use Rattle.pv_image_write.proofs.Listed.{front-none, front-some, some-is, met, all-met, listing-start, listing-step, size_entries, slot-room, IsListing}
 use Rattle.pv_image_write.proofs.content.put_slots.Goals as goal

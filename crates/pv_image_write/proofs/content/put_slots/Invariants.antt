@@ -1,6 +1,5 @@
 use Rattle.std.proofs.Common.{◌≡◌, ◌+◌, ◌*◌, ◌≤◌, vec_capacity, vec_len}
-use Rattle.pv_model.specs.Room.{entry_length}
-use Rattle.pv_model.specs.Tree.{entries_at}
+use Rattle.pv_model.specs.Machine.{entry_length, entries_at}
 use Rattle.pv_image_write.proofs.Listed.{IsListing}
 use Rattle.pv_image_write.proofs.content.put_slots.Given as goal
 

@@ -1,7 +1,7 @@
 use Rattle.std.proofs.Common.{◌≡◌, ◌+◌, ◌-◌, ◌*◌, ◌≤◌, ◌++◌, ℕ, replicate, ap, sym, ◌∙◌, arith}
 use Rattle.std.specs.List.{range_with_len}
 use Rattle.std.proofs.lemmas.List.{append_assoc}
-use Rattle.pv_model.specs.Bytes.{Bytes, little_endian}
+use Rattle.pv_model.specs.Machine.{Bytes, little_endian}
 use Rattle.pv_image_write.specs.Encoding.{padded, encoded}
 use Rattle.pv_image_write.proofs.Ranges.{length-encoded_row, encoded-more}
 use Rattle.pv_image_write.proofs.filling.put_pointers.Goals as goal

@@ -1,5 +1,5 @@
 use Rattle.std.proofs.Common.{refl}
-use Rattle.pv_model.specs.Tree.{node_at}
+use Rattle.pv_model.specs.Machine.{node_at}
 use Rattle.pv_image_write.specs.Placed.{written_at}
 use Rattle.pv_image_write.proofs.Writing.{blocks-put}
 use Rattle.pv_image_write.proofs.image.add_blocks.Goals as goal

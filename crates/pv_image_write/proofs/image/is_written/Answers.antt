@@ -1,7 +1,7 @@
 use Rattle.std.proofs.Common.{◌≡◌, Bool, true, false, Option, None, Some, is_some, refl, sym, ap, ◌∙◌, arith}
 use Rattle.std.proofs.lemmas.Bool.{ltb-true, ltb-false}
 use Rattle.pv_image_write.specs.Placed.{written_at}
-use Rattle.pv_model.specs.Tree.{Node, root, node_at}
+use Rattle.pv_model.specs.Machine.{Node, root, node_at}
 use Rattle.pv_image_write.proofs.NamedTrees.{as_written-root, as_written-named, as_written-none, as_written-free}
 use Rattle.pv_image_write.proofs.image.is_written.Goals as goal
 

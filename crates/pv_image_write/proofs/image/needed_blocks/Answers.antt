@@ -1,5 +1,5 @@
 use Rattle.std.proofs.Common.{◌≡◌, ℕ, suc, ◌+◌, ◌≤◌, le_refl, add-one, sym, ap, subst, ◌∙◌, arith}
-use Rattle.pv_model.specs.Tree.{node_at}
+use Rattle.pv_model.specs.Machine.{node_at}
 use Rattle.pv_image_write.specs.Placed.{placed, written_at}
 use Rattle.pv_image_write.specs.Encoding.{taken_of, taken_before}
 use Rattle.pv_image_write.proofs.PlacedTrees.{node-placed, placed-needs, placed-short, placed-well_formed, taken-few, taken_before-few}

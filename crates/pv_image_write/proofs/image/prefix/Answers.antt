@@ -1,7 +1,6 @@
 use Rattle.std.proofs.Common.{◌≡◌, [], ◌++◌, replicate, ap, ◌∙◌}
 use Rattle.std.proofs.lemmas.List.{append_assoc}
-use Rattle.pv_model.specs.Bytes.{Bytes, little_endian}
-use Rattle.pv_model.specs.Image.{magic}
+use Rattle.pv_model.specs.Machine.{Bytes, little_endian, magic}
 use Rattle.pv_image_write.specs.Encoding.{first_block}
 use Rattle.pv_image_write.proofs.image.prefix.Goals as goal
 

@@ -1,5 +1,5 @@
 use Rattle.std.proofs.Common.{◌≡◌, suc, ◌+◌, length, sym, ap, subst, ◌∙◌, add-one, arith}
-use Rattle.pv_model.specs.Tree.{node_at, names_of}
+use Rattle.pv_model.specs.Machine.{node_at, names_of}
 use Rattle.pv_image_write.specs.Placed.{placed, written_at}
 use Rattle.pv_image_write.specs.Encoding.{first_block, all_inodes}
 use Rattle.pv_image_write.specs.Writable.{AreWritten}

@@ -1,6 +1,5 @@
 use Rattle.std.proofs.Common.{◌≡◌, subst}
-use Rattle.pv_model.specs.Bytes.{Bytes}
-use Rattle.pv_model.specs.Image.{inode_blocks}
+use Rattle.pv_model.specs.Machine.{Bytes, inode_blocks}
 use Rattle.pv_streams.specs.Sinks.{and_all, WritesPrefix}
 use Rattle.pv_image_write.specs.Placed.{placed}
 use Rattle.pv_image_write.proofs.Writing.{image-as_written, length-with_table, whole-image}

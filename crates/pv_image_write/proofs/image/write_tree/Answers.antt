@@ -1,9 +1,6 @@
 use Rattle.std.proofs.Common.{◌≡◌, ℕ, ◌+◌, ◌≤◌, true, le_refl, sym, ap, subst, ◌∙◌, arith}
 use Rattle.pv_model.specs.declared.version.Version.{Version}
-use Rattle.pv_model.specs.Held.{named_tree}
-use Rattle.pv_model.specs.Image.{inode_blocks}
-use Rattle.pv_model.specs.Mount.{are_image_sizes}
-use Rattle.pv_model.specs.Tree.{Tree, greatest_name}
+use Rattle.pv_model.specs.Machine.{named_tree, inode_blocks, are_image_sizes, Tree, greatest_name}
 use Rattle.pv_tree.specs.Holding.{HeldTree}
 use Rattle.pv_tree.specs.Present.{IsPresent}
 use Rattle.pv_image_write.specs.Placed.{placed, named_need}

@@ -1,4 +1,4 @@
-use Rattle.pv_laws_access.proofs.Framed.{files-come}
+use Rattle.pv_laws_access.proofs.OpenFilesAfterSteps.{files-come}
 use Rattle.pv_laws_access.proofs.frame.open_files_come_of.Goals as goal
 
 pub returns : goal.returns

@@ -1,4 +1,4 @@
-use Rattle.pv_laws_access.proofs.Framed.{others-keep_all}
+use Rattle.pv_laws_access.proofs.OpenFilesAfterSteps.{others-keep_all}
 use Rattle.pv_laws_access.proofs.frame.others_keep_all.Goals as goal
 
 pub returns : goal.returns

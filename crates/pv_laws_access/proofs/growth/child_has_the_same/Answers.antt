@@ -1,4 +1,4 @@
-use Rattle.pv_laws_access.proofs.Images.{child-same}
+use Rattle.pv_laws_access.proofs.ProgramImages.{child-same}
 use Rattle.pv_laws_access.proofs.growth.child_has_the_same.Goals as goal
 
 pub returns : goal.returns

@@ -1,4 +1,4 @@
-use Rattle.pv_laws_access.proofs.Images.{grows-never}
+use Rattle.pv_laws_access.proofs.ProgramImages.{grows-never}
 use Rattle.pv_laws_access.proofs.growth.grows_never.Goals as goal
 
 pub returns : goal.returns

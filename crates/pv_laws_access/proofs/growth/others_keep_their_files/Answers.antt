@@ -1,4 +1,4 @@
-use Rattle.pv_laws_access.proofs.Frames.{others-files}
+use Rattle.pv_laws_access.proofs.OtherOpenFiles.{others-files}
 use Rattle.pv_laws_access.proofs.growth.others_keep_their_files.Goals as goal
 
 pub returns : goal.returns

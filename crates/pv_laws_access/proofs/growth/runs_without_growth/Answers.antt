@@ -1,4 +1,4 @@
-use Rattle.pv_laws_access.proofs.Images.{runs-without}
+use Rattle.pv_laws_access.proofs.ProgramImages.{runs-without}
 use Rattle.pv_laws_access.proofs.growth.runs_without_growth.Goals as goal
 
 pub returns : goal.returns

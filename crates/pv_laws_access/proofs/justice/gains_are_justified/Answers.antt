@@ -1,4 +1,4 @@
-use Rattle.pv_laws_access.proofs.JustGains.{gains-justified}
+use Rattle.pv_laws_access.proofs.JustifiedGains.{gains-justified}
 use Rattle.pv_laws_access.proofs.justice.gains_are_justified.Goals as goal
 
 pub returns : goal.returns

@@ -1,4 +1,4 @@
-use Rattle.pv_laws_access.proofs.JustReporting.{reporting-justified}
+use Rattle.pv_laws_access.proofs.JustifiedReports.{reporting-justified}
 use Rattle.pv_laws_access.proofs.justice.reporting_is_justified.Goals as goal
 
 pub returns : goal.returns

@@ -1,4 +1,4 @@
-use Rattle.pv_laws_access.proofs.Refused.{error-narrows}
+use Rattle.pv_laws_access.proofs.RefusedSteps.{error-narrows}
 use Rattle.pv_laws_access.proofs.lacking.error_narrows.Goals as goal
 
 pub returns : goal.returns

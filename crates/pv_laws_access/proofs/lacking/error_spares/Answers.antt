@@ -1,4 +1,4 @@
-use Rattle.pv_laws_access.proofs.Refused.{error-spares}
+use Rattle.pv_laws_access.proofs.RefusedSteps.{error-spares}
 use Rattle.pv_laws_access.proofs.lacking.error_spares.Goals as goal
 
 pub returns : goal.returns

@@ -1,4 +1,4 @@
-use Rattle.pv_laws_access.proofs.Refused.{missing-decides}
+use Rattle.pv_laws_access.proofs.RefusedSteps.{missing-decides}
 use Rattle.pv_laws_access.proofs.lacking.missing_promises_decide.Goals as goal
 
 pub returns : goal.returns

@@ -1,4 +1,4 @@
-use Rattle.pv_laws_access.proofs.Missing.{walks-nowhere}
+use Rattle.pv_laws_access.proofs.MissingPromises.{walks-nowhere}
 use Rattle.pv_laws_access.proofs.lacking.with_stdio_walks_nowhere.Goals as goal
 
 pub returns : goal.returns

@@ -1,4 +1,4 @@
-use Rattle.pv_laws_access.proofs.Missing.{tables-preserved}
+use Rattle.pv_laws_access.proofs.MissingPromises.{tables-preserved}
 use Rattle.pv_laws_access.proofs.lacking.without_unveil_tables_stay.Goals as goal
 
 pub returns : goal.returns

@@ -1,4 +1,4 @@
-use Rattle.pv_laws_access.proofs.Ended.{exits-leave}
+use Rattle.pv_laws_access.proofs.StatesAfterEnds.{exits-leave}
 use Rattle.pv_laws_access.proofs.leaving.exits_leave.Goals as goal
 
 pub returns : goal.returns

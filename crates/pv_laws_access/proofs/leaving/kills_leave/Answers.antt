@@ -1,4 +1,4 @@
-use Rattle.pv_laws_access.proofs.Ended.{kills-leave}
+use Rattle.pv_laws_access.proofs.StatesAfterEnds.{kills-leave}
 use Rattle.pv_laws_access.proofs.leaving.kills_leave.Goals as goal
 
 pub returns : goal.returns

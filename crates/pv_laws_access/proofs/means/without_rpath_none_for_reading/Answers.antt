@@ -1,4 +1,4 @@
-use Rattle.pv_laws_access.proofs.Promised.{without-rpath}
+use Rattle.pv_laws_access.proofs.PromiseLimits.{without-rpath}
 use Rattle.pv_laws_access.proofs.means.without_rpath_none_for_reading.Goals as goal
 
 pub returns : goal.returns

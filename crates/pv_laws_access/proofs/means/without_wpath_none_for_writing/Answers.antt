@@ -1,4 +1,4 @@
-use Rattle.pv_laws_access.proofs.Promised.{without-wpath}
+use Rattle.pv_laws_access.proofs.PromiseLimits.{without-wpath}
 use Rattle.pv_laws_access.proofs.means.without_wpath_none_for_writing.Goals as goal
 
 pub returns : goal.returns

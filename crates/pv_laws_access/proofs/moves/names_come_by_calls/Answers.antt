@@ -1,4 +1,4 @@
-use Rattle.pv_laws_access.proofs.Named.{names-given}
+use Rattle.pv_laws_access.proofs.NamingCalls.{names-given}
 use Rattle.pv_laws_access.proofs.moves.names_come_by_calls.Goals as goal
 
 pub returns : goal.returns

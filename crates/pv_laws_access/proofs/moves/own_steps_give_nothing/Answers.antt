@@ -1,4 +1,4 @@
-use Rattle.pv_laws_access.proofs.Moved.{left-without}
+use Rattle.pv_laws_access.proofs.MovedPermissions.{left-without}
 use Rattle.pv_laws_access.proofs.moves.own_steps_give_nothing.Goals as goal
 
 pub returns : goal.returns

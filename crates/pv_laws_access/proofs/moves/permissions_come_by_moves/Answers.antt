@@ -1,4 +1,4 @@
-use Rattle.pv_laws_access.proofs.Moved.{permissions-come}
+use Rattle.pv_laws_access.proofs.MovedPermissions.{permissions-come}
 use Rattle.pv_laws_access.proofs.moves.permissions_come_by_moves.Goals as goal
 
 pub returns : goal.returns

@@ -1,4 +1,4 @@
-use Rattle.pv_laws_access.proofs.Next.{reports-next}
+use Rattle.pv_laws_access.proofs.NextNames.{reports-next}
 use Rattle.pv_laws_access.proofs.order.getdents_reports_the_next_name.Goals as goal
 
 pub returns : goal.returns

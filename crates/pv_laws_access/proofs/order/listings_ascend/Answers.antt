@@ -1,4 +1,4 @@
-use Rattle.pv_laws_access.proofs.Listed.{places, listed-by}
+use Rattle.pv_laws_access.proofs.ListingOrder.{places, listed-by}
 use Rattle.pv_laws_access.proofs.order.listings_ascend.Goals as goal
 
 pub returns : goal.returns

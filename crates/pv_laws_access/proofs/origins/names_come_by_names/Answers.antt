@@ -1,4 +1,4 @@
-use Rattle.pv_laws_access.proofs.Brought.{names-moved}
+use Rattle.pv_laws_access.proofs.NameOrigins.{names-moved}
 use Rattle.pv_laws_access.proofs.origins.names_come_by_names.Goals as goal
 
 pub returns : goal.returns

@@ -1,4 +1,4 @@
-use Rattle.pv_laws_access.proofs.Firsts.{first-increase-named}
+use Rattle.pv_laws_access.proofs.FirstMissing.{first-increase-named}
 use Rattle.pv_laws_access.proofs.promises.first_increase_is_named.Goals as goal
 
 pub returns : goal.returns

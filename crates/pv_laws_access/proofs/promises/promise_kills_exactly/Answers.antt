@@ -1,4 +1,4 @@
-use Rattle.pv_laws_access.proofs.Pledged.{promise-kills}
+use Rattle.pv_laws_access.proofs.PromiseRefusals.{promise-kills}
 use Rattle.pv_laws_access.proofs.promises.promise_kills_exactly.Goals as goal
 
 pub returns : goal.returns

@@ -1,4 +1,4 @@
-use Rattle.pv_laws_access.proofs.Pledged.{promise-refuses}
+use Rattle.pv_laws_access.proofs.PromiseRefusals.{promise-refuses}
 use Rattle.pv_laws_access.proofs.promises.promise_refuses_exactly.Goals as goal
 
 pub returns : goal.returns

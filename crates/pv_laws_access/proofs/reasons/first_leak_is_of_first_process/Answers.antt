@@ -1,4 +1,4 @@
-use Rattle.pv_model.specs.Held.{live_processes}
+use Rattle.pv_model.specs.Machine.{live_processes}
 use Rattle.pv_laws_access.proofs.Verdicts.{first-leaks, leaks-first}
 use Rattle.pv_laws_access.proofs.reasons.first_leak_is_of_first_process.Goals as goal
 

@@ -1,4 +1,4 @@
-use Rattle.pv_laws_access.proofs.ForEver.{frozen-for_ever}
+use Rattle.pv_laws_access.proofs.SealedRuns.{frozen-for_ever}
 use Rattle.pv_laws_access.proofs.sealing.frozen_for_ever.Goals as goal
 
 pub returns : goal.returns

@@ -1,4 +1,4 @@
-use Rattle.pv_laws_access.proofs.ForEver.{sealed-for_ever}
+use Rattle.pv_laws_access.proofs.SealedRuns.{sealed-for_ever}
 use Rattle.pv_laws_access.proofs.sealing.sealed_for_ever.Goals as goal
 
 pub returns : goal.returns

@@ -1,4 +1,4 @@
-use Rattle.pv_laws_access.proofs.Invariant.{sealed-stays}
+use Rattle.pv_laws_access.proofs.SealedSteps.{sealed-stays}
 use Rattle.pv_laws_access.proofs.sealing.sealed_stays.Goals as goal
 
 pub returns : goal.returns

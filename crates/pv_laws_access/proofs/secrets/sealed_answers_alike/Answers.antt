@@ -1,4 +1,4 @@
-use Rattle.pv_laws_access.proofs.Closed.{sealed-answers_alike}
+use Rattle.pv_laws_access.proofs.ClosedProcesses.{sealed-answers_alike}
 use Rattle.pv_laws_access.proofs.secrets.sealed_answers_alike.Goals as goal
 
 pub returns : goal.returns

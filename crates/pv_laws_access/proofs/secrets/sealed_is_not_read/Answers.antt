@@ -1,4 +1,4 @@
-use Rattle.pv_laws_access.proofs.Closed.{sealed-not_read}
+use Rattle.pv_laws_access.proofs.ClosedProcesses.{sealed-not_read}
 use Rattle.pv_laws_access.proofs.secrets.sealed_is_not_read.Goals as goal
 
 pub returns : goal.returns

@@ -1,4 +1,4 @@
-use Rattle.pv_laws_answers.proofs.Counted.{call-asked}
+use Rattle.pv_laws_answers.proofs.NeedCounts.{call-asked}
 use Rattle.pv_laws_answers.proofs.counts.calls_are_asked.Goals as goal
 
 pub returns : goal.returns

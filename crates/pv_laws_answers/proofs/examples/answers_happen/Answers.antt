@@ -1,5 +1,5 @@
 use Rattle.pv_laws_answers.proofs.examples.answers_happen.Goals as goal
-use Rattle.pv_laws_answers.proofs.Worked.{answers-happen}
+use Rattle.pv_laws_answers.proofs.AnswerExampleRuns.{answers-happen}
 
 pub returns : goal.returns
 returns c = answers-happen

@@ -1,4 +1,4 @@
-use Rattle.pv_laws_answers.proofs.Along.{runs-are_witnesses}
+use Rattle.pv_laws_answers.proofs.GraphPaths.{runs-are_witnesses}
 use Rattle.pv_laws_answers.proofs.graph.runs_are_witnesses.Goals as goal
 
 pub returns : goal.returns

@@ -1,4 +1,4 @@
-use Rattle.pv_laws_answers.proofs.Along.{witnesses-are_runs}
+use Rattle.pv_laws_answers.proofs.GraphPaths.{witnesses-are_runs}
 use Rattle.pv_laws_answers.proofs.graph.witnesses_are_runs.Goals as goal
 
 pub returns : goal.returns

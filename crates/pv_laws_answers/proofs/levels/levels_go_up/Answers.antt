@@ -1,4 +1,4 @@
-use Rattle.pv_laws_answers.proofs.Climbs.{levels-up}
+use Rattle.pv_laws_answers.proofs.PlaceLevels.{levels-up}
 use Rattle.pv_laws_answers.proofs.levels.levels_go_up.Goals as goal
 
 pub returns : goal.returns

@@ -1,4 +1,4 @@
-use Rattle.pv_laws_answers.proofs.Flows.{come-by_changes}
+use Rattle.pv_laws_answers.proofs.GoverningChanges.{come-by_changes}
 use Rattle.pv_laws_answers.proofs.over_time.letters_come_by_changes.Goals as goal
 
 pub returns : goal.returns

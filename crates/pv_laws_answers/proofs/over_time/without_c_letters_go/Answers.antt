@@ -1,4 +1,4 @@
-use Rattle.pv_laws_answers.proofs.Flows.{no-c_go}
+use Rattle.pv_laws_answers.proofs.GoverningChanges.{no-c_go}
 use Rattle.pv_laws_answers.proofs.over_time.without_c_letters_go.Goals as goal
 
 pub returns : goal.returns

@@ -1,4 +1,4 @@
-use Rattle.pv_laws_answers.proofs.Flows.{unchanged-go}
+use Rattle.pv_laws_answers.proofs.GoverningChanges.{unchanged-go}
 use Rattle.pv_laws_answers.proofs.over_time.without_change_letters_go.Goals as goal
 
 pub returns : goal.returns

@@ -1,4 +1,4 @@
-use Rattle.pv_laws_answers.proofs.Otherwise.{needed-promises}
+use Rattle.pv_laws_answers.proofs.OtherRestraints.{needed-promises}
 use Rattle.pv_laws_answers.proofs.process_images.listed_promises_are_needed.Goals as goal
 
 pub returns : goal.returns

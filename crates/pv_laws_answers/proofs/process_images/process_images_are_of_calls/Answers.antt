@@ -1,4 +1,4 @@
-use Rattle.pv_laws_answers.proofs.Listed.{process_images-are}
+use Rattle.pv_laws_answers.proofs.ListedNeeds.{process_images-are}
 use Rattle.pv_laws_answers.proofs.process_images.process_images_are_of_calls.Goals as goal
 
 pub returns : goal.returns

@@ -1,4 +1,4 @@
-use Rattle.pv_laws_answers.proofs.Listed.{made-in}
+use Rattle.pv_laws_answers.proofs.ListedNeeds.{made-in}
 use Rattle.pv_laws_answers.proofs.process_images.process_images_are_of_the_run.Goals as goal
 
 pub returns : goal.returns

@@ -1,4 +1,4 @@
-use Rattle.pv_laws_answers.proofs.Asking.{execve-x}
+use Rattle.pv_laws_answers.proofs.AskingCalls.{execve-x}
 use Rattle.pv_laws_answers.proofs.reach.execve_shows_x.Goals as goal
 
 pub returns : goal.returns

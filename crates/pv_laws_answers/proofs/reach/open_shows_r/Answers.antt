@@ -1,4 +1,4 @@
-use Rattle.pv_laws_answers.proofs.Asking.{open-r}
+use Rattle.pv_laws_answers.proofs.AskingCalls.{open-r}
 use Rattle.pv_laws_answers.proofs.reach.open_shows_r.Goals as goal
 
 pub returns : goal.returns

@@ -1,4 +1,4 @@
-use Rattle.pv_laws_answers.proofs.Asking.{open-w}
+use Rattle.pv_laws_answers.proofs.AskingCalls.{open-w}
 use Rattle.pv_laws_answers.proofs.reach.open_shows_w.Goals as goal
 
 pub returns : goal.returns

@@ -1,4 +1,4 @@
-use Rattle.pv_laws_answers.proofs.Asking.{reach-exact}
+use Rattle.pv_laws_answers.proofs.AskingCalls.{reach-exact}
 use Rattle.pv_laws_answers.proofs.reach.reach_is_exact.Goals as goal
 
 pub returns : goal.returns

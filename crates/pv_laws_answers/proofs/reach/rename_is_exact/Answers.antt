@@ -1,4 +1,4 @@
-use Rattle.pv_laws_answers.proofs.Asking.{rename-exact}
+use Rattle.pv_laws_answers.proofs.AskingCalls.{rename-exact}
 use Rattle.pv_laws_answers.proofs.reach.rename_is_exact.Goals as goal
 
 pub returns : goal.returns

@@ -1,4 +1,4 @@
-use Rattle.pv_laws_answers.proofs.Asking.{unlink-c}
+use Rattle.pv_laws_answers.proofs.AskingCalls.{unlink-c}
 use Rattle.pv_laws_answers.proofs.reach.unlink_shows_c.Goals as goal
 
 pub returns : goal.returns

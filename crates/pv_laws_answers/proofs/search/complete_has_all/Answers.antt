@@ -1,4 +1,4 @@
-use Rattle.pv_laws_answers.proofs.Complete.{all-found}
+use Rattle.pv_laws_answers.proofs.CompleteSearches.{all-found}
 use Rattle.pv_laws_answers.proofs.search.complete_has_all.Goals as goal
 
 pub returns : goal.returns

@@ -1,4 +1,4 @@
-use Rattle.pv_laws_answers.proofs.Complete.{all-reported}
+use Rattle.pv_laws_answers.proofs.CompleteSearches.{all-reported}
 use Rattle.pv_laws_answers.proofs.search.each_text_is_reported.Goals as goal
 
 pub returns : goal.returns

@@ -1,4 +1,4 @@
-use Rattle.pv_laws_answers.proofs.Complete.{all-endings}
+use Rattle.pv_laws_answers.proofs.CompleteSearches.{all-endings}
 use Rattle.pv_laws_answers.proofs.search.endings_are_all.Goals as goal
 
 pub returns : goal.returns

@@ -1,4 +1,4 @@
-use Rattle.pv_laws_answers.proofs.Settled.{settings-long}
+use Rattle.pv_laws_answers.proofs.EntrySettings.{settings-long}
 use Rattle.pv_laws_answers.proofs.settings.each_entry_is_set.Goals as goal
 
 pub returns : goal.returns

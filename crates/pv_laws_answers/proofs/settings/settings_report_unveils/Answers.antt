@@ -1,4 +1,4 @@
-use Rattle.pv_laws_answers.proofs.Settled.{settings-report}
+use Rattle.pv_laws_answers.proofs.EntrySettings.{settings-report}
 use Rattle.pv_laws_answers.proofs.settings.settings_report_unveils.Goals as goal
 
 pub returns : goal.returns

@@ -1,8 +1,7 @@
-use Rattle.pv_model.specs.State.{first_state}
-use Rattle.pv_model.specs.Step.{run}
+use Rattle.pv_model.specs.Machine.{first_state, run}
 use Rattle.pv_laws_states.proofs.BySteps.{first-whole, run-keeps_whole}
-use Rattle.pv_laws_answers.proofs.Older.{first-older}
-use Rattle.pv_laws_answers.proofs.Waiting.{run-older, some-continues}
+use Rattle.pv_laws_answers.proofs.ParentNumbers.{first-older}
+use Rattle.pv_laws_answers.proofs.WaitingProcesses.{run-older, some-continues}
 use Rattle.pv_laws_answers.proofs.waits.no_run_deadlocks.Goals as goal
 
 pub returns : goal.returns

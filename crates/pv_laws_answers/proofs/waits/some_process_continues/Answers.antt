@@ -1,4 +1,4 @@
-use Rattle.pv_laws_answers.proofs.Waiting.{some-continues}
+use Rattle.pv_laws_answers.proofs.WaitingProcesses.{some-continues}
 use Rattle.pv_laws_answers.proofs.waits.some_process_continues.Goals as goal
 
 pub returns : goal.returns

@@ -1,4 +1,4 @@
-use Rattle.pv_laws_answers.proofs.Wants.{want-reported}
+use Rattle.pv_laws_answers.proofs.RestraintLines.{want-reported}
 use Rattle.pv_laws_answers.proofs.wanted.need_is_reported.Goals as goal
 
 pub returns : goal.returns

@@ -1,4 +1,4 @@
-use Rattle.pv_laws_answers.proofs.Wants.{refusal-reported}
+use Rattle.pv_laws_answers.proofs.RestraintLines.{refusal-reported}
 use Rattle.pv_laws_answers.proofs.wanted.refusal_is_reported.Goals as goal
 
 pub returns : goal.returns

@@ -1,4 +1,4 @@
-use Rattle.pv_laws_classes.proofs.Forms.{equivalence}
+use Rattle.pv_laws_classes.proofs.CanonicalForms.{equivalence}
 use Rattle.pv_laws_classes.proofs.canonical.alike_is_equivalence.Goals as goal
 
 pub returns : goal.returns

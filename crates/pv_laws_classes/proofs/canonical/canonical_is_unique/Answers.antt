@@ -1,4 +1,4 @@
-use Rattle.pv_laws_classes.proofs.Forms.{unique}
+use Rattle.pv_laws_classes.proofs.CanonicalForms.{unique}
 use Rattle.pv_laws_classes.proofs.canonical.canonical_is_unique.Goals as goal
 
 pub returns : goal.returns

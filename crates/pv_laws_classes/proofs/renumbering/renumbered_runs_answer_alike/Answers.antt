@@ -1,4 +1,4 @@
-use Rattle.pv_laws_classes.proofs.Steps.{renumbered-runs}
+use Rattle.pv_laws_classes.proofs.RenumberedSteps.{renumbered-runs}
 use Rattle.pv_laws_classes.proofs.renumbering.renumbered_runs_answer_alike.Goals as goal
 
 pub returns : goal.returns

@@ -1,4 +1,4 @@
-use Rattle.pv_laws_classes.proofs.Combined.{is-combined}
+use Rattle.pv_laws_classes.proofs.CombinedSteps.{is-combined}
 use Rattle.pv_laws_classes.proofs.together.combined_steps_are_of_registers.Goals as goal
 
 pub returns : goal.returns

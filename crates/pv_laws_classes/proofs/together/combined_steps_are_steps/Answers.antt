@@ -1,4 +1,4 @@
-use Rattle.pv_laws_classes.proofs.Combined.{their-steps}
+use Rattle.pv_laws_classes.proofs.CombinedSteps.{their-steps}
 use Rattle.pv_laws_classes.proofs.together.combined_steps_are_steps.Goals as goal
 
 pub returns : goal.returns

@@ -1,4 +1,4 @@
-use Rattle.pv_laws_classes.proofs.Combined.{ends-alike}
+use Rattle.pv_laws_classes.proofs.CombinedSteps.{ends-alike}
 use Rattle.pv_laws_classes.proofs.together.combined_steps_reach_each.Goals as goal
 
 pub returns : goal.returns

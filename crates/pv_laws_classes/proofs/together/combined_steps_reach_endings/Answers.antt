@@ -1,4 +1,4 @@
-use Rattle.pv_laws_classes.proofs.Combined.{ends-together}
+use Rattle.pv_laws_classes.proofs.CombinedSteps.{ends-together}
 use Rattle.pv_laws_classes.proofs.together.combined_steps_reach_endings.Goals as goal
 
 pub returns : goal.returns

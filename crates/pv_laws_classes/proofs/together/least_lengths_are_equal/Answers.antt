@@ -1,4 +1,4 @@
-use Rattle.pv_laws_classes.proofs.Combined.{least-equal}
+use Rattle.pv_laws_classes.proofs.CombinedSteps.{least-equal}
 use Rattle.pv_laws_classes.proofs.together.least_lengths_are_equal.Goals as goal
 
 pub returns : goal.returns

@@ -1,4 +1,4 @@
-use Rattle.pv_laws_classes.proofs.Registers.{registers-silent}
+use Rattle.pv_laws_classes.proofs.RegisterSteps.{registers-silent}
 use Rattle.pv_laws_classes.proofs.together.register_steps_are_silent.Goals as goal
 
 pub returns : goal.returns

@@ -1,4 +1,4 @@
-use Rattle.pv_laws_classes.proofs.Combined.{combined-form}
+use Rattle.pv_laws_classes.proofs.CombinedSteps.{combined-form}
 use Rattle.pv_laws_classes.proofs.together.schedules_have_combined_forms.Goals as goal
 
 pub returns : goal.returns

@@ -1,4 +1,4 @@
-use Rattle.pv_laws_classes.proofs.Turns.{normal-form}
+use Rattle.pv_laws_classes.proofs.CombinedTurns.{normal-form}
 use Rattle.pv_laws_classes.proofs.together.schedules_have_normal_forms.Goals as goal
 
 pub returns : goal.returns

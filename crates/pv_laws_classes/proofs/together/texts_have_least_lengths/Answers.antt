@@ -1,4 +1,4 @@
-use Rattle.pv_laws_classes.proofs.Lengths.{has-least_length}
+use Rattle.pv_laws_classes.proofs.LeastLengths.{has-least_length}
 use Rattle.pv_laws_classes.proofs.together.texts_have_least_lengths.Goals as goal
 
 pub returns : goal.returns

@@ -1,6 +1,6 @@
 use Rattle.std.proofs.Common.{true, false}
-use Rattle.pv_model.specs.Grammar.Manifests.{read_manifest, read_bundle}
-use Rattle.pv_laws_grammar.proofs.WholeManifests.{IsFirstWithoutForm-whole, whole-IsFirstWithoutForm}
+use Rattle.pv_model.specs.Machine.{read_manifest, read_bundle}
+use Rattle.pv_laws_grammar.proofs.ManifestParsing.{IsFirstWithoutForm-whole, whole-IsFirstWithoutForm}
 use Rattle.pv_laws_grammar.proofs.manifests.least_line_without_form_is_named.Goals as goal
 
 pub returns : goal.returns

@@ -1,6 +1,6 @@
 use Rattle.std.proofs.Common.{true, false}
-use Rattle.pv_model.specs.Grammar.Manifests.{read_manifest, read_bundle}
-use Rattle.pv_laws_grammar.proofs.WholeManifests.{EncodesManifest-whole, whole-EncodesManifest}
+use Rattle.pv_model.specs.Machine.{read_manifest, read_bundle}
+use Rattle.pv_laws_grammar.proofs.ManifestParsing.{EncodesManifest-whole, whole-EncodesManifest}
 use Rattle.pv_laws_grammar.proofs.manifests.manifest_is_read_as_it_is_encoded.Goals as goal
 
 pub returns : goal.returns

@@ -1,6 +1,6 @@
 use Rattle.std.proofs.Common.{true, false}
-use Rattle.pv_model.specs.Grammar.Manifests.{read_manifest, read_bundle}
-use Rattle.pv_laws_grammar.proofs.WholeManifests.{HasOtherSizes-whole, whole-HasOtherSizes, form_or_size}
+use Rattle.pv_model.specs.Machine.{read_manifest, read_bundle}
+use Rattle.pv_laws_grammar.proofs.ManifestParsing.{HasOtherSizes-whole, whole-HasOtherSizes, form_or_size}
 use Rattle.pv_laws_grammar.proofs.manifests.sizes_come_after_form.Goals as goal
 
 pub returns : goal.returns

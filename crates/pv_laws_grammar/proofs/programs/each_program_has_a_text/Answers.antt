@@ -1,5 +1,5 @@
 use Rattle.pv_laws_grammar.specs.Written.{written_program}
-use Rattle.pv_laws_grammar.proofs.WholePrograms.{program_of-EncodesProgram}
+use Rattle.pv_laws_grammar.proofs.ProgramParsing.{program_of-EncodesProgram}
 use Rattle.pv_laws_grammar.proofs.WrittenPrograms.{EncodesProgram-written}
 use Rattle.pv_laws_grammar.proofs.programs.each_program_has_a_text.Goals as goal
 

@@ -1,4 +1,4 @@
-use Rattle.pv_laws_grammar.proofs.WholePrograms.{no_memory_program, IsFirstInvalid-read_program, read_program-IsFirstInvalid}
+use Rattle.pv_laws_grammar.proofs.ProgramParsing.{no_memory_program, IsFirstInvalid-read_program, read_program-IsFirstInvalid}
 use Rattle.pv_laws_grammar.proofs.programs.least_invalid_line_is_named.Goals as goal
 
 pub returns : goal.returns

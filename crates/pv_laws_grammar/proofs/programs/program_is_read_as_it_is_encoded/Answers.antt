@@ -1,4 +1,4 @@
-use Rattle.pv_laws_grammar.proofs.WholePrograms.{EncodesProgram-program_of, program_of-EncodesProgram}
+use Rattle.pv_laws_grammar.proofs.ProgramParsing.{EncodesProgram-program_of, program_of-EncodesProgram}
 use Rattle.pv_laws_grammar.proofs.programs.program_is_read_as_it_is_encoded.Goals as goal
 
 pub returns : goal.returns

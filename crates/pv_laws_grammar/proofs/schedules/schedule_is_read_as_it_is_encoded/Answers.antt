@@ -1,4 +1,4 @@
-use Rattle.pv_laws_grammar.proofs.WholeSchedules.{EncodesSchedule-read, read-EncodesSchedule, schedule_found, schedule_again}
+use Rattle.pv_laws_grammar.proofs.ScheduleParsing.{EncodesSchedule-read, read-EncodesSchedule, schedule_found, schedule_again}
 use Rattle.pv_laws_grammar.proofs.schedules.schedule_is_read_as_it_is_encoded.Goals as goal
 
 pub returns : goal.returns

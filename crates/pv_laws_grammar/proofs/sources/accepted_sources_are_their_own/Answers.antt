@@ -1,4 +1,4 @@
-use Rattle.pv_laws_grammar.proofs.AcceptedAgain.{appears-for-itself}
+use Rattle.pv_laws_grammar.proofs.AcceptedTexts.{appears-for-itself}
 use Rattle.pv_laws_grammar.proofs.AcceptedSources.{accepted, written-ended}
 use Rattle.pv_laws_grammar.proofs.sources.accepted_sources_are_their_own.Goals as goal
 

@@ -1,5 +1,5 @@
 use Rattle.pv_laws_grammar.proofs.FlagWords.{reads_flags}
-use Rattle.pv_laws_grammar.proofs.OneWord.{reads_number, reads_register, reads_operand, reads_whence, reads_origin}
+use Rattle.pv_laws_grammar.proofs.SingleWords.{reads_number, reads_register, reads_operand, reads_whence, reads_origin}
 use Rattle.pv_laws_grammar.proofs.words.words_are_read_as_they_are_encoded.Goals as goal
 
 pub returns : goal.returns

@@ -1,7 +1,7 @@
-use Rattle.pv_model.specs.Grammar.Programs.{program_of}
-use Rattle.pv_laws_access.proofs.ForEver.{frozen-for_ever}
+use Rattle.pv_model.specs.Machine.{program_of}
+use Rattle.pv_laws_answers.proofs.OfLawsAccess.SealedRuns.{frozen-for_ever}
 use Rattle.pv_laws_runs.proofs.Ranges.{program_of-encodes}
-use Rattle.pv_laws_runs.proofs.Starting.{reached-whole}
+use Rattle.pv_laws_runs.proofs.StartingStates.{reached-whole}
 use Rattle.pv_laws_runs.proofs.runs.frozen_is_left.Goals as goal
 
 pub returns : goal.returns

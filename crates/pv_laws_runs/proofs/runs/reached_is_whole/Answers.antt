@@ -1,4 +1,4 @@
-use Rattle.pv_laws_runs.proofs.Starting.{reached-whole}
+use Rattle.pv_laws_runs.proofs.StartingStates.{reached-whole}
 use Rattle.pv_laws_runs.proofs.runs.reached_is_whole.Goals as goal
 
 pub returns : goal.returns

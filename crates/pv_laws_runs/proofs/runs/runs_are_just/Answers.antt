@@ -1,6 +1,6 @@
-use Rattle.pv_model.specs.Grammar.Programs.{program_of}
-use Rattle.pv_laws_access.proofs.JustReads.{all-justified}
-use Rattle.pv_laws_runs.proofs.Starting.{reached-whole}
+use Rattle.pv_model.specs.Machine.{program_of}
+use Rattle.pv_laws_answers.proofs.OfLawsAccess.JustifiedReads.{all-justified}
+use Rattle.pv_laws_runs.proofs.StartingStates.{reached-whole}
 use Rattle.pv_laws_runs.proofs.runs.runs_are_just.Goals as goal
 
 pub returns : goal.returns

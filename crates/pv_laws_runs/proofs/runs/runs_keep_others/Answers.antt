@@ -1,7 +1,7 @@
-use Rattle.pv_model.specs.Grammar.Programs.{program_of}
-use Rattle.pv_laws_access.proofs.Ends.{whole-in_order}
-use Rattle.pv_laws_access.proofs.Images.{others-keep}
-use Rattle.pv_laws_runs.proofs.Starting.{reached-whole}
+use Rattle.pv_model.specs.Machine.{program_of}
+use Rattle.pv_laws_answers.proofs.OfLawsAccess.Ends.{whole-in_order}
+use Rattle.pv_laws_answers.proofs.OfLawsAccess.ProgramImages.{others-keep}
+use Rattle.pv_laws_runs.proofs.StartingStates.{reached-whole}
 use Rattle.pv_laws_runs.proofs.runs.runs_keep_others.Goals as goal
 
 pub returns : goal.returns

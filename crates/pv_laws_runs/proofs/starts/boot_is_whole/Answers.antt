@@ -1,4 +1,4 @@
-use Rattle.pv_laws_runs.proofs.Starting.{boot-whole}
+use Rattle.pv_laws_runs.proofs.StartingStates.{boot-whole}
 use Rattle.pv_laws_runs.proofs.starts.boot_is_whole.Goals as goal
 
 pub returns : goal.returns

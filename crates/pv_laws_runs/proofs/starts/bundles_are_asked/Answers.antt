@@ -1,4 +1,4 @@
-use Rattle.pv_laws_runs.proofs.Asked.{asks-bundle, bundle-asks}
+use Rattle.pv_laws_runs.proofs.RunChecks.{asks-bundle, bundle-asks}
 use Rattle.pv_laws_runs.proofs.starts.bundles_are_asked.Goals as goal
 
 pub returns : goal.returns

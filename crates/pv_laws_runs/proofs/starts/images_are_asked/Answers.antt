@@ -1,4 +1,4 @@
-use Rattle.pv_laws_runs.proofs.Asked.{asks-image, image-asks}
+use Rattle.pv_laws_runs.proofs.RunChecks.{asks-image, image-asks}
 use Rattle.pv_laws_runs.proofs.starts.images_are_asked.Goals as goal
 
 pub returns : goal.returns

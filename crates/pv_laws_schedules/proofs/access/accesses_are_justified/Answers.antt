@@ -1,4 +1,4 @@
-use Rattle.pv_laws_schedules.proofs.Justified.{accesses-justified}
+use Rattle.pv_laws_schedules.proofs.JustifiedAccesses.{accesses-justified}
 use Rattle.pv_laws_schedules.proofs.access.accesses_are_justified.Goals as goal
 
 pub returns : goal.returns

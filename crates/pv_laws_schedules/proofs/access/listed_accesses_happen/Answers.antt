@@ -1,4 +1,4 @@
-use Rattle.pv_laws_schedules.proofs.Happening.{accesses-happen}
+use Rattle.pv_laws_schedules.proofs.ReportedObservations.{accesses-happen}
 use Rattle.pv_laws_schedules.proofs.access.listed_accesses_happen.Goals as goal
 
 pub returns : goal.returns

@@ -1,4 +1,4 @@
-use Rattle.pv_laws_schedules.proofs.Pairs.{shortest}
+use Rattle.pv_laws_schedules.proofs.PairSearch.{shortest}
 use Rattle.pv_laws_schedules.proofs.compare.differences_are_shortest.Goals as goal
 
 pub returns : goal.returns

@@ -1,4 +1,4 @@
-use Rattle.pv_laws_schedules.proofs.Pairs.{itself-alike}
+use Rattle.pv_laws_schedules.proofs.PairSearch.{itself-alike}
 use Rattle.pv_laws_schedules.proofs.compare.itself_is_alike.Goals as goal
 
 pub returns : goal.returns

@@ -1,4 +1,4 @@
-use Rattle.pv_laws_schedules.proofs.Exposed.{unlisted-lines}
+use Rattle.pv_laws_schedules.proofs.ExposureLines.{unlisted-lines}
 use Rattle.pv_laws_schedules.proofs.exposure.unlisted_lines_are_closed.Goals as goal
 
 pub returns : goal.returns

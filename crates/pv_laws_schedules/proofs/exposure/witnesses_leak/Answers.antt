@@ -1,4 +1,4 @@
-use Rattle.pv_laws_schedules.proofs.Exposed.{witnesses-leak}
+use Rattle.pv_laws_schedules.proofs.ExposureLines.{witnesses-leak}
 use Rattle.pv_laws_schedules.proofs.exposure.witnesses_leak.Goals as goal
 
 pub returns : goal.returns

@@ -1,4 +1,4 @@
-use Rattle.pv_laws_schedules.proofs.Lettered.{needed-permissions}
+use Rattle.pv_laws_schedules.proofs.NeededPermissions.{needed-permissions}
 use Rattle.pv_laws_schedules.proofs.policy.listed_permissions_are_needed.Goals as goal
 
 pub returns : goal.returns

@@ -1,4 +1,4 @@
-use Rattle.pv_laws_schedules.proofs.Promised.{enough-promises}
+use Rattle.pv_laws_schedules.proofs.NeededPromises.{enough-promises}
 use Rattle.pv_laws_schedules.proofs.policy.listed_promises_are_enough.Goals as goal
 
 pub returns : goal.returns

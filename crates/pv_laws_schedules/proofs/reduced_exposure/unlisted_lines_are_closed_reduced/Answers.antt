@@ -1,4 +1,4 @@
-use Rattle.pv_laws_schedules.proofs.ReducedExposed.{unlisted-lines_reduced}
+use Rattle.pv_laws_schedules.proofs.ReducedExposureLines.{unlisted-lines_reduced}
 use Rattle.pv_laws_schedules.proofs.reduced_exposure.unlisted_lines_are_closed_reduced.Goals as goal
 
 pub returns : goal.returns

@@ -1,4 +1,4 @@
-use Rattle.pv_laws_schedules.proofs.Promised.{enough-promises_reduced}
+use Rattle.pv_laws_schedules.proofs.NeededPromises.{enough-promises_reduced}
 use Rattle.pv_laws_schedules.proofs.reduced_policy.listed_promises_are_enough_reduced.Goals as goal
 
 pub returns : goal.returns

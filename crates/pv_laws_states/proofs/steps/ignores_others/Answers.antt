@@ -1,4 +1,4 @@
-use Rattle.pv_laws_states.proofs.Apart.{ignores-others}
+use Rattle.pv_laws_states.proofs.OtherInsidesCalls.{ignores-others}
 use Rattle.pv_laws_states.proofs.steps.ignores_others.Goals as goal
 
 pub returns : goal.returns

@@ -1,4 +1,4 @@
-use Rattle.pv_laws_steps.proofs.AskSteps.{fstats-commute}
+use Rattle.pv_laws_steps.proofs.QuerySteps.{fstats-commute}
 use Rattle.pv_laws_steps.proofs.asking.fstats_commute.Goals as goal
 
 pub returns : goal.returns

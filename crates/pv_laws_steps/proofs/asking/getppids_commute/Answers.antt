@@ -1,4 +1,4 @@
-use Rattle.pv_laws_steps.proofs.AskSteps.{getppids-commute}
+use Rattle.pv_laws_steps.proofs.QuerySteps.{getppids-commute}
 use Rattle.pv_laws_steps.proofs.asking.getppids_commute.Goals as goal
 
 pub returns : goal.returns

@@ -1,4 +1,4 @@
-use Rattle.pv_laws_steps.proofs.Commuted.{inside-commute}
+use Rattle.pv_laws_steps.proofs.CommutingSteps.{inside-commute}
 use Rattle.pv_laws_steps.proofs.commuting.inside_steps_commute.Goals as goal
 
 pub returns : goal.returns

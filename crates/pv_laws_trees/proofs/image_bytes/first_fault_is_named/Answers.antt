@@ -1,4 +1,4 @@
-use Rattle.pv_laws_trees.proofs.Faults.{named, answered}
+use Rattle.pv_laws_trees.proofs.FirstErrors.{named, answered}
 use Rattle.pv_laws_trees.proofs.image_bytes.first_fault_is_named.Goals as goal
 
 pub returns : goal.returns

@@ -1,4 +1,4 @@
-use Rattle.pv_laws_trees.proofs.Back.{one-tree}
+use Rattle.pv_laws_trees.proofs.MountedImages.{one-tree}
 use Rattle.pv_laws_trees.proofs.image_bytes.images_hold_one_tree.Goals as goal
 
 pub returns : goal.returns

@@ -1,4 +1,4 @@
-use Rattle.pv_laws_trees.proofs.Back.{image-mounted}
+use Rattle.pv_laws_trees.proofs.MountedImages.{image-mounted}
 use Rattle.pv_laws_trees.proofs.Images.{mounted-image}
 use Rattle.pv_laws_trees.proofs.image_bytes.images_mount.Goals as goal
 

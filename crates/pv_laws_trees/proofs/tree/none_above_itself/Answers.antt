@@ -1,4 +1,4 @@
-use Rattle.pv_laws_trees.proofs.Above.{none-above_itself}
+use Rattle.pv_laws_trees.proofs.Ancestors.{none-above_itself}
 use Rattle.pv_laws_trees.proofs.tree.none_above_itself.Goals as goal
 
 pub returns : goal.returns

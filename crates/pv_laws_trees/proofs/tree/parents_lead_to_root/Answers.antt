@@ -1,4 +1,4 @@
-use Rattle.pv_laws_trees.proofs.Above.{parents-lead}
+use Rattle.pv_laws_trees.proofs.Ancestors.{parents-lead}
 use Rattle.pv_laws_trees.proofs.tree.parents_lead_to_root.Goals as goal
 
 pub returns : goal.returns

@@ -1,6 +1,6 @@
 use Rattle.std.proofs.Common.{◌≡◌, ◌++◌, ◌-◌, ◌∙◌, ap, sym, subst, drop, take, length, codes, arith, ℕ, Option, rules}
 use Rattle.std.proofs.lemmas.List.{take_all, drop_all}
-use Rattle.pv_model.specs.Tree.{entries_at}
+use Rattle.pv_model.specs.Machine.{entries_at}
 use Rattle.pv_streams.proofs.Reporting.{begins_first, on_err}
 use Rattle.pv_listing.specs.Lines.{entries_after, last_name, IsNextChild}
 use Rattle.pv_listing.proofs.Children.{past-none, last-is, front-is, length-path}

@@ -1,6 +1,6 @@
 use Rattle.std.proofs.Common.{◌≡◌, ◌-◌, ◌≤◌, length, take, drop, vec_len}
 use Rattle.pv_model.specs.Listing.{lines_within}
-use Rattle.pv_model.specs.Tree.{entries_at}
+use Rattle.pv_model.specs.Machine.{entries_at}
 use Rattle.pv_listing.specs.Lines.{entries_after, last_name}
 use Rattle.pv_listing.proofs.Entries.{entry_lines}
 use Rattle.pv_listing.proofs.Rests.{LeavesRest}

@@ -1,10 +1,8 @@
 use Rattle.std.proofs.Common.{ℕ, ◌+◌, ◌∙◌, Some, ap, sym, subst, drop, take, length, arith}
 use Rattle.std.specs.Prelude.{option_map}
 use Rattle.std.specs.Slice.{IsGetRangeResult}
-use Rattle.pv_model.specs.Bytes.{Bytes}
-use Rattle.pv_model.specs.Calls.Descriptors.{next_name}
-use Rattle.pv_model.specs.Tree.{entries_at}
-use Rattle.pv_laws_trees.proofs.Trees.{ordered}
+use Rattle.pv_model.specs.Machine.{Bytes, next_name, entries_at}
+use Rattle.pv_tree.proofs.OfLawsTrees.Trees.{ordered}
 use Rattle.pv_listing.specs.Lines.{last_name}
 use Rattle.pv_listing.proofs.Children.{child-none, child-some, last-got}
 use Rattle.pv_listing.proofs.listing.next_child.Goals as goal

@@ -1,5 +1,5 @@
 use Rattle.std.proofs.Common.{◌≡◌, ◌++◌, List, ℕ, codes, decimal, ap, sym, ◌∙◌, append_assoc}
-use Rattle.pv_model.specs.Bytes.{Bytes}
+use Rattle.pv_model.specs.Machine.{Bytes}
 use Rattle.pv_model.specs.Sealed.{why_text}
 use Rattle.pv_listing.proofs.verdict.put_leak.Goals as goal
 

@@ -1,6 +1,6 @@
 use Rattle.std.proofs.Common.{◌∙◌, ◌||◌, sym, ap, ap₂}
-use Rattle.pv_model.specs.Calls.Paths.{ends_in_dot}
-use Rattle.pv_model.specs.Walk.{components, is_dot_dot}
+use Rattle.pv_model.specs.Machine.{ends_in_dot, components}
+use Rattle.pv_model.specs.Walk.{is_dot_dot}
 use Rattle.pv_namei.proofs.Dots.{last_or, last_first, last_next}
 use Rattle.pv_namei.proofs.component.ends_in_dot.Goals as goal
 

@@ -1,6 +1,5 @@
 use Rattle.std.proofs.Common.{◌≡◌, length}
-use Rattle.pv_model.specs.Calls.Paths.{ends_in_dot}
-use Rattle.pv_model.specs.Walk.{components}
+use Rattle.pv_model.specs.Machine.{ends_in_dot, components}
 use Rattle.pv_namei.proofs.Dots.{last_or}
 use Rattle.pv_namei.proofs.component.ends_in_dot.Given as goal
 

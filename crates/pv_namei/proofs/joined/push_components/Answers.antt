@@ -1,7 +1,7 @@
 use Rattle.std.proofs.Common.{length, ap, arith}
 use Rattle.std.proofs.Math.ListN.{length-append}
 use Rattle.std.proofs.lemmas.Result.{err_from_is_err_and}
-use Rattle.pv_model.specs.Walk.{components, weight}
+use Rattle.pv_model.specs.Machine.{components, weight}
 use Rattle.pv_namei.proofs.Encoding.{weight-cons}
 use Rattle.pv_namei.proofs.joined.push_components.Goals as goal
 

@@ -1,5 +1,5 @@
 use Rattle.std.proofs.Common.{◌≡◌, ◌+◌, ◌-◌, ◌≤◌, ◌++◌, length}
-use Rattle.pv_model.specs.Walk.{components, weight}
+use Rattle.pv_model.specs.Machine.{components, weight}
 use Rattle.pv_namei.specs.Components.{with_slashes}
 use Rattle.pv_namei.proofs.joined.push_components.Given as goal
 

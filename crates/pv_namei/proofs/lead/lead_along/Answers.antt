@@ -1,6 +1,6 @@
 use Rattle.std.proofs.Common.{◌≡◌, true, subst}
 use Rattle.std.specs.Prelude.{IfSome}
-use Rattle.pv_model.specs.Tree.{is_directory_at}
+use Rattle.pv_model.specs.Machine.{is_directory_at}
 use Rattle.pv_namei.proofs.lead.lead_along.Goals as goal
 
 pub returns-in-Some-clause-lead : goal.returns-in-Some-clause-lead

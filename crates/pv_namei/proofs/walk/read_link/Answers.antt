@@ -1,5 +1,5 @@
 use Rattle.std.proofs.Common.{arith}
-use Rattle.pv_model.specs.Tree.{node_at}
+use Rattle.pv_model.specs.Machine.{node_at}
 use Rattle.pv_namei.proofs.Nodes.{text-read, text-short}
 use Rattle.pv_namei.proofs.walk.read_link.Goals as goal
 

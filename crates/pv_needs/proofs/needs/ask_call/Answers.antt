@@ -1,10 +1,6 @@
 use Rattle.std.proofs.Common.{◌∙◌, ap, sym, subst, refl}
-use Rattle.pv_calls_path.proofs.Reaching.{recorded}
-use Rattle.pv_model.specs.Answer.{Answered}
-use Rattle.pv_model.specs.Answers.Needs.{Asked}
-use Rattle.pv_model.specs.CallRef.{call_of}
-use Rattle.pv_model.specs.State.{State, process_at}
-use Rattle.pv_model.specs.Step.{Stepped}
+use Rattle.pv_session.proofs.OfCallsPath.Reaching.{recorded}
+use Rattle.pv_model.specs.Machine.{Answered, Asked, call_of, State, process_at, Stepped}
 use Rattle.pv_procs.specs.declared.record.ProcessRecord.{ProcessRecord}
 use Rattle.pv_session.proofs.Stepping.{step-called}
 use Rattle.pv_needs.specs.Asking.{IsMoreBy, ends_before}

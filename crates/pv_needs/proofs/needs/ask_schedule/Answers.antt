@@ -1,5 +1,5 @@
 use Rattle.std.proofs.Common.{◌∙◌, ap, arith, sym, refl, subst, []}
-use Rattle.pv_model.specs.Step.{Run}
+use Rattle.pv_model.specs.Machine.{Run}
 use Rattle.pv_session.proofs.Turns.{schedule_more}
 use Rattle.pv_needs.specs.ProcessImages.{Keeps}
 use Rattle.pv_needs.proofs.AskedRuns.{keeps-none, keeps-schedule, steps-longer}

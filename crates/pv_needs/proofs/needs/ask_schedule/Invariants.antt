@@ -1,6 +1,5 @@
 use Rattle.std.proofs.Common.{◌≡◌, ◌≤◌, ◌*◌, ◌^◌, length, take}
-use Rattle.pv_model.specs.Grammar.Programs.{program_of}
-use Rattle.pv_model.specs.Step.{steps_of}
+use Rattle.pv_model.specs.Machine.{program_of, steps_of}
 use Rattle.pv_needs.specs.Granted.{demands_in}
 use Rattle.pv_needs.specs.ProcessImages.{Keeps}
 use Rattle.pv_session.specs.Running.{run_of_first}

@@ -1,5 +1,5 @@
 use Rattle.std.proofs.Common.{◌∙◌, ap, sym}
-use Rattle.pv_model.specs.Step.{Run}
+use Rattle.pv_model.specs.Machine.{Run}
 use Rattle.pv_session.proofs.Turns.{turn_more}
 use Rattle.pv_needs.proofs.AskedRuns.{keeps-turn}
 use Rattle.pv_needs.proofs.needs.ask_turn.Goals as goal

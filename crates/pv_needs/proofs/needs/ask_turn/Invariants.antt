@@ -1,7 +1,6 @@
 use Rattle.std.proofs.Common.{◌≡◌, ◌++◌, ℕ, List}
 use Rattle.std.specs.Prelude.{replicate}
-use Rattle.pv_model.specs.Answers.Needs.{Asked}
-use Rattle.pv_model.specs.Grammar.Programs.{program_of}
+use Rattle.pv_model.specs.Machine.{Asked, program_of}
 use Rattle.pv_needs.specs.Granted.{demands_in}
 use Rattle.pv_needs.specs.ProcessImages.{Keeps}
 use Rattle.pv_session.specs.Running.{turn}

@@ -1,8 +1,6 @@
 use Rattle.std.proofs.Common.{◌≡◌, ◌∙◌, ◌∷◌, ◌<◌, [], Some, ap, append_assoc, arith, length, refl, rules, sym, subst}
 use Rattle.std.proofs.lemmas.Bool.{eqb-true}
-use Rattle.pv_model.specs.Answers.Nodes.{node_path}
-use Rattle.pv_model.specs.Bytes.{Bytes}
-use Rattle.pv_model.specs.Tree.{find_entry}
+use Rattle.pv_model.specs.Machine.{node_path, Bytes, find_entry}
 use Rattle.pv_needs.proofs.KnownPaths.{found-path, root-known}
 use Rattle.pv_needs.proofs.paths.is_path_of.Goals as goal
 

@@ -1,7 +1,6 @@
 use Rattle.std.proofs.Common.{◌≡◌, Some, length}
 use Rattle.std.specs.Prelude.{IsTrue}
-use Rattle.pv_model.specs.Answers.Nodes.{node_path}
-use Rattle.pv_model.specs.Tree.{is_directory_at}
+use Rattle.pv_model.specs.Machine.{node_path, is_directory_at}
 use Rattle.pv_needs.proofs.paths.is_path_of.Given as goal
 
 abbrev pub decreases-loop-before : goal.decreases-loop-before

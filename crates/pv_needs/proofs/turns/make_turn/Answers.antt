@@ -1,5 +1,5 @@
 use Rattle.std.proofs.Common.{◌≡◌, ◌∙◌, ◌+◌, arith, ap, subst, sym}
-use Rattle.pv_model.specs.Answers.Turns.{continues}
+use Rattle.pv_model.specs.Machine.{continues}
 use Rattle.pv_needs.specs.Turning.{IsMade}
 use Rattle.pv_needs.proofs.TurnsTaken.{IsSoFar, so-far-all, so-far-more, so-far-none, so-far-stops}
 use Rattle.pv_needs.proofs.turns.make_turn.Goals as goal

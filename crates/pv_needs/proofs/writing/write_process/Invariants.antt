@@ -1,6 +1,6 @@
 use Rattle.std.proofs.Common.{◌≡◌, take}
 use Rattle.std.specs.List.{flat_map}
-use Rattle.pv_model.specs.Answers.Lines.{answer_bytes, counted_from}
+use Rattle.pv_model.specs.Machine.{answer_bytes, counted_from}
 use Rattle.pv_streams.specs.Sinks.{and_all}
 use Rattle.pv_needs.specs.RecordedLines.{recorded_image_lines}
 use Rattle.pv_needs.proofs.writing.write_process.Given as goal

@@ -1,5 +1,5 @@
 use Rattle.std.proofs.Common.{◌≡◌, ◌∙◌, ◌<◌, ◌≤◌, length, sym, ap, subst, ℕ, List, rules}
-use Rattle.pv_model.specs.Answers.Lines.{answer_bytes, counted_from}
+use Rattle.pv_model.specs.Machine.{answer_bytes, counted_from}
 use Rattle.pv_streams.proofs.Reporting.{on_err}
 use Rattle.pv_streams.specs.Sinks.{WritesPrefix, and_all}
 use Rattle.pv_needs.specs.RecordedLines.{recorded_process_lines}

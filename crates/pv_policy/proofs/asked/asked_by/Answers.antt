@@ -1,6 +1,5 @@
 use Rattle.std.proofs.Common.{◌≡◌, ◌∙◌, ap, cond, [], subst, sym}
-use Rattle.pv_model.specs.CallRef.{call_of}
-use Rattle.pv_model.specs.Walks.{walks_of}
+use Rattle.pv_model.specs.Machine.{call_of, walks_of}
 use Rattle.pv_needs.specs.Asking.{begun_walks}
 use Rattle.pv_policy.specs.Asked.{Has}
 use Rattle.pv_policy.proofs.asked.asked_by.Goals as goal

@@ -1,7 +1,7 @@
 use Rattle.std.proofs.Common.{◌≡◌, ◌∙◌, ◌++◌, ◌∷◌, [], Some, ap, option_map, slice_get, sym}
 use Rattle.pv_model.specs.declared.perms.Perms.{Perms}
 use Rattle.pv_model.specs.declared.target.Target.{Target}
-use Rattle.pv_model.specs.Calls.Restraints.{entries_of_table}
+use Rattle.pv_model.specs.Machine.{entries_of_table}
 use Rattle.pv_policy.specs.Asked.{entry_granted}
 use Rattle.pv_policy.proofs.Nexts.{mapped-next}
 use Rattle.pv_policy.proofs.Using.{entry-own}

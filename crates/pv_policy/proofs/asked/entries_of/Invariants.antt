@@ -1,5 +1,5 @@
 use Rattle.std.proofs.Common.{◌≡◌, map, take}
-use Rattle.pv_model.specs.Calls.Restraints.{entries_of_table}
+use Rattle.pv_model.specs.Machine.{entries_of_table}
 use Rattle.pv_policy.specs.Asked.{entry_granted}
 use Rattle.pv_policy.proofs.asked.entries_of.Given as goal
 

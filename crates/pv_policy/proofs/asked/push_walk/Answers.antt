@@ -1,8 +1,6 @@
 use Rattle.std.proofs.Common.{◌≡◌, ◌∙◌, ap, sym}
 use Rattle.pv_model.specs.Answers.Policy.{place_of}
-use Rattle.pv_model.specs.CallRef.{walk_of}
-use Rattle.pv_model.specs.State.{process_at}
-use Rattle.pv_model.specs.Tree.{is_directory_at}
+use Rattle.pv_model.specs.Machine.{walk_of, process_at, is_directory_at}
 use Rattle.pv_unveil.specs.Up.{directory_of}
 use Rattle.pv_policy.proofs.Using.{of-live, walk-directory}
 use Rattle.pv_policy.proofs.asked.push_walk.Goals as goal

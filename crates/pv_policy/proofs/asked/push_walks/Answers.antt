@@ -1,7 +1,8 @@
 use Rattle.std.proofs.Common.{[], nat_le, subst, sym}
 use Rattle.std.proofs.lemmas.Result.{on_ok_weaker}
 use Rattle.pv_model.specs.declared.walk.Walks.{Walks}
-use Rattle.pv_model.specs.CallRef.{walk_of, walks_in}
+use Rattle.pv_model.specs.Machine.{walk_of}
+use Rattle.pv_model.specs.CallRef.{walks_in}
 use Rattle.pv_needs.specs.Asking.{begun_walks, if_begun}
 use Rattle.pv_policy.specs.Asked.{Has}
 use Rattle.pv_policy.proofs.asked.push_walks.Goals as goal

@@ -1,8 +1,5 @@
 use Rattle.std.proofs.Common.{◌≡◌, ◌∙◌, None, Some, ap, sym}
-use Rattle.pv_model.specs.Answers.Needs.{Judged}
-use Rattle.pv_model.specs.Calls.Restraints.{entries_of_table}
-use Rattle.pv_model.specs.Perms.{covers}
-use Rattle.pv_model.specs.Unveil.{governing_entry}
+use Rattle.pv_model.specs.Machine.{Judged, entries_of_table, covers, governing_entry}
 use Rattle.pv_policy.specs.Asked.{used_in}
 use Rattle.pv_policy.proofs.Using.{used-denied, used-none, used-some}
 use Rattle.pv_policy.proofs.asked.used_by.Goals as goal

@@ -1,6 +1,6 @@
 use Rattle.std.proofs.Common.{◌≡◌, ◌∙◌, ◌++◌, ◌∷◌, [], None, Some, ap, bytes_eq, slice_set, sym}
 use Rattle.std.specs.Prelude.{position}
-use Rattle.pv_model.specs.Perms.{join_permissions}
+use Rattle.pv_model.specs.Machine.{join_permissions}
 use Rattle.pv_policy.specs.Groups.{row_at}
 use Rattle.pv_policy.specs.Usage.{granted_more, nothing_at, words_of}
 use Rattle.pv_policy.proofs.Groups.{one-new, one-there}

@@ -1,5 +1,5 @@
 use Rattle.std.proofs.Common.{◌≡◌, ◌∙◌, false, ap, bytes_eq, get_or, sym}
-use Rattle.pv_model.specs.Answers.Policy.{Granted}
+use Rattle.pv_model.specs.Machine.{Granted}
 use Rattle.pv_policy.proofs.Nexts.{permissions-next}
 use Rattle.pv_policy.proofs.granted.permissions_at.Goals as goal
 

@@ -1,10 +1,7 @@
 use Rattle.std.proofs.Common.{◌≡◌, ◌∙◌, ◌&&◌, [], ap, cond, is_some, map, not, option_map, refl, subst, sym, Some}
 use Rattle.std.proofs.lemmas.Result.{on_ok_weaker}
-use Rattle.pv_calls_path.proofs.Reaching.{recorded}
-use Rattle.pv_model.specs.Answers.Observed.{is_unveil}
-use Rattle.pv_model.specs.CallRef.{call_of}
-use Rattle.pv_model.specs.Calls.Restraints.{entries_of_table}
-use Rattle.pv_model.specs.State.{Process, process_at}
+use Rattle.pv_needs.proofs.OfCallsPath.Reaching.{recorded}
+use Rattle.pv_model.specs.Machine.{is_unveil, call_of, entries_of_table, Process, process_at}
 use Rattle.pv_procs.specs.ProcessTable.{ProcessTable, process_in}
 use Rattle.pv_procs.specs.declared.record.ProcessRecord.{ProcessRecord}
 use Rattle.pv_promises.specs.Pledge.{bits_of}

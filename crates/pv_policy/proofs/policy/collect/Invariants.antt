@@ -6,5 +6,5 @@ use Rattle.pv_policy.proofs.policy.collect.Given as goal
 abbrev pub invariant-loop-number : goal.invariant-loop-number
 invariant-loop-number l = record {
   same : l.visits ≡ l.initial.visits;
-  collected : l.programs.items ≡ and_calls [] (flat_map calls_of (take l.number l.initial.visits.found));
+  collected : l.programs.items ≡ and_calls [] (flat_map (calls_of l.granted) (take l.number l.initial.visits.found));
 }

@@ -1,9 +1,7 @@
 use Rattle.std.proofs.Common.{◌≡◌, ◌∙◌, ap, slice_get}
 use Rattle.std.proofs.lemmas.Result.{IfOk-weaker}
-use Rattle.pv_model.specs.Answer.{answer}
-use Rattle.pv_model.specs.Answers.Explore.{Found}
-use Rattle.pv_model.specs.Grammar.Programs.{program_of}
-use Rattle.pv_model.specs.State.{process_at}
+use Rattle.pv_model.specs.Machine.{answer, Found, program_of, process_at}
+use Rattle.pv_policy.specs.Collecting.{walks_counted}
 use Rattle.pv_policy.proofs.Collecting.{none-found, same-found}
 use Rattle.pv_policy.proofs.policy.walks_at.Goals as goal
 
@@ -13,7 +11,7 @@ returns-in-Some-clause-walks c =
     IfOk-weaker c.walks_from.result _ _
     (λ walks e f me call there lives comes.
     let same = same-found c.in_ok-visited.field-0 c.in-Some.visited slot f c.in_ok-visited.ensures.at c.in-Some.is there in
-    e me call (ap (λ (x : Found). process_at x.state c.args.pid) same ∙ lives) comes ∙ ap (λ (x : Found). (answer program_of x.state c.args.pid call).walks) same)
+    e me call (ap (λ (x : Found). process_at x.state c.args.pid) same ∙ lives) comes ∙ ap (λ (x : Found). walks_counted c.args.granted (answer program_of x.state c.args.pid call)) same)
     c.walks_from.ensures.walks
 
 pub returns-in-None-clause-walks : goal.returns-in-None-clause-walks

@@ -1,6 +1,6 @@
 use Rattle.std.proofs.Common.{◌≡◌, ◌∙◌, ◌++◌, ◌∷◌, [], None, Some, ap, bytes_eq, slice_set, sym}
 use Rattle.std.specs.Prelude.{position}
-use Rattle.pv_model.specs.Answers.ProgramNames.{program_numbers}
+use Rattle.pv_model.specs.Machine.{program_numbers}
 use Rattle.pv_policy.specs.Groups.{row_at}
 use Rattle.pv_policy.specs.Noting.{noted_in}
 use Rattle.pv_policy.specs.Usage.{noted_key, unused_by, usage_key, usage_more}

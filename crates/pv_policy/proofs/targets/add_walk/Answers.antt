@@ -1,7 +1,7 @@
 use Rattle.std.proofs.Common.{◌≡◌, ◌∙◌, ◌++◌, ◌∷◌, [], None, Some, ap, bytes_eq, slice_set, sym}
 use Rattle.std.specs.Prelude.{position}
 use Rattle.pv_policy.specs.Groups.{row_at}
-use Rattle.pv_model.specs.Perms.{no_permissions}
+use Rattle.pv_model.specs.Machine.{no_permissions}
 use Rattle.pv_policy.specs.Usage.{UsedTarget, target_more, target_words, unused_target, walked, walked_words}
 use Rattle.pv_policy.proofs.Groups.{one-new, one-there}
 use Rattle.pv_policy.proofs.targets.add_walk.Goals as goal

@@ -1,6 +1,6 @@
 use Rattle.std.proofs.Common.{◌≡◌, ◌++◌, take}
 use Rattle.std.specs.List.{flat_map}
-use Rattle.pv_model.specs.Answers.Lines.{answer_bytes}
+use Rattle.pv_model.specs.Machine.{answer_bytes}
 use Rattle.pv_policy.specs.Usage.{idle_granted}
 use Rattle.pv_policy.proofs.writing.push_idle_permissions.Given as goal
 

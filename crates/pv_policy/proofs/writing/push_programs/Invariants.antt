@@ -1,5 +1,5 @@
 use Rattle.std.proofs.Common.{◌≡◌, ◌++◌, flat_map, take}
-use Rattle.pv_model.specs.Answers.Lines.{counted_from}
+use Rattle.pv_model.specs.Machine.{counted_from}
 use Rattle.pv_policy.specs.Usage.{usage_bytes}
 use Rattle.pv_policy.proofs.writing.push_programs.Given as goal
 

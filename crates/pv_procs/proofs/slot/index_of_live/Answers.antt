@@ -1,5 +1,5 @@
 use Rattle.std.proofs.Common.{◌∙◌, sym, ap}
-use Rattle.pv_model.specs.State.{live_process}
+use Rattle.pv_model.specs.Machine.{live_process}
 use Rattle.pv_procs.specs.Slots.{program_at}
 use Rattle.pv_procs.proofs.Finding.{ended_is, found-at, find-at, find-none}
 use Rattle.pv_procs.proofs.slot.index_of_live.Goals as goal

@@ -1,5 +1,5 @@
 use Rattle.std.proofs.Common.{◌∙◌, ap, []}
-use Rattle.pv_model.specs.State.{Process, first_process}
+use Rattle.pv_model.specs.Machine.{Process, first_process}
 use Rattle.pv_script.specs.Context.{Context}
 use Rattle.pv_procs.specs.declared.record.ProcessRecord.{ProcessRecord}
 use Rattle.pv_procs.specs.Children.{child_slot}

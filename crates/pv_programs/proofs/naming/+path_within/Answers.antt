@@ -1,11 +1,9 @@
 use Rattle.std.proofs.Common.{◌≡◌, ℕ, ◌-◌, ◌++◌, ◌∙◌, length, codes, Option, None, Some, ap, ap₂, refl, sym, arith}
 use Rattle.pv_answers.proofs.Listed.{next-is, upcoming}
-use Rattle.pv_listing.specs.Lines.{entries_after}
-use Rattle.pv_listing.proofs.Children.{past-none}
-use Rattle.pv_listing.proofs.Entries.{no-entries}
-use Rattle.pv_model.specs.Bytes.{Bytes}
-use Rattle.pv_model.specs.Calls.Descriptors.{next_name}
-use Rattle.pv_model.specs.Tree.{entries_at}
+use Rattle.pv_answers.specs.OfListing.Lines.{entries_after}
+use Rattle.pv_answers.proofs.OfListing.Children.{past-none}
+use Rattle.pv_answers.proofs.OfListing.Entries.{no-entries}
+use Rattle.pv_model.specs.Machine.{Bytes, next_name, entries_at}
 use Rattle.pv_programs.specs.Naming.{below, first_under, first_within, holds_numbers, or_next}
 use Rattle.pv_programs.proofs.Named.{first-from, first-here}
 use Rattle.pv_programs.proofs.naming.+path_within.Goals as goal

@@ -1,5 +1,5 @@
 use Rattle.std.proofs.Common.{flat_map, take}
-use Rattle.pv_model.specs.Answers.Numbers.{instruction_numbers}
+use Rattle.pv_model.specs.Machine.{instruction_numbers}
 use Rattle.pv_programs.specs.Appending.{Appends}
 use Rattle.pv_programs.proofs.program.push_each_line.Given as goal
 

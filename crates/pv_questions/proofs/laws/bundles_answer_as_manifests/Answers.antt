@@ -1,8 +1,6 @@
 use Rattle.std.proofs.Common.{◌∙◌, ap, sym, Result}
 use Rattle.pv_model.specs.declared.run_fault.RunFault.{RunFault}
-use Rattle.pv_model.specs.Grammar.Texts.{ended}
-use Rattle.pv_model.specs.Start.{and_then}
-use Rattle.pv_model.specs.Tree.{Tree}
+use Rattle.pv_model.specs.Machine.{ended, and_then, Tree}
 use Rattle.pv_questions.specs.Trees.{tree_answer}
 use Rattle.pv_questions.specs.declared.stop.AskStop.TheVariants.{Machine}
 use Rattle.pv_questions.proofs.Alike.{manifest_tree-bundle, manifest_tree-made}

@@ -1,6 +1,6 @@
 use Rattle.std.proofs.Common.{ap, Result}
 use Rattle.pv_model.specs.declared.run_fault.RunFault.{RunFault}
-use Rattle.pv_model.specs.Start.{Started, and_then}
+use Rattle.pv_model.specs.Machine.{Started, and_then}
 use Rattle.pv_questions.specs.Answering.{answer_of}
 use Rattle.pv_questions.specs.declared.stop.AskStop.TheVariants.{Machine}
 use Rattle.pv_questions.proofs.Alike.{image_starts}

@@ -1,8 +1,6 @@
 use Rattle.std.proofs.Common.{◌∙◌, ap, sym, Result}
 use Rattle.pv_model.specs.declared.run_fault.RunFault.{RunFault}
-use Rattle.pv_model.specs.Grammar.Lines.{lines_of}
-use Rattle.pv_model.specs.Start.{Started, and_then, started_on}
-use Rattle.pv_model.specs.Tree.{Tree}
+use Rattle.pv_model.specs.Machine.{lines_of, Started, and_then, started_on, Tree}
 use Rattle.pv_questions.specs.Answering.{answer_of}
 use Rattle.pv_questions.specs.declared.stop.AskStop.TheVariants.{Machine}
 use Rattle.pv_questions.proofs.Alike.{image_started-made, manifest_tree-made}

@@ -1,5 +1,5 @@
 use Rattle.std.proofs.Common.{◌≡◌, length, option_map}
-use Rattle.pv_answers.proofs.Following.{records_after}
+use Rattle.pv_policy.proofs.OfAnswers.Following.{records_after}
 use Rattle.pv_listing.proofs.Rests.{LeavesRest}
 use Rattle.pv_questions.specs.Reasons.{all_reasons}
 use Rattle.pv_questions.proofs.ReasonRows.{rows}

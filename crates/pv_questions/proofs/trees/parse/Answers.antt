@@ -1,5 +1,5 @@
 use Rattle.std.proofs.Common.{drop}
-use Rattle.pv_model.specs.Grammar.Lines.{lines_of}
+use Rattle.pv_model.specs.Machine.{lines_of}
 use Rattle.pv_questions.proofs.Manifests.{given_alone, of_bundle, refused_bundle}
 use Rattle.pv_questions.proofs.trees.parse.Goals as goal
 

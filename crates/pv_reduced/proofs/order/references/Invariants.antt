@@ -1,5 +1,5 @@
 use Rattle.std.proofs.Common.{length}
-use Rattle.pv_answers.proofs.Following.{records_after}
+use Rattle.pv_state_encoding.proofs.OfAnswers.Following.{records_after}
 use Rattle.pv_reduced.proofs.Ordering.{LeavesFiles}
 use Rattle.pv_reduced.proofs.order.references.Given as goal
 

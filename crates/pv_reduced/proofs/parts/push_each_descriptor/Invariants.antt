@@ -1,7 +1,7 @@
 use Rattle.std.proofs.Common.{flat_map, take}
 use Rattle.pv_laws_classes.specs.Canonical.{index_in}
 use Rattle.pv_laws_classes.specs.Renumbering.{renumbered_descriptors}
-use Rattle.pv_model.specs.Answers.Numbers.{descriptor_numbers, option_numbers}
+use Rattle.pv_model.specs.Machine.{descriptor_numbers, option_numbers}
 use Rattle.pv_state_encoding.specs.Packed.{IsAdded}
 use Rattle.pv_reduced.proofs.parts.push_each_descriptor.Given as goal
 

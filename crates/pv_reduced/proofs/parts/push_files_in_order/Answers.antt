@@ -1,5 +1,4 @@
-use Rattle.pv_model.specs.Answers.Numbers.{file_numbers, option_numbers}
-use Rattle.pv_model.specs.Numbered.{at_number}
+use Rattle.pv_model.specs.Machine.{file_numbers, option_numbers, at_number}
 use Rattle.pv_state_encoding.proofs.Adding.{added_each}
 use Rattle.pv_reduced.proofs.parts.push_files_in_order.Goals as goal
 

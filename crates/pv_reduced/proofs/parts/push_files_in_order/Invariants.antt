@@ -1,6 +1,5 @@
 use Rattle.std.proofs.Common.{flat_map, take}
-use Rattle.pv_model.specs.Answers.Numbers.{file_numbers, option_numbers}
-use Rattle.pv_model.specs.Numbered.{at_number}
+use Rattle.pv_model.specs.Machine.{file_numbers, option_numbers, at_number}
 use Rattle.pv_state_encoding.specs.Packed.{IsAdded}
 use Rattle.pv_reduced.proofs.parts.push_files_in_order.Given as goal
 

@@ -4,8 +4,7 @@ use Rattle.std.specs.FinMap.Entries.{find}
 use Rattle.std.specs.Ordering.{nat_cmp}
 use Rattle.pv_laws_classes.specs.Canonical.{index_in}
 use Rattle.pv_laws_classes.specs.Liveness.{cleared_buffer, cleared_registers, is_live_below}
-use Rattle.pv_model.specs.Answers.Numbers.{bytes_numbers}
-use Rattle.pv_model.specs.Bytes.{Bytes}
+use Rattle.pv_model.specs.Machine.{bytes_numbers, Bytes}
 use Rattle.pv_reduced.specs.Live.{live_line}
 use Rattle.pv_reduced.proofs.Keying.{live_under}
 use Rattle.pv_state_encoding.specs.Groups.{parts_of}

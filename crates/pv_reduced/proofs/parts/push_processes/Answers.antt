@@ -1,5 +1,5 @@
 use Rattle.std.proofs.Common.{sym}
-use Rattle.pv_answers.proofs.Following.{fewer-after, next-record}
+use Rattle.pv_state_encoding.proofs.OfAnswers.Following.{fewer-after, next-record}
 use Rattle.pv_laws_classes.specs.Canonical.{index_in}
 use Rattle.pv_reduced.proofs.Keying.{parts-end, parts-next, parts-start}
 use Rattle.pv_state_encoding.specs.Groups.{parts_of}

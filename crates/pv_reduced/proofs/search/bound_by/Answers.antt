@@ -1,5 +1,5 @@
 use Rattle.std.proofs.Common.{ap}
-use Rattle.pv_procs.specs.ProcessTable.{process_in}
+use Rattle.pv_state_encoding.specs.OfProcs.ProcessTable.{process_in}
 use Rattle.pv_reduced.proofs.Bounds.{bound-register}
 use Rattle.pv_reduced.proofs.search.bound_by.Goals as goal
 

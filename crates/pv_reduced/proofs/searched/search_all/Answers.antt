@@ -1,6 +1,6 @@
 use Rattle.std.proofs.Common.{ap, refl, subst, sym}
-use Rattle.pv_answers.proofs.Writing.{or_as}
-use Rattle.pv_model.specs.Grammar.Programs.{program_of}
+use Rattle.pv_state_encoding.proofs.OfAnswers.Writing.{or_as}
+use Rattle.pv_model.specs.Machine.{program_of}
 use Rattle.pv_reduced.specs.Plan.{Visited, reported_from}
 use Rattle.pv_reduced.specs.Searches.{HaveWitnesses}
 use Rattle.pv_reduced.proofs.searched.search_all.Goals as goal

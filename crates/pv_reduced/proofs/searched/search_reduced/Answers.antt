@@ -1,6 +1,6 @@
 use Rattle.std.proofs.Common.{refl}
-use Rattle.pv_answers.proofs.Writing.{or_as}
-use Rattle.pv_explain.proofs.Stops.{no_memory, still_ok, stopped}
+use Rattle.pv_state_encoding.proofs.OfAnswers.Writing.{or_as}
+use Rattle.pv_explore.proofs.OfStepLines.Stops.{no_memory, still_ok, stopped}
 use Rattle.pv_reduced.specs.Searches.{visited_of}
 use Rattle.pv_reduced.proofs.Reported.{is-searched, reported-bytes}
 use Rattle.pv_reduced.proofs.searched.search_reduced.Goals as goal

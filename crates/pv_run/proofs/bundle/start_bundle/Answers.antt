@@ -1,9 +1,8 @@
 use Rattle.std.proofs.Common.{◌≡◌, drop, subst, Result, Ok, IfOk, IfErr}
 use Rattle.std.proofs.lemmas.Result.{err_from_is_err_and}
 use Rattle.pv_image_manifest.specs.Reading.{manifest_before}
-use Rattle.pv_model.specs.Grammar.Lines.{lines_of}
+use Rattle.pv_model.specs.Machine.{lines_of, Started}
 use Rattle.pv_model.specs.declared.run_fault.RunFault.{RunFault}
-use Rattle.pv_model.specs.Start.{Started}
 use Rattle.pv_run.specs.Run.{RefusesStart, started_from}
 use Rattle.pv_run.proofs.Starting.{bundle_on, refuses_manifest, refuses_tree, start_faults}
 use Rattle.pv_run.proofs.bundle.start_bundle.Goals as goal

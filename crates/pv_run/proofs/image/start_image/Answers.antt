@@ -1,7 +1,7 @@
 use Rattle.std.proofs.Common.{◌≡◌, subst, Result, Ok, IfOk, IfErr}
 use Rattle.std.proofs.lemmas.Result.{err_from_is_err_and}
 use Rattle.pv_model.specs.declared.run_fault.RunFault.{RunFault}
-use Rattle.pv_model.specs.Start.{Started}
+use Rattle.pv_model.specs.Machine.{Started}
 use Rattle.pv_run.specs.Run.{RefusesStart, started_from}
 use Rattle.pv_run.proofs.Starting.{image_faults, image_on, refuses_image}
 use Rattle.pv_run.proofs.image.start_image.Goals as goal

@@ -1,10 +1,8 @@
 use Rattle.std.proofs.Common.{◌++◌, codes, rules, arith}
 use Rattle.std.proofs.lemmas.Grind.{common_steps}
 use Rattle.std.proofs.lemmas.Result.{on_err_weaker}
-use Rattle.pv_model.specs.Bytes.{Bytes}
-use Rattle.pv_model.specs.Listing.{listed_path}
+use Rattle.pv_model.specs.Machine.{Bytes, listed_path, quote}
 use Rattle.pv_model.specs.Sealed.{verdict_line}
-use Rattle.pv_model.specs.Trace.{quote}
 use Rattle.pv_streams.proofs.Reporting.{begins_first, begins_then, written_both, on_err}
 use Rattle.pv_run.proofs.report.write_found.Goals as goal
 

@@ -1,6 +1,5 @@
 use Rattle.std.proofs.Common.{◌∙◌, subst, rules}
-use Rattle.pv_model.specs.Step.{Schedule}
-use Rattle.pv_model.specs.Trace.{trace_bytes}
+use Rattle.pv_model.specs.Machine.{Schedule, trace_bytes}
 use Rattle.pv_session.specs.Running.{WrittenLines, run_of}
 use Rattle.pv_streams.proofs.Sinks.{begins_whole}
 use Rattle.pv_streams.proofs.Reporting.{on_err}

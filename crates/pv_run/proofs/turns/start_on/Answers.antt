@@ -1,8 +1,8 @@
 use Rattle.std.proofs.Common.{◌∙◌, sym}
 use Rattle.std.proofs.lemmas.Result.{err_from_is_err_and}
-use Rattle.pv_model.specs.Grammar.Lines.{lines_of}
+use Rattle.pv_model.specs.Machine.{lines_of}
 use Rattle.pv_run.specs.Run.{started_from}
-use Rattle.pv_laws_runs.proofs.Asked.{boots, started-whole}
+use Rattle.pv_laws_runs.proofs.RunChecks.{boots, started-whole}
 use Rattle.pv_run.proofs.Starting.{refuses_boot, refuses_schedule, refuses_text, schedule_of_text}
 use Rattle.pv_run.proofs.turns.start_on.Goals as goal
 

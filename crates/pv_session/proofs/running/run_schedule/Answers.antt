@@ -1,6 +1,6 @@
 use Rattle.std.proofs.Common.{◌∙◌, ap, sym, subst, length, get_or, drop, arith, rules, ◌+◌}
 use Rattle.std.proofs.lemmas.Result.{err_from_is_err_and}
-use Rattle.pv_model.specs.Step.{Run}
+use Rattle.pv_model.specs.Machine.{Run}
 use Rattle.pv_streams.proofs.Reporting.{on_err}
 use Rattle.pv_session.specs.Running.{BeginsLines, WrittenLines, turn, run_of, run_of_first}
 use Rattle.pv_session.proofs.Turns.{begun_before, begun_after, schedule_more, schedule_rest, written_after, lines_after}

@@ -1,7 +1,6 @@
 use Rattle.std.proofs.Common.{◌≡◌, ◌≤◌, ◌∙◌, ap, sym, subst, length, arith, rules, ◌+◌, ◌-◌, ℕ}
 use Rattle.std.proofs.lemmas.Result.{err_from_is_err_and}
-use Rattle.pv_model.specs.State.{State}
-use Rattle.pv_model.specs.Step.{Run}
+use Rattle.pv_model.specs.Machine.{State, Run}
 use Rattle.pv_streams.proofs.Reporting.{on_err}
 use Rattle.pv_session.specs.Running.{BeginsLines, WrittenLines, turn}
 use Rattle.pv_session.proofs.Turns.{begun_before, begun_after, one_step, turn_more, turn_passed, turn_rest, written_after, lines_after}

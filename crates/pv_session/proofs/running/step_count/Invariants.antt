@@ -1,5 +1,5 @@
 use Rattle.std.proofs.Common.{◌≡◌, ◌≤◌, ◌*◌, ◌^◌, length, take}
-use Rattle.pv_model.specs.Step.{steps_of}
+use Rattle.pv_model.specs.Machine.{steps_of}
 use Rattle.pv_session.proofs.running.step_count.Given as goal
 
 abbrev pub invariant-loop-turn : goal.invariant-loop-turn

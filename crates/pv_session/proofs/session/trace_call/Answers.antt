@@ -1,9 +1,7 @@
 use Rattle.std.proofs.Common.{ap, sym, ◌∙◌, subst, length, List, rules}
 use Rattle.std.proofs.lemmas.Result.{err_from_is_err_and}
 use Rattle.pv_calls.specs.Kernel.{Running}
-use Rattle.pv_model.specs.CallRef.{call_of}
-use Rattle.pv_model.specs.Step.{Stepped}
-use Rattle.pv_model.specs.Trace.{Line}
+use Rattle.pv_model.specs.Machine.{call_of, Stepped, Line}
 use Rattle.pv_streams.proofs.Reporting.{on_err}
 use Rattle.pv_session.specs.Running.{BeginsLines, WrittenLines, stepped}
 use Rattle.pv_session.proofs.Stepping.{begins-none, called-is, called-lines}

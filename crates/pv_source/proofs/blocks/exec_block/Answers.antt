@@ -1,10 +1,9 @@
 use Rattle.std.proofs.Common.{◌≡◌, ◌∙◌, ap, sym, subst, None, length, ◌<◌, arith}
-use Rattle.pv_model.specs.Grammar.Lines.{lines_of, decimal_of}
+use Rattle.pv_model.specs.Machine.{lines_of, decimal_of, between, words_from, last_word}
 use Rattle.pv_text.specs.Reading.{held_of}
 use Rattle.pv_source.specs.Reading.{numbered}
 use Rattle.pv_source.specs.ReadBlocks.{Reads}
 use Rattle.pv_model.specs.Source.Blocks.{exec_by, mark_of}
-use Rattle.pv_model.specs.Source.Words.{between, words_from, last_word}
 use Rattle.pv_source.proofs.SourceBlocks.{taken_held}
 use Rattle.pv_image_manifest.proofs.ListedEntries.{length-lines}
 use Rattle.pv_source.proofs.SourceLines.{length-counted}

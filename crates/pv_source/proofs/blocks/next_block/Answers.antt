@@ -2,8 +2,8 @@ use Rattle.std.proofs.Common.{◌∙◌, ap, sym, [], ◌∷◌, ◌+◌}
 use Rattle.std.proofs.lemmas.Bool.{not-false, not-true}
 use Rattle.std.specs.Prelude.{bytes_eq, not}
 use Rattle.pv_source.specs.Reading.{numbered, numbered_text}
-use Rattle.pv_model.specs.Source.Blocks.{schedule, cut_off, or_cut_off, blocks_from}
-use Rattle.pv_model.specs.Source.Words.{between, words_from}
+use Rattle.pv_model.specs.Machine.{blocks_from, between, words_from}
+use Rattle.pv_model.specs.Source.Blocks.{schedule, cut_off, or_cut_off}
 use Rattle.pv_source.proofs.SourceBlocks.{blocks_first, blocks_then, schedule_begins, single_begins, exec_begins, read_first}
 use Rattle.pv_source.proofs.blocks.next_block.Goals as goal
 

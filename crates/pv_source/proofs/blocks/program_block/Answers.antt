@@ -1,6 +1,5 @@
 use Rattle.std.proofs.Common.{suc, length}
-use Rattle.pv_model.specs.Grammar.Lines.{lines_of}
-use Rattle.pv_model.specs.Source.Words.{between, words_from}
+use Rattle.pv_model.specs.Machine.{lines_of, between, words_from}
 use Rattle.pv_source.proofs.SourceBlocks.{up_to_mark}
 use Rattle.pv_source.proofs.blocks.program_block.Goals as goal
 

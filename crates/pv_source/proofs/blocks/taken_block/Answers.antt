@@ -1,4 +1,4 @@
-use Rattle.pv_model.specs.Source.Words.{between, words_from}
+use Rattle.pv_model.specs.Machine.{between, words_from}
 use Rattle.pv_source.proofs.SourceBlocks.{so_many, too_few}
 use Rattle.pv_source.proofs.blocks.taken_block.Goals as goal
 

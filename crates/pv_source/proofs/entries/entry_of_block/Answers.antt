@@ -1,7 +1,7 @@
 use Rattle.std.proofs.Common.{◌≡◌, ap, sym, subst, arith}
 use Rattle.std.specs.Prelude.{IfOk, option_map}
 use Rattle.pv_image_manifest.specs.Entries.{entry_of_line}
-use Rattle.pv_model.specs.Grammar.Lines.{lines_of}
+use Rattle.pv_model.specs.Machine.{lines_of}
 use Rattle.pv_source.specs.ReadEntries.{numbered_entry}
 use Rattle.pv_source.proofs.SourceEntries.{taken_many, taken_few}
 use Rattle.pv_source.proofs.entries.entry_of_block.Goals as goal

@@ -1,7 +1,7 @@
 use Rattle.std.proofs.Common.{◌≡◌, ◌∙◌, subst}
 use Rattle.std.specs.Prelude.{IfOk, option_map}
 use Rattle.pv_image_manifest.specs.Entries.{entry_of_line}
-use Rattle.pv_model.specs.Source.Words.{between, words_from}
+use Rattle.pv_model.specs.Machine.{between, words_from}
 use Rattle.pv_source.proofs.SourceEntries.{single_is, joined_is}
 use Rattle.pv_source.proofs.entries.single_entry.Goals as goal
 

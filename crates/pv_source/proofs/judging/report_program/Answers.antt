@@ -2,8 +2,8 @@ use Rattle.std.proofs.Common.{◌+◌, ap, [], subst, arith}
 use Rattle.std.specs.Prelude.{map, ◌||◌}
 use Rattle.pv_source.specs.Reading.{numbered}
 use Rattle.pv_source.specs.ReadPrograms.{bytes_of, name_value, label_value, labelled_value}
-use Rattle.pv_model.specs.Source.Programs.{is_set_in, is_invalid, instruction_text, reported_if, labelled_lines, program_line_of, program_lines, program_faults, invalid_lines}
-use Rattle.pv_model.specs.Source.Words.{between, words_from}
+use Rattle.pv_model.specs.Machine.{instruction_text, reported_if, labelled_lines, program_line_of, program_lines, program_faults, invalid_lines, between, words_from}
+use Rattle.pv_model.specs.Source.Programs.{is_set_in, is_invalid}
 use Rattle.pv_source.specs.Reporting.{Reports}
 use Rattle.pv_source.proofs.SourcePrograms.{program_step}
 use Rattle.pv_source.proofs.ReportedLines.{ReportedSoFar, ReportedSoFar-start, ReportedSoFar-end}

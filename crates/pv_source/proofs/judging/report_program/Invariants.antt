@@ -2,7 +2,7 @@ use Rattle.std.proofs.Common.{◌≤◌, ◌+◌, length}
 use Rattle.std.specs.Prelude.{map}
 use Rattle.pv_source.specs.Reading.{numbered}
 use Rattle.pv_source.specs.ReadPrograms.{bytes_of, label_value}
-use Rattle.pv_model.specs.Source.Programs.{labelled_lines, program_line_of, invalid_lines, program_faults, program_lines}
+use Rattle.pv_model.specs.Machine.{labelled_lines, program_line_of, invalid_lines, program_faults, program_lines}
 use Rattle.pv_source.proofs.ReportedLines.{ReportedSoFar}
 use Rattle.pv_source.proofs.judging.report_program.Given as goal
 

@@ -1,7 +1,6 @@
 use Rattle.std.proofs.Common.{◌+◌, [], refl, subst, arith}
-use Rattle.pv_model.specs.Answers.Lines.{counted_from}
+use Rattle.pv_model.specs.Machine.{counted_from, taken_lines, program_faults, invalid_lines}
 use Rattle.pv_source.specs.Reading.{numbered}
-use Rattle.pv_model.specs.Source.Programs.{taken_lines, program_faults, invalid_lines}
 use Rattle.pv_source.proofs.SourcePrograms.{taken_step, taken_start}
 use Rattle.pv_source.proofs.ReportedLines.{ReportedSoFar, ReportedSoFar-end}
 use Rattle.pv_source.proofs.judging.report_taken.Goals as goal

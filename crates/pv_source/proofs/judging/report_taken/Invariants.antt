@@ -1,6 +1,6 @@
 use Rattle.std.proofs.Common.{◌≤◌, ◌+◌, [], length}
 use Rattle.pv_source.specs.Reading.{numbered, numbered_text}
-use Rattle.pv_model.specs.Source.Programs.{taken_lines, invalid_lines, program_faults}
+use Rattle.pv_model.specs.Machine.{taken_lines, invalid_lines, program_faults}
 use Rattle.pv_source.proofs.ReportedLines.{ReportedSoFar}
 use Rattle.pv_source.proofs.judging.report_taken.Given as goal
 

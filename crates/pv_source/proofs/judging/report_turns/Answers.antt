@@ -1,7 +1,7 @@
 use Rattle.std.proofs.Common.{◌∙◌, ap, refl, subst, arith}
 use Rattle.pv_source.specs.Reading.{numbered}
 use Rattle.pv_model.specs.Source.Judged.{invalid_turns}
-use Rattle.pv_model.specs.Source.Words.{lines_that_count}
+use Rattle.pv_model.specs.Machine.{lines_that_count}
 use Rattle.pv_source.proofs.SourcePrograms.{counting_first, counting_then, turns_step}
 use Rattle.pv_source.proofs.ReportedLines.{ReportedSoFar, ReportedSoFar-start, ReportedSoFar-end}
 use Rattle.pv_source.proofs.judging.report_turns.Goals as goal

@@ -1,7 +1,7 @@
 use Rattle.std.proofs.Common.{◌≤◌, ◌+◌, length}
 use Rattle.pv_source.specs.Reading.{numbered}
 use Rattle.pv_model.specs.Source.Judged.{invalid_turns}
-use Rattle.pv_model.specs.Source.Words.{lines_that_count}
+use Rattle.pv_model.specs.Machine.{lines_that_count}
 use Rattle.pv_source.proofs.ReportedLines.{ReportedSoFar}
 use Rattle.pv_source.proofs.judging.report_turns.Given as goal
 

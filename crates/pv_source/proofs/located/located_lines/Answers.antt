@@ -1,8 +1,7 @@
 use Rattle.std.proofs.Common.{◌∙◌, ◌++◌, ap, refl, sym, arith}
 use Rattle.std.specs.Prelude.{flat_map}
 use Rattle.std.proofs.lemmas.List.{append-nil}
-use Rattle.pv_model.specs.Grammar.Texts.{ended}
-use Rattle.pv_model.specs.Source.Blocks.{blocks_of}
+use Rattle.pv_model.specs.Machine.{ended, blocks_of}
 use Rattle.pv_source.specs.Located.{located_in, located_lines}
 use Rattle.pv_source.proofs.located.located_lines.Goals as goal
 

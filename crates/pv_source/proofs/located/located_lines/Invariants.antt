@@ -1,7 +1,6 @@
 use Rattle.std.proofs.Common.{◌≡◌, ◌≤◌, ◌+◌, ◌++◌, length}
 use Rattle.std.specs.Prelude.{flat_map}
-use Rattle.pv_model.specs.Grammar.Texts.{ended}
-use Rattle.pv_model.specs.Source.Blocks.{blocks_from, blocks_of}
+use Rattle.pv_model.specs.Machine.{ended, blocks_from, blocks_of}
 use Rattle.pv_source.specs.Located.{located_in}
 use Rattle.pv_source.specs.Reading.{numbered}
 use Rattle.pv_source.proofs.located.located_lines.Given as goal

@@ -1,8 +1,6 @@
 use Rattle.std.proofs.Common.{◌≡◌, ◌∙◌, ◌++◌, ◌+◌, ap, subst, arith}
 use Rattle.std.specs.Prelude.{map}
-use Rattle.pv_model.specs.Grammar.Texts.{ended}
-use Rattle.pv_model.specs.Source.Programs.{instruction_text, labelled_lines, program_line_of, program_lines}
-use Rattle.pv_model.specs.Source.Words.{between, words_from}
+use Rattle.pv_model.specs.Machine.{ended, instruction_text, labelled_lines, program_line_of, program_lines, between, words_from}
 use Rattle.pv_source.specs.Located.{located_from, located_instruction, located_text}
 use Rattle.pv_source.specs.Reading.{numbered}
 use Rattle.pv_source.specs.ReadPrograms.{label_value, labelled_value}

@@ -1,6 +1,6 @@
 use Rattle.std.proofs.Common.{◌≡◌, ◌∷◌, [], ◌++◌, drop}
 use Rattle.std.specs.Prelude.{flat_map}
-use Rattle.pv_model.specs.Trace.{quote_byte}
+use Rattle.pv_model.specs.Machine.{quote_byte}
 use Rattle.pv_source.proofs.located.push_quoted.Given as goal
 
 abbrev pub invariant-loop-byte : goal.invariant-loop-byte

@@ -1,6 +1,5 @@
 use Rattle.std.proofs.Common.{ap, refl, arith}
-use Rattle.pv_model.specs.Answers.Lines.{counted_from}
-use Rattle.pv_model.specs.Source.Programs.{taken_lines}
+use Rattle.pv_model.specs.Machine.{counted_from, taken_lines}
 use Rattle.pv_source.proofs.LocatedLines.{copied_step, located_end}
 use Rattle.pv_source.proofs.located.push_taken_lines.Goals as goal
 

@@ -1,7 +1,6 @@
 use Rattle.std.proofs.Common.{◌≡◌, ◌≤◌, ◌+◌, ◌++◌, length}
 use Rattle.std.specs.Prelude.{map}
-use Rattle.pv_model.specs.Grammar.Texts.{ended}
-use Rattle.pv_model.specs.Source.Programs.{taken_lines}
+use Rattle.pv_model.specs.Machine.{ended, taken_lines}
 use Rattle.pv_source.specs.Located.{located_from, located_text}
 use Rattle.pv_source.specs.Reading.{numbered}
 use Rattle.pv_source.proofs.located.push_taken_lines.Given as goal

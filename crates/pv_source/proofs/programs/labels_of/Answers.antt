@@ -1,7 +1,7 @@
 use Rattle.std.proofs.Common.{◌≡◌, ◌∙◌, ◌+◌, ap, sym, arith}
 use Rattle.pv_source.specs.ReadPrograms.{labelled_value}
 use Rattle.pv_source.specs.Reading.{numbered}
-use Rattle.pv_model.specs.Source.Programs.{labelled_lines, labels_from, program_lines}
+use Rattle.pv_model.specs.Machine.{labelled_lines, labels_from, program_lines}
 use Rattle.pv_source.proofs.SourcePrograms.{labels-step, count_lines, count_step, instructions-count}
 use Rattle.pv_source.proofs.programs.labels_of.Goals as goal
 

@@ -2,7 +2,7 @@ use Rattle.std.proofs.Common.{◌≡◌, ◌≤◌, ◌+◌, ◌++◌, length}
 use Rattle.std.specs.Prelude.{map}
 use Rattle.pv_source.specs.Reading.{numbered}
 use Rattle.pv_source.specs.ReadPrograms.{label_value}
-use Rattle.pv_model.specs.Source.Programs.{labelled_lines, labels_from}
+use Rattle.pv_model.specs.Machine.{labelled_lines, labels_from}
 use Rattle.pv_source.proofs.SourcePrograms.{count_lines}
 use Rattle.pv_source.proofs.programs.labels_of.Given as goal
 

@@ -1,7 +1,8 @@
 use Rattle.std.proofs.Common.{◌≡◌, ◌∙◌, ap, sym, subst, ◌∷◌, [], ◌≢◌}
 use Rattle.pv_source.specs.Reading.{numbered, worded}
 use Rattle.pv_source.specs.ReadPrograms.{labelled_value}
-use Rattle.pv_model.specs.Source.Programs.{LabelledLine, labelled_lines, or_exit}
+use Rattle.pv_model.specs.Machine.{LabelledLine, labelled_lines}
+use Rattle.pv_model.specs.Source.Programs.{or_exit}
 use Rattle.pv_source.proofs.SourcePrograms.{to_labelled, labelled_none, labelled_preserved, labelled_more, labelled_exit, some_words, no_words}
 use Rattle.pv_source.proofs.programs.next_labelled.Goals as goal
 

@@ -1,10 +1,9 @@
 use Rattle.std.proofs.Common.{◌∙◌, ap, sym, ◌++◌}
 use Rattle.std.specs.Prelude.{map}
 use Rattle.std.proofs.lemmas.List.{append-nil}
-use Rattle.pv_model.specs.Grammar.Texts.{ended}
+use Rattle.pv_model.specs.Machine.{ended, labelled_lines, program_line_of, program_lines, instructions_of}
 use Rattle.pv_source.specs.ReadPrograms.{label_value}
 use Rattle.pv_source.specs.Reading.{numbered}
-use Rattle.pv_model.specs.Source.Programs.{labelled_lines, program_line_of, program_lines, instructions_of}
 use Rattle.pv_source.proofs.programs.push_program.Goals as goal
 
 pub returns : goal.returns

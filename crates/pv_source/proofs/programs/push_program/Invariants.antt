@@ -1,9 +1,8 @@
 use Rattle.std.proofs.Common.{◌≡◌, ◌≤◌, ◌+◌, ◌++◌, length}
 use Rattle.std.specs.Prelude.{map}
-use Rattle.pv_model.specs.Grammar.Texts.{ended}
+use Rattle.pv_model.specs.Machine.{ended, labelled_lines, program_line_of, instructions_of}
 use Rattle.pv_source.specs.Reading.{numbered}
 use Rattle.pv_source.specs.ReadPrograms.{label_value}
-use Rattle.pv_model.specs.Source.Programs.{labelled_lines, program_line_of, instructions_of}
 use Rattle.pv_source.proofs.programs.push_program.Given as goal
 
 abbrev pub invariant-loop-line : goal.invariant-loop-line

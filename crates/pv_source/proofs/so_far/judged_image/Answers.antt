@@ -1,10 +1,8 @@
 use Rattle.std.proofs.Common.{◌∙◌, subst, sym}
 use Rattle.std.specs.Prelude.{IfOk}
-use Rattle.pv_model.specs.Answers.Lines.{spaced}
-use Rattle.pv_model.specs.Grammar.Manifests.{sizes_of}
+use Rattle.pv_model.specs.Machine.{spaced, sizes_of, between, words_from}
 use Rattle.pv_source.specs.LineCheck.{Finds}
 use Rattle.pv_model.specs.Source.Judged.{image_so_far}
-use Rattle.pv_model.specs.Source.Words.{between, words_from}
 use Rattle.pv_source.proofs.SourceEntries.{held_found}
 use Rattle.pv_source.proofs.so_far.judged_image.Goals as goal
 

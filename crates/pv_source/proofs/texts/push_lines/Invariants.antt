@@ -1,6 +1,5 @@
 use Rattle.std.proofs.Common.{◌≡◌, ◌++◌, length}
-use Rattle.pv_model.specs.Grammar.Lines.{lines_of}
-use Rattle.pv_model.specs.Grammar.Texts.{ended}
+use Rattle.pv_model.specs.Machine.{lines_of, ended}
 use Rattle.pv_source.proofs.texts.push_lines.Given as goal
 
 abbrev pub invariant-loop-line : goal.invariant-loop-line

@@ -1,10 +1,8 @@
 use Rattle.std.proofs.Common.{◌∙◌, ap, sym, [], ◌∷◌, ◌++◌, arith}
 use Rattle.std.specs.Prelude.{map}
 use Rattle.std.proofs.lemmas.List.{append-nil}
-use Rattle.pv_model.specs.Answers.Lines.{spaced}
-use Rattle.pv_model.specs.Grammar.Texts.{ended}
+use Rattle.pv_model.specs.Machine.{spaced, ended, between, words_from, lines_that_count}
 use Rattle.pv_source.specs.Reading.{numbered}
-use Rattle.pv_model.specs.Source.Words.{between, words_from, lines_that_count}
 use Rattle.pv_source.proofs.SourcePrograms.{counting_first, counting_then}
 use Rattle.pv_source.proofs.WrittenTexts.{ended_both}
 use Rattle.pv_source.proofs.texts.push_turns.Goals as goal

@@ -1,9 +1,7 @@
 use Rattle.std.proofs.Common.{◌≡◌, ◌≤◌, ◌+◌, ◌++◌, length}
 use Rattle.std.specs.Prelude.{map}
-use Rattle.pv_model.specs.Answers.Lines.{spaced}
-use Rattle.pv_model.specs.Grammar.Texts.{ended}
+use Rattle.pv_model.specs.Machine.{spaced, ended, lines_that_count}
 use Rattle.pv_source.specs.Reading.{numbered}
-use Rattle.pv_model.specs.Source.Words.{lines_that_count}
 use Rattle.pv_source.proofs.texts.push_turns.Given as goal
 
 abbrev pub invariant-loop-line : goal.invariant-loop-line

@@ -1,6 +1,5 @@
 use Rattle.std.proofs.Common.{refl, arith}
-use Rattle.pv_model.specs.Source.Blocks.{blocks_of}
-use Rattle.pv_model.specs.Source.Written.{text_of_blocks}
+use Rattle.pv_model.specs.Machine.{blocks_of, text_of_blocks}
 use Rattle.pv_source.proofs.texts.text_of.Goals as goal
 
 pub loop-block-init : goal.loop-block-init

@@ -1,9 +1,7 @@
 use Rattle.std.proofs.Common.{◌≡◌, ◌≤◌, ◌+◌, ◌++◌, length}
 use Rattle.std.specs.Prelude.{flat_map}
-use Rattle.pv_model.specs.Grammar.Texts.{ended}
+use Rattle.pv_model.specs.Machine.{ended, blocks_from, blocks_of, written_lines, text_of_blocks}
 use Rattle.pv_source.specs.Reading.{numbered}
-use Rattle.pv_model.specs.Source.Blocks.{blocks_from, blocks_of}
-use Rattle.pv_model.specs.Source.Written.{written_lines, text_of_blocks}
 use Rattle.pv_source.proofs.texts.text_of.Given as goal
 
 abbrev pub invariant-loop-block : goal.invariant-loop-block

@@ -1,6 +1,6 @@
 use Rattle.std.proofs.Common.{◌≤◌, ◌+◌, length, flat_map}
 use Rattle.pv_source.specs.Reading.{numbered}
-use Rattle.pv_model.specs.Source.Programs.{labelled_lines}
+use Rattle.pv_model.specs.Machine.{labelled_lines}
 use Rattle.pv_source.specs.Warnings.{warned_labelled}
 use Rattle.pv_source.proofs.ReportedLines.{ReportedSoFar}
 use Rattle.pv_source.proofs.warnings.warn_program.Given as goal

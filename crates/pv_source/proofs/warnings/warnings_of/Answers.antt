@@ -1,5 +1,5 @@
 use Rattle.std.proofs.Common.{List, [], flat_map, arith, subst, refl}
-use Rattle.pv_model.specs.Source.Blocks.{Block, blocks_of}
+use Rattle.pv_model.specs.Machine.{Block, blocks_of}
 use Rattle.pv_source.specs.Warnings.{warned_in, warned_lines}
 use Rattle.pv_source.proofs.ReportedLines.{ReportedSoFar, ReportedSoFar-start, ReportedSoFar-end, reported_whole}
 use Rattle.pv_source.proofs.warnings.warnings_of.Goals as goal

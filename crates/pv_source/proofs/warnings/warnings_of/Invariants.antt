@@ -1,6 +1,6 @@
 use Rattle.std.proofs.Common.{◌≤◌, ◌+◌, [], length, flat_map}
 use Rattle.pv_source.specs.Reading.{numbered}
-use Rattle.pv_model.specs.Source.Blocks.{blocks_from, blocks_of}
+use Rattle.pv_model.specs.Machine.{blocks_from, blocks_of}
 use Rattle.pv_source.specs.Warnings.{warned_in}
 use Rattle.pv_source.proofs.ReportedLines.{ReportedSoFar}
 use Rattle.pv_source.proofs.warnings.warnings_of.Given as goal

@@ -1,11 +1,9 @@
 use Rattle.std.proofs.Common.{◌∙◌, ap, subst, [], refl, suc, ◌+◌, length, take, arith}
-use Rattle.pv_model.specs.Grammar.Lines.{lines_of}
+use Rattle.pv_model.specs.Machine.{lines_of, blocks_from, blocks_of, faults_of_blocks, reported_if}
 use Rattle.pv_source.specs.LineCheck.{is_reported, so_far_of}
 use Rattle.pv_source.specs.Reading.{numbered}
 use Rattle.pv_source.specs.ReadBlocks.{block_of}
-use Rattle.pv_model.specs.Source.Blocks.{blocks_from, blocks_of}
-use Rattle.pv_model.specs.Source.Judged.{REPORTED, faults_in, reported_of, judged_first, judged_block, faults_from, faults_of_blocks}
-use Rattle.pv_model.specs.Source.Programs.{reported_if}
+use Rattle.pv_model.specs.Source.Judged.{REPORTED, faults_in, reported_of, judged_first, judged_block, faults_from}
 use Rattle.pv_source.specs.Reporting.{Reports}
 use Rattle.pv_source.proofs.ReportedLines.{ReportedSoFar, ReportedSoFar-start, ReportedSoFar-block, ReportedSoFar-end, first_reported, none_reported, reported_whole}
 use Rattle.pv_source.proofs.whole.faults_of.Goals as goal

@@ -1,9 +1,8 @@
 use Rattle.std.proofs.Common.{◌≤◌, ◌+◌, suc, [], length}
-use Rattle.pv_model.specs.Grammar.Lines.{lines_of}
+use Rattle.pv_model.specs.Machine.{lines_of, blocks_from, blocks_of, faults_of_blocks}
 use Rattle.pv_source.specs.LineCheck.{so_far_of}
 use Rattle.pv_source.specs.Reading.{numbered}
-use Rattle.pv_model.specs.Source.Blocks.{blocks_from, blocks_of}
-use Rattle.pv_model.specs.Source.Judged.{faults_from, faults_of_blocks}
+use Rattle.pv_model.specs.Source.Judged.{faults_from}
 use Rattle.pv_source.proofs.ReportedLines.{ReportedSoFar}
 use Rattle.pv_source.proofs.whole.faults_of.Given as goal
 

@@ -1,5 +1,5 @@
 use Rattle.std.proofs.Common.{◌≡◌, ◌≤◌, length}
-use Rattle.pv_model.specs.Source.Words.{between, words_from}
+use Rattle.pv_model.specs.Machine.{between, words_from}
 use Rattle.pv_source.proofs.words.after_blanks.Given as goal
 
 abbrev pub invariant-loop-rest : goal.invariant-loop-rest

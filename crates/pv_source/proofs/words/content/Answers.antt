@@ -1,5 +1,5 @@
 use Rattle.std.proofs.Common.{ap}
-use Rattle.pv_model.specs.Source.Words.{between, words_from, words_of}
+use Rattle.pv_model.specs.Machine.{between, words_from, words_of}
 use Rattle.pv_source.proofs.SourceWords.{content_is}
 use Rattle.pv_source.proofs.words.content.Goals as goal
 

@@ -1,5 +1,5 @@
 use Rattle.std.proofs.Common.{◌≡◌, ◌∷◌, length}
-use Rattle.pv_model.specs.Source.Words.{between, words_from, last_word}
+use Rattle.pv_model.specs.Machine.{between, words_from, last_word}
 use Rattle.pv_source.proofs.words.last_word.Given as goal
 
 abbrev pub invariant-loop-word : goal.invariant-loop-word

@@ -1,6 +1,6 @@
 use Rattle.std.proofs.Common.{◌≡◌, ◌++◌, length}
 use Rattle.pv_source.specs.Reading.{spaced_more}
-use Rattle.pv_model.specs.Source.Words.{between, words_from}
+use Rattle.pv_model.specs.Machine.{between, words_from}
 use Rattle.pv_source.proofs.words.push_more.Given as goal
 
 abbrev pub invariant-loop-word : goal.invariant-loop-word

@@ -3,6 +3,6 @@ use Rattle.pv_source.proofs.worked.worked_sources_are_as_they_are_written.Goals 
 
 pub returns : goal.returns
 returns c = record {
-  unknown_promises_are_warned_of = Worked.unknown_promises_are_warned_of;
+  unknown_words_are_warned_of = Worked.unknown_words_are_warned_of;
   lines_have_their_numbers = Worked.lines_have_their_numbers;
 }

@@ -1,5 +1,5 @@
 use Rattle.std.proofs.Common.{flat_map, take}
-use Rattle.pv_model.specs.Answers.Numbers.{file_numbers, option_numbers}
+use Rattle.pv_model.specs.Machine.{file_numbers, option_numbers}
 use Rattle.pv_state_encoding.specs.Packed.{IsAdded}
 use Rattle.pv_state_encoding.proofs.files.push_each_file.Given as goal
 

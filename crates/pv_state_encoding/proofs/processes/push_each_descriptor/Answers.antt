@@ -1,5 +1,5 @@
 use Rattle.std.proofs.Common.{arith}
-use Rattle.pv_model.specs.Answers.Numbers.{descriptor_numbers}
+use Rattle.pv_model.specs.Machine.{descriptor_numbers}
 use Rattle.pv_state_encoding.proofs.Numbering.{added_at}
 use Rattle.pv_state_encoding.proofs.processes.push_each_descriptor.Goals as goal
 

@@ -1,5 +1,5 @@
 use Rattle.std.proofs.Common.{flat_map, take}
-use Rattle.pv_model.specs.Answers.Numbers.{descriptor_numbers, option_numbers}
+use Rattle.pv_model.specs.Machine.{descriptor_numbers, option_numbers}
 use Rattle.pv_state_encoding.specs.Packed.{IsAdded}
 use Rattle.pv_state_encoding.proofs.processes.push_each_descriptor.Given as goal
 

@@ -1,6 +1,5 @@
 use Rattle.std.proofs.Common.{flat_map, take}
-use Rattle.pv_model.specs.Answers.Numbers.{entry_numbers}
-use Rattle.pv_model.specs.Calls.Restraints.{entries_of_table}
+use Rattle.pv_model.specs.Machine.{entry_numbers, entries_of_table}
 use Rattle.pv_state_encoding.specs.Packed.{IsAdded}
 use Rattle.pv_state_encoding.proofs.processes.push_each_entry.Given as goal
 

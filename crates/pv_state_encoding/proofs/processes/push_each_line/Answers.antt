@@ -1,5 +1,5 @@
 use Rattle.std.proofs.Common.{◌≡◌, ◌+◌, ◌-◌, ℕ, Some, slice_get, subst, sym, arith}
-use Rattle.pv_model.specs.Answers.Numbers.{instruction_numbers}
+use Rattle.pv_model.specs.Machine.{instruction_numbers}
 use Rattle.pv_state_encoding.proofs.Owned.{added_got}
 use Rattle.pv_state_encoding.proofs.processes.push_each_line.Goals as goal
 

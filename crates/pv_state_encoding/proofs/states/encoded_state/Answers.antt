@@ -1,6 +1,6 @@
 use Rattle.std.proofs.Common.{◌∙◌, ap, ap₂, ℕ, List, [], ◌∷◌, ◌++◌, length, map}
-use Rattle.pv_model.specs.Bytes.{Bytes}
-use Rattle.pv_procs.specs.ProcessTable.{ProcessTable}
+use Rattle.pv_model.specs.Machine.{Bytes}
+use Rattle.pv_answers.specs.OfProcs.ProcessTable.{ProcessTable}
 use Rattle.pv_state_encoding.specs.Groups.{counts_part}
 use Rattle.pv_state_encoding.specs.Encoded.{Encoded, encoded, encoded_all, encoded_record, plain, tree_groups}
 use Rattle.pv_state_encoding.proofs.states.encoded_state.Goals as goal

@@ -1,6 +1,5 @@
 use Rattle.std.proofs.Common.{◌∙◌, ap, ap₂, append_assoc, List, [], ◌∷◌, ◌++◌, map}
-use Rattle.pv_model.specs.Bytes.{Bytes}
-use Rattle.pv_model.specs.Tree.{Tree}
+use Rattle.pv_model.specs.Machine.{Bytes, Tree}
 use Rattle.pv_state_encoding.specs.declared.trees.TheConstants.{GROUP_SIZES}
 use Rattle.pv_state_encoding.specs.Groups.{groups_of, files_part, tree_part, node_groups}
 use Rattle.pv_state_encoding.specs.Encoded.{Encoded, encoded_all, plain}

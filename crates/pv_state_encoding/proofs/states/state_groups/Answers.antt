@@ -1,6 +1,6 @@
 use Rattle.std.proofs.Common.{◌∙◌, ◌∷◌, ◌++◌, [], ap, ap₂, length, map, ℕ}
-use Rattle.pv_model.specs.Tree.{Tree}
-use Rattle.pv_procs.specs.ProcessTable.{ProcessTable}
+use Rattle.pv_model.specs.Machine.{Tree}
+use Rattle.pv_answers.specs.OfProcs.ProcessTable.{ProcessTable}
 use Rattle.pv_state_encoding.specs.declared.trees.TheConstants.{GROUP_SIZES}
 use Rattle.pv_state_encoding.specs.Groups.{counts_part, groups_of, node_groups, record_parts}
 use Rattle.pv_state_encoding.proofs.Grouping.{all-grouped}

@@ -1,4 +1,4 @@
-use Rattle.pv_model.specs.Tree.{entries_at}
+use Rattle.pv_model.specs.Machine.{entries_at}
 use Rattle.pv_state_encoding.proofs.Nodes.{IsEncoded}
 use Rattle.pv_state_encoding.proofs.trees.push_each_entry.Given as goal
 

@@ -1,5 +1,6 @@
 use Rattle.std.proofs.Common.{flat_map, take}
-use Rattle.pv_model.specs.Answers.Numbers.{node_numbers, option_numbers}
+use Rattle.pv_model.specs.Machine.{option_numbers}
+use Rattle.pv_model.specs.Answers.Numbers.{node_numbers}
 use Rattle.pv_state_encoding.specs.Packed.{IsAdded}
 use Rattle.pv_state_encoding.proofs.trees.push_each_node.Given as goal
 

@@ -1,6 +1,6 @@
 use Rattle.std.proofs.Common.{arith}
-use Rattle.pv_dirs.specs.Trees.{bytes_at}
-use Rattle.pv_model.specs.Tree.{node_at}
+use Rattle.pv_image_write.specs.OfDirs.Trees.{bytes_at}
+use Rattle.pv_model.specs.Machine.{node_at}
 use Rattle.pv_state_encoding.proofs.Nodes.{added_run, added_runs}
 use Rattle.pv_state_encoding.proofs.trees.push_runs.Goals as goal
 

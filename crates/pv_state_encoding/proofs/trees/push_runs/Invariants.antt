@@ -1,5 +1,5 @@
 use Rattle.std.proofs.Common.{◌≤◌, ◌-◌, length, take}
-use Rattle.pv_dirs.specs.Trees.{bytes_at}
+use Rattle.pv_image_write.specs.OfDirs.Trees.{bytes_at}
 use Rattle.pv_state_encoding.specs.Packed.{IsAdded}
 use Rattle.pv_state_encoding.proofs.trees.push_runs.Given as goal
 

@@ -1,4 +1,4 @@
-use Rattle.pv_model.specs.Tree.{find_entry}
+use Rattle.pv_model.specs.Machine.{find_entry}
 use Rattle.pv_namei.specs.Cached.{FitsMap}
 use Rattle.pv_tests_tree.proofs.cache.expect_steps.Given as goal
 

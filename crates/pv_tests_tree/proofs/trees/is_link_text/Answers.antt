@@ -1,8 +1,7 @@
 use Rattle.std.proofs.Common.{◌≡◌, true, false, not, ◌==◌, nat_lt, nat_le, length, ap, sym, ◌∙◌}
 use Rattle.std.specs.List.{list_all}
 use Rattle.std.proofs.lemmas.Bool.{and_from, ltb-false, le-leb}
-use Rattle.pv_model.specs.Bytes.{Bytes, is_empty}
-use Rattle.pv_model.specs.Tree.{is_link_text}
+use Rattle.pv_model.specs.Machine.{Bytes, is_empty, is_link_text}
 use Rattle.pv_namei.proofs.Steps.{empty-is}
 use Rattle.pv_tests_tree.proofs.trees.is_link_text.Goals as goal
 

@@ -1,5 +1,5 @@
 use Rattle.std.proofs.Common.{◌≡◌, ◌+◌, length}
-use Rattle.pv_model.specs.Grammar.Lines.{lines_of}
+use Rattle.pv_model.specs.Machine.{lines_of}
 use Rattle.pv_text.proofs.lines.count_lines.Given as goal
 
 abbrev pub invariant-loop-count : goal.invariant-loop-count

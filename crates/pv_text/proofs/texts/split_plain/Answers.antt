@@ -1,6 +1,6 @@
 use Rattle.std.proofs.Common.{◌∙◌, ap, length, not}
 use Rattle.std.specs.Prelude.{unwrap_or}
-use Rattle.pv_model.specs.Trace.{is_plain}
+use Rattle.pv_model.specs.Machine.{is_plain}
 use Rattle.pv_text.proofs.TextLines.{position_or_length}
 use Rattle.pv_text.proofs.WordsAndTexts.{IsFront-split}
 use Rattle.pv_text.proofs.texts.split_plain.Goals as goal

@@ -1,5 +1,5 @@
 use Rattle.std.proofs.Common.{◌≡◌, ◌≤◌, ◌+◌, ◌*◌, ◌++◌, length, flat_map}
-use Rattle.pv_model.specs.Trace.{hex_byte}
+use Rattle.pv_model.specs.Machine.{hex_byte}
 use Rattle.pv_trace.proofs.line_buffer.put_hex.Given as goal
 
 -- each iteration removes bytes from those that remain

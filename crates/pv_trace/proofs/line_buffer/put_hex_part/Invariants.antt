@@ -1,5 +1,5 @@
 use Rattle.std.proofs.Common.{◌≡◌, ◌*◌, length, take, flat_map}
-use Rattle.pv_model.specs.Trace.{hex_byte}
+use Rattle.pv_model.specs.Machine.{hex_byte}
 use Rattle.pv_trace.proofs.line_buffer.put_hex_part.Given as goal
 
 -- the digits so far

@@ -1,5 +1,5 @@
 use Rattle.std.proofs.Common.{◌≡◌, ◌≤◌, ◌+◌, ◌*◌, ◌++◌, length, flat_map}
-use Rattle.pv_model.specs.Trace.{quote_byte}
+use Rattle.pv_model.specs.Machine.{quote_byte}
 use Rattle.pv_trace.proofs.line_buffer.put_quoted_bytes.Given as goal
 
 -- each iteration removes bytes from the rest

@@ -1,6 +1,6 @@
 use Rattle.std.proofs.Common.{◌≡◌, take}
 use Rattle.std.specs.List.{list_all}
-use Rattle.pv_model.specs.Trace.{is_plain}
+use Rattle.pv_model.specs.Machine.{is_plain}
 use Rattle.pv_trace.proofs.plain.are_plain.Given as goal
 
 -- the result so far is that of the remaining bytes

@@ -1,5 +1,6 @@
 use Rattle.std.proofs.Common.{◌∙◌, ◌+◌, [], ◌∷◌, ◌++◌, drop, ap₂, sym, rules}
-use Rattle.pv_model.specs.Trace.{hex, hex_byte}
+use Rattle.pv_model.specs.Machine.{hex_byte}
+use Rattle.pv_model.specs.Trace.{hex}
 use Rattle.pv_streams.proofs.Reporting.{on_err}
 use Rattle.pv_listing.proofs.Rests.{rest_after, rest_begins}
 use Rattle.pv_answers.proofs.Rows.{part-next}

@@ -1,7 +1,7 @@
 use Rattle.std.proofs.Common.{◌∙◌, ◌++◌, codes, map, pos, ap, rules}
 use Rattle.std.specs.Fmt.{signed_decimal}
 use Rattle.std.specs.Prelude.{false}
-use Rattle.pv_model.specs.Answers.Lines.{spaced}
+use Rattle.pv_model.specs.Machine.{spaced}
 use Rattle.pv_answers.specs.Texts.{words_after}
 use Rattle.pv_streams.proofs.Reporting.{begins_first, on_err}
 use Rattle.pv_listing.proofs.Rests.{rest_after, rest_begins}

@@ -1,9 +1,6 @@
 use Rattle.std.proofs.Common.{ℕ, ◌-◌, ◌++◌, ◌∙◌, length, Option, None, Some, ap, sym, arith, rules}
 use Rattle.pv_model.specs.declared.place.Place.TheVariants.{At}
-use Rattle.pv_model.specs.Answers.Nodes.{with_name}
-use Rattle.pv_model.specs.Bytes.{Bytes}
-use Rattle.pv_model.specs.Calls.Descriptors.{next_name}
-use Rattle.pv_model.specs.Tree.{Entries, entries_at}
+use Rattle.pv_model.specs.Machine.{with_name, Bytes, next_name, Entries, entries_at}
 use Rattle.pv_listing.specs.Lines.{entries_after}
 use Rattle.pv_listing.proofs.Children.{past-none}
 use Rattle.pv_listing.proofs.Entries.{no-entries}

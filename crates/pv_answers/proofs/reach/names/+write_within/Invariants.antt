@@ -1,5 +1,5 @@
 use Rattle.std.proofs.Common.{◌≡◌, ◌-◌, length}
-use Rattle.pv_model.specs.Tree.{entries_at}
+use Rattle.pv_model.specs.Machine.{entries_at}
 use Rattle.pv_listing.proofs.Rests.{LeavesRest}
 use Rattle.pv_answers.specs.Reaching.{lines_under, lines_within, path_of, state_of}
 use Rattle.pv_answers.proofs.Listed.{upcoming}

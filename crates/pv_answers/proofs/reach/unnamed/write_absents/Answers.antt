@@ -1,5 +1,5 @@
 use Rattle.std.proofs.Common.{◌∙◌, refl, subst, arith, rules}
-use Rattle.pv_model.specs.Bytes.{Bytes}
+use Rattle.pv_model.specs.Machine.{Bytes}
 use Rattle.pv_streams.proofs.Reporting.{on_err}
 use Rattle.pv_listing.proofs.Rests.{LeavesRest, rest_all, rest_after, rest_begins, written_text}
 use Rattle.pv_answers.specs.Reaching.{absent_lines}

@@ -1,6 +1,6 @@
 use Rattle.std.proofs.Common.{◌≡◌, ℕ, ◌∙◌, ap, arith, length, sym}
 use Rattle.std.specs.Prelude.{List, count_by}
-use Rattle.pv_model.specs.Bytes.{Bytes}
+use Rattle.pv_model.specs.Machine.{Bytes}
 use Rattle.pv_blocks.specs.BlockStore.{BlockStore, blocks_of, free_outside, used_or_old}
 use Rattle.pv_blocks.proofs.Stores.{free_outside-same, length-blocks_of}
 use Rattle.pv_blocks.proofs.blocks.Blocks.copy_used_from.Goals as goal

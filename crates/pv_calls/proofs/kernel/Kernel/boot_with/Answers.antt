@@ -1,5 +1,5 @@
 use Rattle.std.proofs.Common.{ap, sym, ◌∙◌, subst, refl, Ok}
-use Rattle.pv_model.specs.Tree.{find_entry}
+use Rattle.pv_model.specs.Machine.{find_entry}
 use Rattle.pv_laws_states.specs.States.{IsValid}
 use Rattle.pv_calls.proofs.Booting.{boot-refused, boot-made, boot-whole}
 use Rattle.pv_calls.proofs.kernel.Kernel.boot_with.Goals as goal

@@ -1,5 +1,5 @@
 use Rattle.std.proofs.Common.{sym, subst}
-use Rattle.pv_model.specs.Tree.{Tree, find_entry}
+use Rattle.pv_model.specs.Machine.{Tree, find_entry}
 use Rattle.pv_calls.proofs.Booting.{passed-tree, passed-whole}
 use Rattle.pv_calls.proofs.kernel.Kernel.pass.Goals as goal
 

@@ -1,5 +1,5 @@
 use Rattle.std.proofs.Common.{sym, subst}
-use Rattle.pv_model.specs.Tree.{Tree, find_entry}
+use Rattle.pv_model.specs.Machine.{Tree, find_entry}
 use Rattle.pv_calls.proofs.Booting.{registered-callable, registered-tree, registered-whole}
 use Rattle.pv_calls.proofs.kernel.Kernel.step_or_fetch.Goals as goal
 

@@ -5,8 +5,7 @@ use Rattle.std.proofs.lemmas.Int.{to_z-of_z}
 use Rattle.std.proofs.lemmas.Result.{err_from_is_err_and}
 use Rattle.pv_files.specs.Descriptors.{descriptor_under}
 use Rattle.pv_model.specs.declared.errno.Errno.TheVariants.{EBADF}
-use Rattle.pv_model.specs.Calls.Descriptors.{without_descriptor}
-use Rattle.pv_model.specs.Numbered.{at_number}
+use Rattle.pv_model.specs.Machine.{without_descriptor, at_number}
 use Rattle.pv_procs.specs.ProcessTable.{update}
 use Rattle.pv_calls_state.specs.Changes.{with_closed_descriptor}
 use Rattle.pv_calls_state.proofs.Collecting.{one_if}

@@ -1,17 +1,13 @@
 -- The new node has a reference, and the open file has one user.
 use Rattle.std.proofs.Common.{ap, sym, subst, ◌∙◌, arith, rules}
 use Rattle.std.proofs.lemmas.Result.{IfErr-weaker}
-use Rattle.pv_model.specs.Numbered.{least_free}
-use Rattle.pv_model.specs.State.{State, process_at}
-use Rattle.pv_model.specs.Tree.{Tree, new_number, with_new_node}
+use Rattle.pv_model.specs.Machine.{least_free, State, process_at, Tree, new_number, with_new_node, with_open_file, collect}
 use Rattle.pv_calls_state.proofs.Changing.{before, started}
 use Rattle.pv_model.specs.declared.kind.NewNode.TheVariants.{File}
-use Rattle.pv_model.specs.Calls.Descriptors.{with_open_file}
-use Rattle.pv_model.specs.Held.{collect}
-use Rattle.pv_tree.specs.Changes.{new_node}
+use Rattle.pv_procs.specs.OfTree.Changes.{new_node}
 use Rattle.pv_calls_state.specs.Opening.{CanOpen, IsLeastDescriptor}
-use Rattle.pv_tree.specs.Holding.{HeldTree}
-use Rattle.pv_tree.specs.Rooms.{refusal}
+use Rattle.pv_procs.specs.OfTree.Holding.{HeldTree}
+use Rattle.pv_procs.specs.OfTree.Rooms.{refusal}
 use Rattle.pv_calls_state.proofs.Opening.{made-tree, open-few, opened-up, opened-state}
 use Rattle.pv_calls_state.proofs.parts.Parts.create.Goals as goal
 

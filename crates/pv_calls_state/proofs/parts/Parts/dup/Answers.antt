@@ -5,12 +5,11 @@ use Rattle.pv_files.specs.Counted.{Counted}
 use Rattle.std.proofs.lemmas.Int.{to_z-of_z}
 use Rattle.pv_files.specs.Descriptors.{descriptor_under}
 use Rattle.pv_model.specs.declared.errno.Errno.TheVariants.{EBADF}
-use Rattle.pv_model.specs.Numbered.{Numbered, at_number, with_number, least_free}
-use Rattle.pv_model.specs.State.{Descriptor}
+use Rattle.pv_model.specs.Machine.{Numbered, at_number, with_number, least_free, Descriptor}
 use Rattle.pv_procs.specs.ProcessTable.{with_process}
 use Rattle.pv_calls_state.specs.Changes.{with_opened_descriptor}
 use Rattle.pv_calls_state.specs.Counts.{times, open_nodes}
-use Rattle.pv_tree.specs.Holding.{holds_at}
+use Rattle.pv_procs.specs.OfTree.Holding.{holds_at}
 use Rattle.pv_calls_state.proofs.Collecting.{one_if}
 use Rattle.pv_calls_state.proofs.Changing.{before, started, owned, updated, few-users}
 use Rattle.pv_calls_state.proofs.Sharing.{one-more}

@@ -6,9 +6,7 @@ use Rattle.std.proofs.lemmas.Int.{to_z-of_z}
 use mir.Val.{of_z}
 use Rattle.pv_files.specs.Descriptors.{descriptor_under}
 use Rattle.pv_model.specs.declared.errno.Errno.TheVariants.{EBADF}
-use Rattle.pv_model.specs.Calls.Descriptors.{within}
-use Rattle.pv_model.specs.Numbered.{Numbered, at_number, with_number}
-use Rattle.pv_model.specs.State.{Descriptor}
+use Rattle.pv_model.specs.Machine.{within, Numbered, at_number, with_number, Descriptor}
 use Rattle.pv_procs.specs.ProcessTable.{with_process}
 use Rattle.pv_calls_state.specs.Changes.{with_descriptor_at}
 use Rattle.pv_calls_state.specs.Counts.{times, open_nodes}

@@ -1,6 +1,6 @@
 -- Each user and each reference of the process is removed once.
 use Rattle.std.proofs.Common.{ap, sym, ◌∙◌, arith}
-use Rattle.pv_tree.specs.Holding.{holds_at, collected}
+use Rattle.pv_procs.specs.OfTree.Holding.{holds_at, collected}
 use Rattle.pv_procs.specs.declared.record.ProcessRecord.{ProcessRecord as Owned}
 use Rattle.pv_calls_state.specs.Counts.{times}
 use Rattle.pv_calls_state.specs.Releasing.{files_on}

@@ -1,7 +1,7 @@
 -- The child has the users and references of its parent.
 use Rattle.std.proofs.Common.{refl, sym, subst, ◌∙◌}
 use Rattle.std.specs.Prelude.{IsSome}
-use Rattle.pv_tree.specs.Holding.{holds_at}
+use Rattle.pv_procs.specs.OfTree.Holding.{holds_at}
 use Rattle.pv_calls_state.proofs.Counting.{one-apart}
 use Rattle.pv_calls_state.proofs.Changing.{before, started}
 use Rattle.pv_calls_state.proofs.Ends.{born, child-owned, child-there, child-few, child-targets, child-room, child-opened, child-users, forked-up, fork-performed}

@@ -1,5 +1,5 @@
 use Rattle.std.proofs.Common.{◌∙◌, ap, sym}
-use Rattle.pv_model.specs.Held.{collect}
+use Rattle.pv_model.specs.Machine.{collect}
 use Rattle.pv_calls_state.proofs.Collecting.{collect-none}
 use Rattle.pv_calls_state.proofs.parts.Parts.invariant.Goals as goal
 

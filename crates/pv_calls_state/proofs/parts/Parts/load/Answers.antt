@@ -2,8 +2,7 @@
 use Rattle.std.proofs.Common.{ap, sym, ◌∙◌}
 use Rattle.pv_procs.specs.declared.record.ProcessRecord.{ProcessRecord as Owned}
 use Rattle.std.specs.Prelude.{is_some}
-use Rattle.pv_model.specs.Calls.Processes.{with_program}
-use Rattle.pv_model.specs.Held.{collect}
+use Rattle.pv_model.specs.Machine.{with_program, collect}
 use Rattle.pv_calls_state.proofs.Changing.{started, owned, updated, state-updated}
 use Rattle.pv_calls_state.proofs.Ends.{load-used, end-targets, load-up, load-state}
 use Rattle.pv_calls_state.proofs.parts.Parts.load.Goals as goal

@@ -1,8 +1,8 @@
 use Rattle.std.proofs.Common.{◌+◌, ap, ◌∙◌, sym, subst}
 use Rattle.pv_calls_state.specs.Counts.{IsCountedUp}
 use Rattle.pv_files.specs.Counted.{no_files}
-use Rattle.pv_model.specs.Tree.{root}
-use Rattle.pv_tree.specs.Holding.{HeldTree, IsUnheld}
+use Rattle.pv_model.specs.Machine.{root}
+use Rattle.pv_procs.specs.OfTree.Holding.{HeldTree, IsUnheld}
 use Rattle.pv_calls_state.proofs.Prefix.{first-counted}
 use Rattle.pv_calls_state.proofs.parts.Parts.new.Goals as goal
 

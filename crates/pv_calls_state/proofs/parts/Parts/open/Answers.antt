@@ -1,10 +1,7 @@
 -- The node has a reference, and the open file has one user.
 use Rattle.std.proofs.Common.{ap, sym, subst, ◌∙◌, arith}
 use Rattle.std.specs.Prelude.{IsSome, IsTrue}
-use Rattle.pv_model.specs.Sealed.{is_file}
-use Rattle.pv_model.specs.Numbered.{least_free}
-use Rattle.pv_model.specs.State.{State, process_at}
-use Rattle.pv_model.specs.Tree.{node_at}
+use Rattle.pv_model.specs.Machine.{is_file, least_free, State, process_at, node_at}
 use Rattle.pv_calls_state.proofs.Changing.{before, started}
 use Rattle.pv_calls_state.specs.Changes.{tree_for_open}
 use Rattle.pv_calls_state.specs.Opening.{CanOpen}

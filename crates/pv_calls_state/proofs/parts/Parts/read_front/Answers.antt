@@ -1,8 +1,6 @@
 use Rattle.std.proofs.Common.{◌≡◌, ◌∙◌, ◌≤◌, ◌++◌, arith, ap, sym, length, drop}
 use Rattle.std.proofs.lemmas.List.{length-take}
-use Rattle.pv_model.specs.Effect.{bytes_of}
-use Rattle.pv_model.specs.State.{State}
-use Rattle.pv_model.specs.Tree.{node_at}
+use Rattle.pv_model.specs.Machine.{bytes_of, State, node_at}
 use Rattle.pv_calls_state.specs.Changes.{bytes_read}
 use Rattle.pv_procs.specs.ProcessTable.{process_in}
 use Rattle.pv_calls_state.proofs.Alone.{counted-update, same-record, lent-is}

@@ -1,9 +1,7 @@
 use Rattle.std.proofs.Common.{◌≡◌, ◌+◌, Some, is_some, ap, sym, ◌∙◌}
 use Rattle.pv_calls_state.specs.Attempts.{collected}
 use Rattle.pv_calls_state.specs.Counts.{state_of, times, open_nodes, IsCountedUp}
-use Rattle.pv_model.specs.Calls.Processes.{wait}
-use Rattle.pv_model.specs.Held.{used_files, held_by_process}
-use Rattle.pv_model.specs.State.{Process, State, process_at}
+use Rattle.pv_model.specs.Machine.{wait, used_files, held_by_process, Process, State, process_at}
 use Rattle.pv_procs.specs.declared.processes.Reap.TheVariants.{NoChild}
 use Rattle.pv_procs.specs.ProcessTable.{process_in}
 use Rattle.pv_calls_state.proofs.Alone.{some-at}

@@ -1,4 +1,4 @@
-use Rattle.pv_tree.specs.Changes.{moved}
+use Rattle.pv_procs.specs.OfTree.Changes.{moved}
 use Rattle.pv_calls_state.proofs.Growing.{after-outcome}
 use Rattle.pv_calls_state.proofs.parts.Parts.rename.Goals as goal
 

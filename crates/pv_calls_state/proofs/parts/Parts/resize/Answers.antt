@@ -1,7 +1,7 @@
 use Rattle.std.proofs.Common.{◌≡◌}
-use Rattle.pv_tree.specs.Changes.{resized}
-use Rattle.pv_model.specs.Tree.{Tree}
-use Rattle.pv_tree.specs.Holding.{collected}
+use Rattle.pv_procs.specs.OfTree.Changes.{resized}
+use Rattle.pv_model.specs.Machine.{Tree}
+use Rattle.pv_procs.specs.OfTree.Holding.{collected}
 use Rattle.pv_calls_state.proofs.Growing.{preserved-seen, ordered-seen, grown-outcome, preserved-content}
 use Rattle.pv_calls_state.proofs.parts.Parts.resize.Goals as goal
 

@@ -1,7 +1,7 @@
 -- The new directory is referenced before the old one is released.
 use Rattle.std.proofs.Common.{refl, ap, sym, ◌∙◌, arith}
-use Rattle.pv_model.specs.Held.{collect}
-use Rattle.pv_tree.specs.Holding.{holds_at, collected}
+use Rattle.pv_model.specs.Machine.{collect}
+use Rattle.pv_procs.specs.OfTree.Holding.{holds_at, collected}
 use Rattle.pv_calls_state.specs.Changes.{with_directory}
 use Rattle.pv_calls_state.proofs.Counting.{one-apart}
 use Rattle.pv_calls_state.proofs.Changing.{started, owned, updated, few-holds, left-held, moved-holds, counted-changed, collected-changed, state-updated}

@@ -1,4 +1,4 @@
-use Rattle.pv_model.specs.Tree.{without_entry}
+use Rattle.pv_model.specs.Machine.{without_entry}
 use Rattle.pv_calls_state.proofs.Growing.{after-changed}
 use Rattle.pv_calls_state.proofs.parts.Parts.unlink.Goals as goal
 

@@ -3,11 +3,10 @@ use Rattle.std.proofs.lemmas.List.{length-take-le}
 use Rattle.std.proofs.lemmas.Result.{IfErr-weaker}
 use Rattle.pv_files.specs.Counted.{with_file}
 use Rattle.pv_model.specs.Calls.Descriptors.{with_bytes_written}
-use Rattle.pv_model.specs.Held.{collect}
-use Rattle.pv_model.specs.Numbered.{at_number}
+use Rattle.pv_model.specs.Machine.{collect, at_number}
 use Rattle.pv_calls_state.specs.Counts.{IsCountedUp}
-use Rattle.pv_tree.specs.Changes.{overwritten}
-use Rattle.pv_tree.specs.Rooms.{refusal}
+use Rattle.pv_procs.specs.OfTree.Changes.{overwritten}
+use Rattle.pv_procs.specs.OfTree.Rooms.{refusal}
 use Rattle.pv_calls_state.proofs.Alone.{counted-changed}
 use Rattle.pv_calls_state.proofs.Writing.{own-buffer, write-changed, write-refused}
 use Rattle.pv_calls_state.proofs.parts.Parts.write_front.Goals as goal

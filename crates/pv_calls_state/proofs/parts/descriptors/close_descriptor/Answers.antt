@@ -4,7 +4,7 @@ use Rattle.std.proofs.lemmas.Int.{to_z-of_z}
 use Rattle.std.proofs.lemmas.Result.{on_ok_weaker, on_err_weaker}
 use Rattle.pv_files.specs.Descriptors.{descriptor_under}
 use Rattle.pv_model.specs.declared.errno.Errno.TheVariants.{EBADF}
-use Rattle.pv_model.specs.Calls.Descriptors.{without_descriptor}
+use Rattle.pv_model.specs.Machine.{without_descriptor}
 use Rattle.pv_procs.specs.ProcessTable.{process_in}
 use Rattle.pv_calls_state.proofs.Alone.{lent-is}
 use Rattle.pv_calls_state.proofs.Owned.{same-owned, other-descriptors}

@@ -1,6 +1,6 @@
 -- With its last user, an open file releases its node.
 use Rattle.std.proofs.Common.{◌≡◌, refl, ap, sym, ◌∙◌, arith}
-use Rattle.pv_tree.specs.Holding.{collected}
+use Rattle.pv_procs.specs.OfTree.Holding.{collected}
 use Rattle.std.specs.Prelude.{slice_index}
 use Rattle.pv_calls_state.proofs.Releasing.{open-held, releases-closes}
 use Rattle.pv_calls_state.proofs.parts.descriptors.release.Goals as goal

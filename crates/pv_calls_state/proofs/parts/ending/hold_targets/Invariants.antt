@@ -1,9 +1,7 @@
 use Rattle.std.proofs.Common.{◌≡◌, ℕ, ◌+◌, drop, map}
 use Rattle.pv_calls_state.specs.Counts.{times}
-use Rattle.pv_model.specs.Calls.Restraints.{entries_of_table}
-use Rattle.pv_model.specs.Held.{held_by_table}
-use Rattle.pv_model.specs.Unveil.{target_directory}
-use Rattle.pv_tree.specs.Holding.{holds_at}
+use Rattle.pv_model.specs.Machine.{entries_of_table, held_by_table, target_directory}
+use Rattle.pv_procs.specs.OfTree.Holding.{holds_at}
 use Rattle.pv_calls_state.proofs.parts.ending.hold_targets.Given as goal
 
 abbrev pub invariant-loop-k : goal.invariant-loop-k

@@ -1,8 +1,7 @@
 use Rattle.std.proofs.Common.{◌∙◌, ◌++◌, min, ap, sym, length, take, drop}
 use Rattle.std.proofs.lemmas.List.{length-drop}
-use Rattle.pv_dirs.specs.Trees.{bytes_at}
-use Rattle.pv_model.specs.Effect.{bytes_of}
-use Rattle.pv_model.specs.Tree.{node_at}
+use Rattle.pv_procs.specs.OfTree.OfDirs.Trees.{bytes_at}
+use Rattle.pv_model.specs.Machine.{bytes_of, node_at}
 use Rattle.pv_calls_state.proofs.Reading.{read-in, same-bytes}
 use Rattle.pv_calls_state.proofs.parts.process.read_part.Goals as goal
 

@@ -1,6 +1,6 @@
 use Rattle.std.proofs.Common.{◌∙◌, ℕ, List, ap, filter, fold, max}
 use Rattle.std.specs.List.{range_with_len}
-use Rattle.pv_model.specs.Held.{among}
+use Rattle.pv_model.specs.Machine.{among}
 use Rattle.pv_compare.specs.Pairs.{pair_in, pairs_of}
 use Rattle.pv_compare.proofs.LiveOnes.{either-live}
 use Rattle.pv_compare.proofs.Stepped.{first-there, second-there}

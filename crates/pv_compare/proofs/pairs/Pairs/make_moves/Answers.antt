@@ -2,8 +2,8 @@ use Rattle.std.proofs.Common.{◌∙◌, ap, get_or, subst, sym, List, None, ℕ
 use Rattle.pv_compare.specs.Pairs.{AreMoved, IsMoved, pair_in, pairs_of}
 use Rattle.pv_compare.proofs.Looped.{moves-end, moves-none, moves-some, moves-start, witness-there}
 use Rattle.pv_compare.proofs.Stepped.{counted}
-use Rattle.pv_model.specs.Answers.Compare.{live_in_either, pair_moves}
-use Rattle.pv_model.specs.Grammar.Programs.{program_of}
+use Rattle.pv_model.specs.Machine.{pair_moves, program_of}
+use Rattle.pv_model.specs.Answers.Compare.{live_in_either}
 use Rattle.pv_compare.proofs.pairs.Pairs.make_moves.Goals as goal
 
 pub loop-pid-init : goal.loop-pid-init

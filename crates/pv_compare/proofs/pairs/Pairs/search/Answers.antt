@@ -3,7 +3,7 @@ use Rattle.pv_compare.specs.Pairs.{found_in, pairs_of}
 use Rattle.pv_compare.specs.Plan.{compared_pairs}
 use Rattle.pv_compare.proofs.Looped.{search-end, search-next, search-past, search-some, search-start}
 use Rattle.pv_compare.proofs.Stepped.{counted}
-use Rattle.pv_model.specs.Grammar.Programs.{program_of}
+use Rattle.pv_model.specs.Machine.{program_of}
 use Rattle.pv_compare.proofs.pairs.Pairs.search.Goals as goal
 
 pub loop-number-init : goal.loop-number-init

@@ -2,7 +2,7 @@ use Rattle.std.proofs.Common.{◌≡◌}
 use Rattle.pv_compare.specs.Pairs.{IsWhole, found_in, pairs_of}
 use Rattle.pv_compare.specs.Plan.{compared_pairs}
 use Rattle.pv_compare.proofs.Moved.{compared_left}
-use Rattle.pv_model.specs.Grammar.Programs.{program_of}
+use Rattle.pv_model.specs.Machine.{program_of}
 use Rattle.pv_compare.proofs.pairs.Pairs.search.Given as goal
 
 abbrev pub invariant-loop-number : goal.invariant-loop-number

@@ -3,7 +3,7 @@ use Rattle.std.specs.List.{list_any}
 use Rattle.pv_compare.specs.Pairs.{pairs_of}
 use Rattle.pv_compare.proofs.Numbered.{numbered-added, visit-added, visit-none, visit-past, visit-there}
 use Rattle.pv_explore.specs.Witnesses.{longer}
-use Rattle.pv_model.specs.Bytes.{Bytes}
+use Rattle.pv_model.specs.Machine.{Bytes}
 use Rattle.pv_compare.proofs.pairs.Pairs.visit.Goals as goal
 
 pub returns-in_default-clause-visited : goal.returns-in_default-clause-visited

@@ -1,10 +1,7 @@
 use Rattle.std.proofs.Common.{Option, ◌≡◌, ◌<◌, take, refl, ap, sym, ◌∙◌, arith}
 use Rattle.std.specs.Option.{option_copied}
 use Rattle.std.proofs.lemmas.List.{take_all}
-use Rattle.pv_model.specs.Bytes.{Bytes}
-use Rattle.pv_model.specs.Calls.Descriptors.{next_name}
-use Rattle.pv_model.specs.Room.{entry_length}
-use Rattle.pv_model.specs.Tree.{Entries}
+use Rattle.pv_model.specs.Machine.{Bytes, next_name, entry_length, Entries}
 use Rattle.pv_dirs.specs.Dirs.{bytes_in}
 use Rattle.pv_dirs.specs.Listing.{better_of}
 use Rattle.pv_dirs.specs.Slots.{slot_at, slot_count, slot_name, slot_entries, in_order}

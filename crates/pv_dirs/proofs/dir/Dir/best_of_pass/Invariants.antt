@@ -1,7 +1,7 @@
 use Rattle.std.proofs.Common.{◌≡◌, take}
 use Rattle.std.specs.Prelude.{IfSome}
 use Rattle.std.specs.Option.{option_copied}
-use Rattle.pv_model.specs.Calls.Descriptors.{next_name}
+use Rattle.pv_model.specs.Machine.{next_name}
 use Rattle.pv_dirs.specs.Dirs.{bytes_in}
 use Rattle.pv_dirs.specs.Listing.{IsShared}
 use Rattle.pv_dirs.specs.Slots.{IsRun, slot_entries, in_order}

@@ -1,5 +1,5 @@
 use Rattle.std.proofs.Common.{◌/◌, ap, ◌∙◌, arith}
-use Rattle.pv_model.specs.Room.{entry_length}
+use Rattle.pv_model.specs.Machine.{entry_length}
 use Rattle.pv_dirs.proofs.Strides.{entries_few, entries_within}
 use Rattle.pv_dirs.proofs.dir.Dir.count.Goals as goal
 

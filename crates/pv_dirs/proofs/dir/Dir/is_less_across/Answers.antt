@@ -1,5 +1,5 @@
 use Rattle.std.proofs.Common.{is_lt, ap, ◌∙◌}
-use Rattle.pv_model.specs.Bytes.{Bytes}
+use Rattle.pv_model.specs.Machine.{Bytes}
 use Rattle.pv_dirs.specs.Slots.{slot_name}
 use Rattle.pv_dirs.proofs.Entries.{by_name}
 use Rattle.pv_dirs.proofs.Next.{bytes_less}

@@ -1,7 +1,6 @@
 use Rattle.std.proofs.Common.{◌+◌, Option, ap, sym, subst, ◌∙◌}
 use Rattle.std.specs.Option.{option_copied}
-use Rattle.pv_model.specs.Room.{entry_length}
-use Rattle.pv_model.specs.Bytes.{Bytes}
+use Rattle.pv_model.specs.Machine.{entry_length, Bytes}
 use Rattle.pv_dirs.specs.Dirs.{bytes_in}
 use Rattle.pv_dirs.specs.Listing.{IsNextOf}
 use Rattle.pv_dirs.specs.Slots.{IsInSlots}

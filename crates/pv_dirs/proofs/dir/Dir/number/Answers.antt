@@ -1,6 +1,5 @@
 use Rattle.std.proofs.Common.{◌*◌, ◌%◌, ◌-◌, take, drop, ap, sym, ◌∙◌, arith}
-use Rattle.pv_model.specs.Room.{entry_length}
-use Rattle.pv_model.specs.Bytes.{Bytes}
+use Rattle.pv_model.specs.Machine.{entry_length, Bytes}
 use Rattle.pv_dirs.specs.Dirs.{bytes_in}
 use Rattle.pv_dirs.specs.Slots.{slot_at, slot_number}
 use Rattle.pv_dirs.proofs.SlotBytes.{front_number}

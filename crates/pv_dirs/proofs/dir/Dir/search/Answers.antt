@@ -1,7 +1,6 @@
 use Rattle.std.proofs.Common.{◌≢◌, ap, sym, ◌∙◌, arith, inl, inr, ℕ}
 use Rattle.std.proofs.lemmas.Bool.{cases_eq, false≢true}
-use Rattle.pv_model.specs.Bytes.{Bytes}
-use Rattle.pv_model.specs.Room.{entry_length}
+use Rattle.pv_model.specs.Machine.{Bytes, entry_length}
 use Rattle.pv_dirs.specs.Dirs.{bytes_in}
 use Rattle.pv_dirs.specs.Slots.{slot_at, slot_name, slot_entries}
 use Rattle.pv_dirs.proofs.Entries.{absent_from}

@@ -1,5 +1,5 @@
 use Rattle.std.proofs.Common.{◌*◌, ap, ◌∙◌, arith}
-use Rattle.pv_model.specs.Room.{entry_length}
+use Rattle.pv_model.specs.Machine.{entry_length}
 use Rattle.pv_dirs.proofs.Strides.{start_fits}
 use Rattle.pv_dirs.proofs.dir.Dir.start.Goals as goal
 

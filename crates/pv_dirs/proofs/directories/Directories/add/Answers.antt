@@ -1,8 +1,6 @@
 use Rattle.std.proofs.Common.{◌≡◌, ◌↔◌, ◌+◌, ◌<◌, ◌≤◌, true, None, Err, length, sym, ap, subst, ◌∙◌, arith}
 use Rattle.std.specs.Prelude.{slice_index}
-use Rattle.pv_model.specs.Bytes.{Bytes}
-use Rattle.pv_model.specs.Room.{entry_length, greatest_length}
-use Rattle.pv_model.specs.Tree.{is_name, Tree, find_entry, with_entry}
+use Rattle.pv_model.specs.Machine.{Bytes, entry_length, greatest_length, is_name, Tree, find_entry, with_entry}
 use Rattle.pv_inodes.specs.declared.space.Space.TheVariants.{TooBig, Full}
 use Rattle.pv_inodes.specs.Files.{Files, bytes_at, written}
 use Rattle.pv_dirs.specs.Index.{Ascend, IsIndexed, known}

@@ -1,6 +1,5 @@
 use Rattle.std.proofs.Common.{◌+◌, ◌≤◌, sym, ap, subst, ◌∙◌}
-use Rattle.pv_model.specs.Image.{inode_blocks, greatest_blocks}
-use Rattle.pv_model.specs.Tree.{Tree}
+use Rattle.pv_model.specs.Machine.{inode_blocks, greatest_blocks, Tree}
 use Rattle.pv_dirs.proofs.TreeOf.{blocks-tree_of, sizes-tree_of}
 use Rattle.pv_dirs.proofs.directories.Directories.blocks.Goals as goal
 

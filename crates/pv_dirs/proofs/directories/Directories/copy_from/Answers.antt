@@ -1,5 +1,5 @@
 use Rattle.std.proofs.Common.{sym, ap, subst, ◌∙◌}
-use Rattle.pv_model.specs.Tree.{Tree}
+use Rattle.pv_model.specs.Machine.{Tree}
 use Rattle.pv_dirs.specs.declared.index.Index.{Index}
 use Rattle.pv_dirs.specs.Index.{said, known}
 use Rattle.pv_dirs.specs.Sizes.{HaveSameSizes}

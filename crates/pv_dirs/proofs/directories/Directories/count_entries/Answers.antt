@@ -1,7 +1,7 @@
 use Rattle.std.proofs.Common.{◌≡◌, ◌≤◌, ◌<◌, ℕ, true, cond, ltb, length, take, subst, sym, ap, ◌∙◌, arith}
 use Rattle.std.specs.Prelude.{slice_index}
 use Rattle.std.proofs.lemmas.List.{take_all}
-use Rattle.pv_model.specs.Tree.{Tree, is_directory_at, entries_at, find_entry}
+use Rattle.pv_model.specs.Machine.{Tree, is_directory_at, entries_at, find_entry}
 use Rattle.pv_inodes.specs.Files.{bytes_at}
 use Rattle.pv_dirs.specs.Counts.{count_in}
 use Rattle.pv_dirs.specs.Slots.{slot_at, slot_count, slot_name, slot_number, slot_entry, slot_entries, IsSlotted}

@@ -1,7 +1,5 @@
 use Rattle.std.proofs.Common.{◌≡◌, sym, ap, subst, ◌∙◌, arith}
-use Rattle.pv_model.specs.Effect.{resize}
-use Rattle.pv_model.specs.Room.{greatest_length}
-use Rattle.pv_model.specs.Tree.{Tree}
+use Rattle.pv_model.specs.Machine.{resize, greatest_length, Tree}
 use Rattle.pv_inodes.specs.Files.{Files, bytes_at, cut}
 use Rattle.pv_dirs.specs.Index.{IsConsistent}
 use Rattle.pv_dirs.specs.Trees.{tree_of, IsHolding, LacksRoom, cut as tree_cut}

@@ -1,5 +1,5 @@
 use Rattle.std.proofs.Common.{ap, ◌∙◌}
-use Rattle.pv_model.specs.Tree.{Tree}
+use Rattle.pv_model.specs.Machine.{Tree}
 use Rattle.pv_dirs.specs.Trees.{tree_of, without_node}
 use Rattle.pv_dirs.proofs.Indexed.{indexed-without}
 use Rattle.pv_dirs.proofs.TreeOf.{tree_of-without, holding-without}

@@ -1,5 +1,5 @@
 use Rattle.std.proofs.Common.{◌+◌, ◌≤◌, ap, sym, subst, ◌∙◌}
-use Rattle.pv_model.specs.Image.{inode_blocks, greatest_blocks}
+use Rattle.pv_model.specs.Machine.{inode_blocks, greatest_blocks}
 use Rattle.pv_dirs.proofs.Emptiness.{holding-empty, nodes-empty, inodes-empty}
 use Rattle.pv_dirs.proofs.Indexed.{indexed-empty}
 use Rattle.pv_dirs.proofs.TreeOf.{blocks-tree_of, version-tree_of}

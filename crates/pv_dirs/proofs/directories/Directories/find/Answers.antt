@@ -1,6 +1,6 @@
 use Rattle.std.proofs.Common.{◌≡◌, true, Some, None, subst, sym, ap, ◌∙◌}
 use Rattle.std.specs.FinMap.Entries.{find}
-use Rattle.pv_model.specs.Tree.{Tree, is_directory_at, find_entry}
+use Rattle.pv_model.specs.Machine.{Tree, is_directory_at, find_entry}
 use Rattle.pv_inodes.specs.Files.{bytes_at}
 use Rattle.pv_dirs.specs.Slots.{slot_entries}
 use Rattle.pv_dirs.specs.Trees.{tree_of}

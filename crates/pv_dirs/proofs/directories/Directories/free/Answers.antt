@@ -1,5 +1,5 @@
 use Rattle.std.proofs.Common.{◌≡◌, ◌+◌, subst, arith}
-use Rattle.pv_model.specs.Tree.{Tree}
+use Rattle.pv_model.specs.Machine.{Tree}
 use Rattle.pv_dirs.specs.Trees.{total_need}
 use Rattle.pv_dirs.proofs.TreeOf.{blocks-tree_of, total_need-tree_of}
 use Rattle.pv_dirs.proofs.directories.Directories.free.Goals as goal

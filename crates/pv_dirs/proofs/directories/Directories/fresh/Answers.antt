@@ -1,7 +1,7 @@
 use Rattle.std.proofs.Common.{◌≡◌, ◌<◌, length, sym, ap, ◌∙◌}
 use Rattle.std.specs.Prelude.{option_map}
 use Rattle.std.proofs.lemmas.Option.{IfSome_then}
-use Rattle.pv_model.specs.Tree.{Tree, node_at, with_node, new_number as new_number_in}
+use Rattle.pv_model.specs.Machine.{Tree, node_at, with_node, new_number as new_number_in}
 use Rattle.pv_inodes.specs.Files.{Files, with_new, new_number}
 use Rattle.pv_dirs.specs.Index.{IsConsistent}
 use Rattle.pv_dirs.specs.Trees.{node_of, tree_of, new_node}

@@ -1,5 +1,5 @@
 use Rattle.std.proofs.Common.{length, sym, ap, ◌∙◌}
-use Rattle.pv_model.specs.Tree.{Tree}
+use Rattle.pv_model.specs.Machine.{Tree}
 use Rattle.pv_dirs.proofs.TreeOf.{inodes-tree_of, length-tree_of}
 use Rattle.pv_dirs.proofs.directories.Directories.inodes.Goals as goal
 

@@ -1,5 +1,5 @@
 use Rattle.std.proofs.Common.{◌≡◌, is_some, sym, ap, ◌∙◌}
-use Rattle.pv_model.specs.Tree.{Tree, node_at}
+use Rattle.pv_model.specs.Machine.{Tree, node_at}
 use Rattle.pv_inodes.specs.Files.{held}
 use Rattle.pv_dirs.proofs.TreeOf.{is_some-tree_of}
 use Rattle.pv_dirs.proofs.directories.Directories.is_used.Goals as goal

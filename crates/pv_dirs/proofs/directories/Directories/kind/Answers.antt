@@ -1,6 +1,6 @@
 use Rattle.std.proofs.Common.{subst, sym, ap, ◌∙◌}
 use Rattle.std.specs.Prelude.{option_map, IsSome}
-use Rattle.pv_model.specs.Tree.{Tree, node_at}
+use Rattle.pv_model.specs.Machine.{Tree, node_at}
 use Rattle.pv_dirs.specs.Trees.{sort_of}
 use Rattle.pv_dirs.proofs.Contents.{sort_at-tree_of}
 use Rattle.pv_dirs.proofs.TreeOf.{used_in}

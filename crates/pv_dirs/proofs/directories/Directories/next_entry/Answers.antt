@@ -3,9 +3,7 @@ use Rattle.std.proofs.lemmas.Option.{IfSome_then}
 use Rattle.std.specs.FinMap.Entries.{find}
 use Rattle.std.specs.Option.{option_copied}
 use Rattle.std.specs.Prelude.{option_map}
-use Rattle.pv_model.specs.Bytes.{Bytes}
-use Rattle.pv_model.specs.Calls.Descriptors.{next_name}
-use Rattle.pv_model.specs.Tree.{Entries, find_entry}
+use Rattle.pv_model.specs.Machine.{Bytes, next_name, Entries, find_entry}
 use Rattle.pv_inodes.specs.Files.{bytes_at}
 use Rattle.pv_dirs.specs.Listing.{IsNextName}
 use Rattle.pv_dirs.specs.Slots.{slot_entries, in_order}

@@ -1,5 +1,5 @@
 use Rattle.std.proofs.Common.{◌≡◌, ◌-◌, ◌++◌, min, length, take, drop, sym, subst}
-use Rattle.pv_model.specs.Bytes.{Bytes}
+use Rattle.pv_model.specs.Machine.{Bytes}
 use Rattle.pv_dirs.proofs.Viewed.{viewed_used, viewed_bytes}
 use Rattle.pv_dirs.proofs.directories.Directories.read_at.Goals as goal
 

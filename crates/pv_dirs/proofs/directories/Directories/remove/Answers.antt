@@ -1,9 +1,6 @@
 use Rattle.std.proofs.Common.{◌≡◌, ◌+◌, ◌-◌, ◌*◌, ◌/◌, ◌≤◌, suc, mul-le-mul_left, Some, None, length, sym, ap, subst, ◌∙◌, arith}
 use Rattle.std.specs.FinMap.Entries.{find}
-use Rattle.pv_model.specs.Bytes.{Bytes}
-use Rattle.pv_model.specs.Effect.{overwrite, resize}
-use Rattle.pv_model.specs.Room.{entry_length}
-use Rattle.pv_model.specs.Tree.{Tree, find_entry, without_entry}
+use Rattle.pv_model.specs.Machine.{Bytes, overwrite, resize, entry_length, Tree, find_entry, without_entry}
 use Rattle.pv_inodes.specs.Files.{Files, bytes_at, with_bytes}
 use Rattle.pv_inodes.proofs.Edits.{used-with_bytes}
 use Rattle.pv_dirs.specs.Index.{Leads, IsIndexed}

@@ -1,8 +1,6 @@
 use Rattle.std.proofs.Common.{subst, sym, ap, ◌∙◌, Some, arith}
 use Rattle.std.specs.Prelude.{option_map, IsSome}
-use Rattle.pv_model.specs.Effect.{size_of}
-use Rattle.pv_model.specs.Room.{greatest_length}
-use Rattle.pv_model.specs.Tree.{Tree, node_at}
+use Rattle.pv_model.specs.Machine.{size_of, greatest_length, Tree, node_at}
 use Rattle.pv_dirs.proofs.Contents.{size_directory, size_other}
 use Rattle.pv_dirs.proofs.TreeOf.{used_in}
 use Rattle.pv_dirs.proofs.Strides.{few_allowed}

@@ -1,5 +1,5 @@
 use Rattle.std.proofs.Common.{◌≡◌, ap, subst, sym, ◌∙◌}
-use Rattle.pv_model.specs.Tree.{Tree}
+use Rattle.pv_model.specs.Machine.{Tree}
 use Rattle.pv_dirs.specs.Trees.{IsHolding}
 use Rattle.pv_dirs.proofs.TreeOf.{blocks-tree_of}
 use Rattle.pv_dirs.proofs.directories.Directories.sort_slots.Goals as goal

@@ -1,6 +1,5 @@
 use Rattle.std.proofs.Common.{◌≡◌, sym, ap, subst, ◌∙◌, arith}
-use Rattle.pv_model.specs.Room.{greatest_length}
-use Rattle.pv_model.specs.Tree.{Tree}
+use Rattle.pv_model.specs.Machine.{greatest_length, Tree}
 use Rattle.pv_inodes.specs.Files.{Files, written}
 use Rattle.pv_dirs.specs.Index.{IsConsistent}
 use Rattle.pv_dirs.specs.Trees.{tree_of, IsHolding, LacksRoom, written as tree_written}

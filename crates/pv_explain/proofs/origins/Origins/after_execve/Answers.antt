@@ -1,7 +1,7 @@
 use Rattle.std.proofs.Common.{◌≡◌, ◌∙◌, ap, map, false, true}
-use Rattle.pv_model.specs.Answers.Settings.{of_earlier_program, settings_of}
-use Rattle.pv_model.specs.State.{process_at}
-use Rattle.pv_explain.specs.Keeping.{settings_in}
+use Rattle.pv_model.specs.Machine.{settings_of, process_at}
+use Rattle.pv_model.specs.Answers.Settings.{of_earlier_program}
+use Rattle.pv_step_lines.specs.Origin.{settings_in}
 use Rattle.pv_explain.proofs.ProcessOrigins.{aged-all, preserved-table}
 use Rattle.pv_explain.proofs.origins.Origins.after_execve.Goals as goal
 

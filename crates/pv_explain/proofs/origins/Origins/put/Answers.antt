@@ -1,8 +1,9 @@
 use Rattle.std.proofs.Common.{◌∙◌, ap, sym, is_some, refl, arith}
 use Rattle.std.specs.FinMap.Entries.{put}
 use Rattle.std.specs.Ordering.{nat_cmp}
-use Rattle.pv_model.specs.Answers.Settings.{settings_of}
-use Rattle.pv_explain.specs.Keeping.{all_of, settings_in}
+use Rattle.pv_model.specs.Machine.{settings_of}
+use Rattle.pv_step_lines.specs.Origin.{settings_in}
+use Rattle.pv_explain.specs.Keeping.{all_of}
 use Rattle.pv_explain.proofs.ProcessOrigins.{put-room, put-once, put-agrees, put-absent}
 use Rattle.pv_procs.specs.ProcessTable.{process_in}
 use Rattle.pv_explain.proofs.origins.Origins.put.Goals as goal

@@ -1,6 +1,6 @@
 use Rattle.std.proofs.Common.{◌∙◌, ap, sym}
 use Rattle.pv_explore.proofs.Booting.{boots-again}
-use Rattle.pv_model.specs.Mount.{mounted}
+use Rattle.pv_model.specs.Machine.{mounted}
 use Rattle.pv_explore.proofs.first_machine.FirstMachine.rebuild.Goals as goal
 
 pub returns : goal.returns

@@ -1,6 +1,6 @@
 use Rattle.std.proofs.Common.{◌∙◌, ap, map}
-use Rattle.pv_model.specs.State.{State}
-use Rattle.pv_state_encoding.specs.Encoded.{plain, tree_groups}
+use Rattle.pv_model.specs.Machine.{State}
+use Rattle.pv_step_cache.specs.OfStateEncoding.Encoded.{plain, tree_groups}
 use Rattle.pv_explore.proofs.position.Position.encoded_trees.Goals as goal
 
 pub returns : goal.returns

@@ -4,7 +4,7 @@ use Rattle.pv_explore.specs.VisitedStates.{AreLiveAt}
 use Rattle.pv_explore.specs.Plan.{state_at}
 use Rattle.pv_explore.specs.Searches.{visited_of, witness_at}
 use Rattle.pv_explore.proofs.Followed.{whole-at}
-use Rattle.pv_model.specs.Grammar.Programs.{program_of}
+use Rattle.pv_model.specs.Machine.{program_of}
 use Rattle.pv_explore.proofs.search.Search.live.Goals as goal
 
 pub returns-in-Some-clause-live : goal.returns-in-Some-clause-live

@@ -1,14 +1,14 @@
 use Rattle.std.proofs.Common.{◌∙◌, ap, List, Option, subst, ℕ}
 use Rattle.std.specs.Global.{Vec}
-use Rattle.pv_answers.proofs.Writing.{or_as}
-use Rattle.pv_explain.proofs.Stops.{no_memory, no_memory_after, still_ok, stopped}
+use Rattle.pv_step_lines.proofs.OfAnswers.Writing.{or_as}
+use Rattle.pv_step_lines.proofs.Stops.{no_memory, no_memory_after, still_ok, stopped}
 use Rattle.pv_explore.specs.declared.states.Followed.{Followed}
 use Rattle.pv_explore.specs.VisitedStates.{MayFollow}
 use Rattle.pv_explore.specs.Plan.{reported_after, reported_bytes, state_at}
 use Rattle.pv_explore.specs.Searches.{visited_of, witness_at}
 use Rattle.pv_explore.specs.Witnesses.{longer}
 use Rattle.pv_explore.proofs.Followed.{visited-followed, whole-at}
-use Rattle.pv_model.specs.Grammar.Programs.{program_of}
+use Rattle.pv_model.specs.Machine.{program_of}
 use Rattle.pv_step_cache.specs.Steps.{texts_in}
 use Rattle.pv_explore.proofs.search.Search.make_move.Goals as goal
 

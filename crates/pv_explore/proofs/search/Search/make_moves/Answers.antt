@@ -1,15 +1,14 @@
 use Rattle.std.proofs.Common.{◌∙◌, ℕ, List, [], ap, ap₂, get_or, refl, subst, sym}
 use Rattle.std.proofs.lemmas.Option.{get_or_from_slice_get, slice_get-get_or, slice_get_within}
-use Rattle.pv_answers.proofs.Writing.{but_from, or_as}
-use Rattle.pv_explain.proofs.Stops.{but_ends, but_stopped, but_then, no_memory}
+use Rattle.pv_step_lines.proofs.OfAnswers.Writing.{but_from, or_as}
+use Rattle.pv_step_lines.proofs.Stops.{but_ends, but_stopped, but_then, no_memory}
 use Rattle.pv_explore.specs.VisitedStates.{HasNumber}
 use Rattle.pv_explore.specs.Plan.{bytes_at, move_at, state_at, texts_at, visited_at}
 use Rattle.pv_explore.specs.Searches.{visited_of, witness_at}
 use Rattle.pv_explore.proofs.Finding.{steps-end, steps-next, steps_left, visited-next, visited-witness}
 use Rattle.pv_explore.proofs.Followed.{number-after}
 use Rattle.pv_laws_states.specs.States.{IsValid}
-use Rattle.pv_model.specs.Grammar.Programs.{program_of}
-use Rattle.pv_model.specs.State.{State}
+use Rattle.pv_model.specs.Machine.{program_of, State}
 use Rattle.pv_explore.proofs.search.Search.make_moves.Goals as goal
 
 pub returns-in_err-pids-clause-written : goal.returns-in_err-pids-clause-written

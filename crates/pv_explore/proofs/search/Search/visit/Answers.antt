@@ -4,7 +4,7 @@ use Rattle.pv_explore.specs.Searches.{visited_of}
 use Rattle.pv_explore.specs.VisitedStates.{IsFoundIn}
 use Rattle.pv_explore.specs.Witnesses.{longer}
 use Rattle.pv_explore.proofs.Followed.{visited-found, witness-keys}
-use Rattle.pv_model.specs.Bytes.{Bytes}
+use Rattle.pv_model.specs.Machine.{Bytes}
 use Rattle.pv_explore.proofs.search.Search.visit.Goals as goal
 
 pub returns-clause-visited : goal.returns-clause-visited

@@ -4,7 +4,7 @@ use Rattle.pv_explore.specs.Plan.{live_at, state_at}
 use Rattle.pv_explore.specs.Sides.{SideStates}
 use Rattle.pv_explore.specs.VisitedStates.{AreLiveAt, HasNumber}
 use Rattle.pv_explore.proofs.Followed.{whole-at}
-use Rattle.pv_model.specs.Grammar.Programs.{program_of}
+use Rattle.pv_model.specs.Machine.{program_of}
 use Rattle.pv_explore.proofs.side.Side.live.Goals as goal
 
 pub returns-in-Some-clause-live : goal.returns-in-Some-clause-live

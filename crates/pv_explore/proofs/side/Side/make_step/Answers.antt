@@ -3,9 +3,8 @@ use Rattle.pv_explore.specs.Plan.{state_key}
 use Rattle.pv_explore.specs.Sides.{IsNumbered, SideStates}
 use Rattle.pv_explore.proofs.Sides.{numbered-by}
 use Rattle.pv_explore.specs.VisitedStates.{IsFoundIn}
-use Rattle.pv_model.specs.Bytes.{Bytes}
-use Rattle.pv_model.specs.State.{State}
-use Rattle.pv_session.specs.Running.{stepped}
+use Rattle.pv_model.specs.Machine.{Bytes, State}
+use Rattle.pv_step_lines.specs.OfSession.Running.{stepped}
 use Rattle.pv_explore.proofs.side.Side.make_step.Goals as goal
 
 pub returns-clause-number : goal.returns-clause-number

@@ -5,8 +5,8 @@ use Rattle.pv_explore.specs.Sides.{SideStates}
 use Rattle.pv_explore.specs.VisitedStates.{HasNumber, MayFollow}
 use Rattle.pv_explore.proofs.Followed.{whole-at}
 use Rattle.pv_explore.proofs.Sides.{numbered-by}
-use Rattle.pv_model.specs.Grammar.Programs.{program_of}
-use Rattle.pv_session.specs.Running.{stepped}
+use Rattle.pv_model.specs.Machine.{program_of}
+use Rattle.pv_step_lines.specs.OfSession.Running.{stepped}
 use Rattle.pv_explore.proofs.side.Side.step.Goals as goal
 
 pub follow-requires : goal.follow-requires

@@ -2,8 +2,8 @@ use Rattle.std.proofs.Common.{◌∙◌, ap, ap₂, sym, bytes_eq, List}
 use Rattle.std.specs.Prelude.{position}
 use Rattle.pv_explore.specs.Rows.{state_row}
 use Rattle.pv_explore.proofs.Rows.{position-row}
-use Rattle.pv_model.specs.Bytes.{Bytes}
-use Rattle.pv_state_encoding.specs.Groups.{joined}
+use Rattle.pv_model.specs.Machine.{Bytes}
+use Rattle.pv_step_cache.specs.OfStateEncoding.Groups.{joined}
 use Rattle.pv_explore.proofs.states.States.find.Goals as goal
 
 pub returns : goal.returns

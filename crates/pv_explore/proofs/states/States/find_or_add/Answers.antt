@@ -1,5 +1,5 @@
 use Rattle.pv_explore.proofs.VisitedStates.{fine-grew, fine-learnt, found-learnt}
-use Rattle.pv_state_encoding.specs.Encoded.{encoded_all}
+use Rattle.pv_step_cache.specs.OfStateEncoding.Encoded.{encoded_all}
 use Rattle.pv_explore.proofs.states.States.find_or_add.Goals as goal
 
 pub invariant_of-self : goal.invariant_of-self

@@ -7,11 +7,10 @@ use Rattle.pv_explore.proofs.VisitedStates.{fine-placed, found-bytes, recalled-a
 use Rattle.pv_step_cache.specs.declared.cells.Cell.{Cell}
 use Rattle.pv_step_cache.specs.declared.steps.Recalled.{Recalled}
 use Rattle.pv_step_cache.specs.Steps.{texts_in}
-use Rattle.pv_laws_runs.proofs.Ranges.{program_of-encodes}
+use Rattle.pv_step_cache.proofs.OfLawsRuns.Ranges.{program_of-encodes}
 use Rattle.pv_laws_states.proofs.BySteps.{step-keeps_whole}
-use Rattle.pv_model.specs.Bytes.{Bytes}
-use Rattle.pv_model.specs.Grammar.Programs.{program_of}
-use Rattle.pv_session.specs.Running.{stepped}
+use Rattle.pv_model.specs.Machine.{Bytes, program_of}
+use Rattle.pv_step_lines.specs.OfSession.Running.{stepped}
 use Rattle.pv_explore.proofs.states.States.follow.Goals as goal
 
 pub invariant_of-self : goal.invariant_of-self

@@ -4,7 +4,7 @@ use Rattle.pv_explore.specs.VisitedStates.{AreCellsOf, HasNumber}
 use Rattle.pv_explore.proofs.VisitedStates.{cells-at, cells-found, cells-there, fine-grew, fine-steps}
 use Rattle.pv_explore.proofs.Rows.{states-grew}
 use Rattle.pv_step_cache.specs.declared.cells.Cell.{Cell}
-use Rattle.pv_model.specs.Bytes.{Bytes}
+use Rattle.pv_model.specs.Machine.{Bytes}
 use Rattle.pv_streams.proofs.Reporting.{on_ok}
 use Rattle.pv_explore.proofs.states.States.go_ahead.Goals as goal
 

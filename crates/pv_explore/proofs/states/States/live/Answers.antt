@@ -5,7 +5,7 @@ use Rattle.pv_explore.proofs.VisitedStates.{cells-at, cells-found, cells-there}
 use Rattle.pv_step_cache.specs.declared.cells.Cell.{Cell}
 use Rattle.pv_step_cache.specs.Edits.{owners}
 use Rattle.pv_step_cache.proofs.LiveOwners.{owners-are}
-use Rattle.pv_model.specs.Bytes.{Bytes}
+use Rattle.pv_model.specs.Machine.{Bytes}
 use Rattle.pv_explore.proofs.states.States.live.Goals as goal
 
 pub returns : goal.returns

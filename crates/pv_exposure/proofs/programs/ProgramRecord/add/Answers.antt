@@ -1,5 +1,5 @@
 use Rattle.std.proofs.Common.{◌≡◌, ◌∙◌, ℕ, Bool, ap, filter}
-use Rattle.pv_model.specs.Answers.Exposure.{is_closed_to}
+use Rattle.pv_model.specs.Machine.{is_closed_to}
 use Rattle.pv_exposure.specs.Collected.{Exposed, exposed_more}
 use Rattle.pv_exposure.specs.Stored.{all_recorded, located_in}
 use Rattle.pv_exposure.proofs.programs.ProgramRecord.add.Goals as goal

@@ -1,6 +1,5 @@
 use Rattle.std.proofs.Common.{sym, ap, ◌∙◌}
-use Rattle.pv_model.specs.Numbered.{with_number, least_free}
-use Rattle.pv_model.specs.State.{Descriptor}
+use Rattle.pv_model.specs.Machine.{with_number, least_free, Descriptor}
 use Rattle.pv_files.specs.DescriptorSlots.{descriptor_of}
 use Rattle.pv_files.proofs.Seen.{least_free-seen, seen-set_some}
 use Rattle.pv_files.proofs.descriptors.Descriptors.give.Goals as goal

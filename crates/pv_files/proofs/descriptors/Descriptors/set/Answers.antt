@@ -1,6 +1,5 @@
 use Rattle.std.proofs.Common.{◌<◌, length, false, ap, ◌∙◌, arith}
-use Rattle.pv_model.specs.Numbered.{with_number}
-use Rattle.pv_model.specs.State.{Descriptor}
+use Rattle.pv_model.specs.Machine.{with_number, Descriptor}
 use Rattle.pv_files.specs.DescriptorSlots.{descriptor_of}
 use Rattle.pv_files.proofs.Seen.{seen-set_some}
 use Rattle.pv_files.proofs.descriptors.Descriptors.set.Goals as goal

@@ -1,6 +1,6 @@
 use Rattle.std.proofs.Common.{◌<◌, ap, sym, ◌∙◌, None, arith}
 use Rattle.std.proofs.Math.ListN.{length-map}
-use Rattle.pv_model.specs.Numbered.{least_free}
+use Rattle.pv_model.specs.Machine.{least_free}
 use Rattle.pv_files.specs.declared.opened.Opened.{Opened}
 use Rattle.pv_files.specs.Counted.{Counted, with_opened}
 use Rattle.pv_files.specs.Slots.{file_of, where_used, counted_of, record_at, slots_under}

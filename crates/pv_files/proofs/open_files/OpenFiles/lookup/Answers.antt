@@ -1,6 +1,6 @@
 use Rattle.std.proofs.Common.{ap, sym, ◌∙◌, option_map, slice_index}
 use Rattle.std.specs.Option.{option_copied}
-use Rattle.pv_model.specs.Numbered.{at_number}
+use Rattle.pv_model.specs.Machine.{at_number}
 use Rattle.pv_files.specs.Counted.{Counted}
 use Rattle.pv_files.specs.Slots.{file_of}
 use Rattle.pv_files.proofs.Keys.{slot_under, nothing_past}

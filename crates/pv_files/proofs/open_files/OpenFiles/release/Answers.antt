@@ -1,5 +1,5 @@
 use Rattle.std.proofs.Common.{◌≡◌, ◌≢◌, ◌<◌, Some, refl, ap, sym, ◌∙◌, option_map, arith}
-use Rattle.pv_model.specs.State.{OpenFile}
+use Rattle.pv_model.specs.Machine.{OpenFile}
 use Rattle.pv_files.specs.declared.opened.Opened.{Opened}
 use Rattle.pv_files.specs.Slots.{file_of}
 use Rattle.pv_files.proofs.Keys.{open_below, open_recorded, users_open, used_open, file_open, users_fewer, used_still, used_before, files_closed, files_preserved}

@@ -1,5 +1,5 @@
 use Rattle.std.proofs.Common.{subst, Ok}
-use Rattle.pv_model.specs.Tree.{link_node, is_link_text}
+use Rattle.pv_model.specs.Machine.{link_node, is_link_text}
 use Rattle.pv_host_copy.specs.declared.fault.SkipReason.TheVariants.{Text}
 use Rattle.pv_host_copy.specs.Gathered.{and_link}
 use Rattle.pv_host_copy.specs.Importing.{Settles}

@@ -1,5 +1,5 @@
 use Rattle.std.proofs.Common.{Ok, refl, subst}
-use Rattle.pv_model.specs.Grammar.Manifests.{add_entry}
+use Rattle.pv_model.specs.Machine.{add_entry}
 use Rattle.pv_tree.specs.Holding.{HeldTree}
 use Rattle.pv_image_manifest.specs.Building.{Makes}
 use Rattle.pv_image_manifest.specs.Entries.{entry_of_line}

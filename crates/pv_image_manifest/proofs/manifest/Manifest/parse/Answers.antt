@@ -1,6 +1,6 @@
 use Rattle.std.proofs.Common.{◌∙◌, ap, refl, Ok}
 use Rattle.std.proofs.lemmas.Result.{err_from_is_err_and}
-use Rattle.pv_model.specs.Grammar.Manifests.{read_manifest}
+use Rattle.pv_model.specs.Machine.{read_manifest}
 use Rattle.pv_image_manifest.specs.Reading.{manifest_before}
 use Rattle.pv_image_manifest.proofs.WholeManifests.{refuses_along, manifest_is_read}
 use Rattle.pv_image_manifest.proofs.manifest.Manifest.parse.Goals as goal

@@ -1,7 +1,6 @@
 use Rattle.std.proofs.Common.{◌/◌, ℕ, List, Bor, length, map, ap, sym, ◌∙◌}
 use Rattle.std.specs.Prelude.{◌==◌, bytes_eq}
-use Rattle.pv_model.specs.Mount.{slots_of, appears_twice}
-use Rattle.pv_model.specs.Room.{entry_length}
+use Rattle.pv_model.specs.Machine.{slots_of, appears_twice, entry_length}
 use Rattle.pv_image_mount.proofs.BadContents.{bad_slots_any, bad_slots_twice}
 use Rattle.pv_image_mount.proofs.SlotRows.{ascending_once, once_by_key}
 use Rattle.pv_image_mount.proofs.image.Image.are_bad_slots.Goals as goal

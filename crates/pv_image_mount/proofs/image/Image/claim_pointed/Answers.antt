@@ -1,8 +1,6 @@
 use Rattle.std.proofs.Common.{◌≡◌, ◌≤◌, ◌<◌, ◌+◌, ◌*◌, ◌-◌, ◌++◌, min, drop, ap, sym, subst, arith, ◌∙◌}
 use Rattle.pv_blocks.specs.BlockSet.{is_member}
-use Rattle.pv_model.specs.Image.{block, field}
-use Rattle.pv_model.specs.Mount.{block_number, is_data_block}
-use Rattle.pv_model.specs.Room.{rounded_up}
+use Rattle.pv_model.specs.Machine.{block, field, block_number, is_data_block, rounded_up}
 use Rattle.pv_image_mount.specs.Rows.{pointed_row, pointer_row}
 use Rattle.pv_image_mount.proofs.PointerRows.{get_or-row, pointed_end, pointed_from}
 use Rattle.pv_image_mount.proofs.Refusals.{left_less, left_refused, none_left, none_left-taken}

@@ -1,7 +1,6 @@
 use Rattle.std.proofs.Common.{◌*◌, ◌-◌, drop}
 use Rattle.pv_blocks.specs.BlockSet.{is_member}
-use Rattle.pv_model.specs.Mount.{is_data_block}
-use Rattle.pv_model.specs.Room.{rounded_up}
+use Rattle.pv_model.specs.Machine.{is_data_block, rounded_up}
 use Rattle.pv_image_mount.specs.Rows.{pointed_row, pointer_row}
 use Rattle.pv_image_mount.proofs.Refusals.{IsLeft}
 use Rattle.pv_image_mount.proofs.image.Image.claim_pointed.Given as goal

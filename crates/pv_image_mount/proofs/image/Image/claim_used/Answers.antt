@@ -1,8 +1,6 @@
 use Rattle.std.proofs.Common.{◌≡◌, ◌<◌, ◌-◌, ◌++◌, length, min, take, drop, get_or, ap, sym, subst, refl, arith, ◌∙◌}
 use Rattle.pv_blocks.specs.BlockSet.{is_member}
-use Rattle.pv_model.specs.Image.{block_count, used_content, used_index}
-use Rattle.pv_model.specs.Mount.{is_data_block}
-use Rattle.pv_model.specs.Room.{rounded_up}
+use Rattle.pv_model.specs.Machine.{block_count, used_content, used_index, is_data_block, rounded_up}
 use Rattle.pv_image_mount.specs.Rows.{pointed_row, pointer_row}
 use Rattle.pv_image_mount.proofs.InodeContents.{is_data-within, none_at}
 use Rattle.pv_image_mount.proofs.PointerRows.{length-row, used_rows}

@@ -1,7 +1,6 @@
 use Rattle.std.proofs.Common.{◌≡◌, ◌<◌, ℕ, length, take, get_or, ap, sym, subst, ◌∙◌, List}
 use Rattle.std.specs.Prelude.{flat_map}
-use Rattle.pv_model.specs.Image.{block, size, used_content}
-use Rattle.pv_model.specs.Mount.{block_number}
+use Rattle.pv_model.specs.Machine.{block, size, used_content, block_number}
 use Rattle.pv_image_mount.proofs.InodeContents.{content_within}
 use Rattle.pv_image_mount.proofs.image.Image.content.Goals as goal
 

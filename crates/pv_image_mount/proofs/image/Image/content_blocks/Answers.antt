@@ -1,6 +1,5 @@
 use Rattle.std.proofs.Common.{◌≡◌, ◌<◌, ℕ, length, get_or, sym, subst, ◌∙◌, List}
-use Rattle.pv_model.specs.Image.{used_index}
-use Rattle.pv_model.specs.Mount.{block_number}
+use Rattle.pv_model.specs.Machine.{used_index, block_number}
 use Rattle.pv_image_mount.proofs.InodeBlocks.{size_fits}
 use Rattle.pv_image_mount.proofs.InodeContents.{index_within}
 use Rattle.pv_image_mount.proofs.image.Image.content_blocks.Goals as goal

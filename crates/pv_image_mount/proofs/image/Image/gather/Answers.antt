@@ -1,5 +1,5 @@
 use Rattle.std.proofs.Common.{[]}
-use Rattle.pv_model.specs.Image.{block}
+use Rattle.pv_model.specs.Machine.{block}
 use Rattle.pv_image_mount.proofs.PointerRows.{joined_more}
 use Rattle.pv_image_mount.proofs.image.Image.gather.Goals as goal
 

@@ -1,6 +1,6 @@
 use Rattle.std.proofs.Common.{◌≡◌, take}
 use Rattle.std.specs.Prelude.{flat_map}
-use Rattle.pv_model.specs.Image.{block}
+use Rattle.pv_model.specs.Machine.{block}
 use Rattle.pv_image_mount.proofs.image.Image.gather.Given as goal
 
 abbrev pub invariant-loop-k : goal.invariant-loop-k

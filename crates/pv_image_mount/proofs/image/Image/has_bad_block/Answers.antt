@@ -1,8 +1,7 @@
 use Rattle.std.proofs.Common.{◌≡◌, false, true, ap, sym, ◌∙◌, arith}
 use Rattle.std.proofs.lemmas.Bool.Decides.{nat_tests}
 use Rattle.pv_blocks.specs.BlockSet.{is_member}
-use Rattle.pv_model.specs.Image.{used_content, used_index}
-use Rattle.pv_model.specs.Mount.{is_data_block, is_free}
+use Rattle.pv_model.specs.Machine.{used_content, used_index, is_data_block, is_free}
 use Rattle.pv_image_mount.specs.Claims.{is_refused, is_taken_by}
 use Rattle.pv_image_mount.proofs.InodeBlocks.{bad_block-refused, has_used_more, size_fits, used_by-free, used_by-used}
 use Rattle.pv_image_mount.proofs.Refusals.{none_refused, refused_flips, taken_flips}

@@ -1,9 +1,7 @@
 use Rattle.std.proofs.Common.{◌≡◌, ◌*◌, ◌/◌, length, IfOk, ap, sym, subst, ◌∙◌}
 use Rattle.std.specs.Prelude.{◌==◌}
 use Rattle.std.specs.List.{list_any}
-use Rattle.pv_model.specs.Image.{content, size}
-use Rattle.pv_model.specs.Mount.{slots_of}
-use Rattle.pv_model.specs.Room.{entry_length}
+use Rattle.pv_model.specs.Machine.{content, size, slots_of, entry_length}
 use Rattle.pv_image_mount.specs.Slots.{are_bad_slots}
 use Rattle.pv_image_mount.proofs.BadContents.{in_directory, in_link, in_other, used_kind}
 use Rattle.pv_image_mount.proofs.InodeContents.{length_content}

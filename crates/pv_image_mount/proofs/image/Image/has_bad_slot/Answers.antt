@@ -1,7 +1,6 @@
 use Rattle.std.proofs.Common.{◌≡◌, ◌<◌, ◌/◌, length, false, ap, sym, subst, ◌∙◌, arith}
 use Rattle.std.specs.List.{list_any}
-use Rattle.pv_model.specs.Mount.{is_bad_slot, slots_of}
-use Rattle.pv_model.specs.Room.{entry_length}
+use Rattle.pv_model.specs.Machine.{is_bad_slot, slots_of, entry_length}
 use Rattle.pv_image_mount.proofs.SlotRows.{any_slot_at, any_slot_more}
 use Rattle.pv_image_mount.proofs.image.Image.has_bad_slot.Goals as goal
 

@@ -1,6 +1,5 @@
 use Rattle.std.proofs.Common.{◌≡◌, ◌≤◌, arith}
-use Rattle.pv_model.specs.Mount.{slot_length}
-use Rattle.pv_model.specs.Tree.{greatest_name}
+use Rattle.pv_model.specs.Machine.{slot_length, greatest_name}
 use Rattle.pv_image_mount.proofs.SlotRows.{name_within}
 use Rattle.pv_image_mount.proofs.image.Image.is_bad_slot.Goals as goal
 

@@ -1,6 +1,5 @@
 use Rattle.std.proofs.Common.{◌≡◌, ◌<◌, ◌/◌, length, map, ap, subst, ◌∙◌, arith}
-use Rattle.pv_model.specs.Mount.{slot_name, slots_of}
-use Rattle.pv_model.specs.Room.{entry_length}
+use Rattle.pv_model.specs.Machine.{slot_name, slots_of, entry_length}
 use Rattle.pv_image_mount.specs.Slots.{name_key, slot_at, slot_key}
 use Rattle.pv_image_mount.proofs.SlotRows.{keys_more, name_fits}
 use Rattle.pv_image_mount.proofs.image.Image.keys.Goals as goal

@@ -1,5 +1,5 @@
 use Rattle.std.proofs.Common.{◌≡◌, map}
-use Rattle.pv_model.specs.Mount.{slots_of}
+use Rattle.pv_model.specs.Machine.{slots_of}
 use Rattle.pv_image_mount.specs.Slots.{slot_key}
 use Rattle.pv_image_mount.proofs.image.Image.keys.Given as goal
 

@@ -1,5 +1,5 @@
 use Rattle.std.proofs.Common.{◌≡◌, ℕ, ◌<◌, ◌≤◌, false}
-use Rattle.pv_model.specs.Mount.{has_bad_content}
+use Rattle.pv_model.specs.Machine.{has_bad_content}
 use Rattle.pv_image_mount.proofs.image.Image.least_bad_content.Given as goal
 
 -- the inodes so far are valid

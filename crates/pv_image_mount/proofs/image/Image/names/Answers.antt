@@ -1,6 +1,5 @@
 use Rattle.std.proofs.Common.{◌≡◌, ◌<◌, ◌/◌, ℕ, List, Bor, length, map, ap, subst, ◌∙◌, arith}
-use Rattle.pv_model.specs.Mount.{slot_name, slots_of}
-use Rattle.pv_model.specs.Room.{entry_length}
+use Rattle.pv_model.specs.Machine.{slot_name, slots_of, entry_length}
 use Rattle.pv_image_mount.proofs.SlotRows.{name_fits, names_more}
 use Rattle.pv_image_mount.proofs.image.Image.names.Goals as goal
 

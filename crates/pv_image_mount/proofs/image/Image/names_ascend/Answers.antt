@@ -2,9 +2,7 @@ use Rattle.std.proofs.Common.{◌≡◌, ◌-◌, ◌<◌, ◌≤◌, ◌/◌, �
 use Rattle.std.specs.Cmp.Lexicographic.{slice_cmp}
 use Rattle.std.specs.Ordering.{nat_cmp, is_lt}
 use Rattle.pv_model.specs.declared.version.Version.{Version}
-use Rattle.pv_model.specs.Bytes.{Bytes}
-use Rattle.pv_model.specs.Mount.{slot_name}
-use Rattle.pv_model.specs.Room.{entry_length}
+use Rattle.pv_model.specs.Machine.{Bytes, slot_name, entry_length}
 use Rattle.pv_image_mount.specs.Slots.{slot_at}
 use Rattle.pv_image_mount.proofs.SlotRows.{name_fits}
 use Rattle.pv_image_mount.proofs.image.Image.names_ascend.Goals as goal

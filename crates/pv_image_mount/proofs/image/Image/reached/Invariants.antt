@@ -1,5 +1,5 @@
 use Rattle.std.proofs.Common.{◌+◌, ◌-◌}
-use Rattle.pv_model.specs.Mount.{inode_number}
+use Rattle.pv_model.specs.Machine.{inode_number}
 use Rattle.pv_image_mount.proofs.Reaching.{IsVisited}
 use Rattle.pv_image_mount.proofs.image.Image.reached.Given as goal
 

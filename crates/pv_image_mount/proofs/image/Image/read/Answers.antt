@@ -1,5 +1,5 @@
 use Rattle.std.proofs.Common.{sym, ◌∙◌}
-use Rattle.pv_laws_trees.proofs.Faults.{version_of-magic, magic-version_of}
+use Rattle.pv_laws_trees.proofs.FirstErrors.{version_of-magic, magic-version_of}
 use Rattle.pv_model.specs.Mount.{short, other_magic, other_sizes}
 use Rattle.pv_image_mount.proofs.image.Image.read.Goals as goal
 

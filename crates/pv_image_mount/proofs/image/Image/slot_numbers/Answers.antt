@@ -1,5 +1,5 @@
 use Rattle.std.proofs.Common.{◌≡◌, map, ap, subst, ◌∙◌, arith}
-use Rattle.pv_model.specs.Mount.{slot_number, slots_of}
+use Rattle.pv_model.specs.Machine.{slot_number, slots_of}
 use Rattle.pv_image_mount.proofs.SlotTargets.{numbers_more, slot_long}
 use Rattle.pv_image_mount.proofs.image.Image.slot_numbers.Goals as goal
 

@@ -1,7 +1,5 @@
 use Rattle.std.proofs.Common.{◌≡◌, ◌*◌, ◌/◌, length, map, ap, sym, ◌∙◌}
-use Rattle.pv_model.specs.Image.{content, size}
-use Rattle.pv_model.specs.Mount.{kind, slot_number, slots_of}
-use Rattle.pv_model.specs.Room.{entry_length}
+use Rattle.pv_model.specs.Machine.{content, size, kind, slot_number, slots_of, entry_length}
 use Rattle.pv_image_mount.specs.Places.{targets_of}
 use Rattle.pv_image_mount.proofs.BadContents.{other, used_kind}
 use Rattle.pv_image_mount.proofs.InodeContents.{length_content}

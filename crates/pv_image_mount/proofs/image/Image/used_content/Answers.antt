@@ -1,7 +1,7 @@
 use Rattle.std.proofs.Common.{◌≡◌, ◌++◌, ◌-◌, ℕ, length, min, take, drop, append-nil, ap, sym, ◌∙◌, arith}
 use Rattle.std.specs.Prelude.{flat_map}
 use Rattle.std.proofs.lemmas.List.{take_all, take_rest}
-use Rattle.pv_model.specs.Image.{block, block_count, inode}
+use Rattle.pv_model.specs.Machine.{block, block_count, inode}
 use Rattle.pv_image_mount.specs.Rows.{pointer_row}
 use Rattle.pv_image_mount.proofs.PointerRows.{content_more, take-row, used_content-rows}
 use Rattle.pv_image_mount.proofs.image.Image.used_content.Goals as goal

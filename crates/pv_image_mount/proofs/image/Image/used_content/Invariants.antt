@@ -1,6 +1,6 @@
 use Rattle.std.proofs.Common.{◌≡◌, ◌++◌, take, drop}
 use Rattle.std.specs.Prelude.{flat_map}
-use Rattle.pv_model.specs.Image.{block, block_count, inode}
+use Rattle.pv_model.specs.Machine.{block, block_count, inode}
 use Rattle.pv_image_mount.specs.Rows.{pointer_row}
 use Rattle.pv_image_mount.proofs.image.Image.used_content.Given as goal
 

@@ -1,7 +1,6 @@
 use Rattle.std.proofs.Common.{◌≡◌, ◌-◌, drop, ap, rules}
 use Rattle.std.proofs.lemmas.List.{take_rest}
-use Rattle.pv_model.specs.Image.{block_count, inode}
-use Rattle.pv_model.specs.Room.{rounded_up}
+use Rattle.pv_model.specs.Machine.{block_count, inode, rounded_up}
 use Rattle.pv_image_mount.specs.Rows.{pointer_row}
 use Rattle.pv_image_mount.proofs.PointerRows.{used_index-row}
 use Rattle.pv_image_mount.proofs.image.Image.used_index.Goals as goal

@@ -1,5 +1,5 @@
 use Rattle.std.proofs.Common.{◌≤◌, ap, sym, ◌∙◌, arith}
-use Rattle.pv_model.specs.Effect.{resize}
+use Rattle.pv_model.specs.Machine.{resize}
 use Rattle.pv_inodes.specs.Files.{bytes_at, with_bytes}
 use Rattle.pv_inodes.proofs.Bytes.{resize-itself}
 use Rattle.pv_inodes.proofs.Edits.{with_bytes-itself, used-grown, length-grown, grown-more, room-shorter}

@@ -1,5 +1,5 @@
 use Rattle.std.proofs.Common.{◌≡◌, ◌-◌, ◌≤◌, length}
-use Rattle.pv_model.specs.Effect.{resize}
+use Rattle.pv_model.specs.Machine.{resize}
 use Rattle.pv_inodes.specs.Files.{bytes_at, with_bytes}
 use Rattle.pv_inodes.proofs.inodes.Inodes.grow.Given as goal
 

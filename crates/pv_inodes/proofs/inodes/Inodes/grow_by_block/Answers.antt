@@ -1,5 +1,5 @@
 use Rattle.std.proofs.Common.{◌≡◌, ◌+◌, length, ap, sym, ◌∙◌, arith}
-use Rattle.pv_model.specs.Effect.{resize}
+use Rattle.pv_model.specs.Machine.{resize}
 use Rattle.pv_inodes.proofs.Bytes.{length-resize}
 use Rattle.pv_inodes.specs.Files.{bytes_at}
 use Rattle.pv_inodes.specs.Layout.{owned_count, wanted}

@@ -1,6 +1,6 @@
 use Rattle.std.proofs.Common.{◌≡◌, ◌≤◌, ◌+◌, suc, length, sym, ap, ◌∙◌, arith}
 use Rattle.pv_blocks.specs.BlockStore.{free_count}
-use Rattle.pv_model.specs.Effect.{resize}
+use Rattle.pv_model.specs.Machine.{resize}
 use Rattle.pv_inodes.proofs.Bytes.{length-resize}
 use Rattle.pv_inodes.specs.Files.{bytes_at}
 use Rattle.pv_inodes.specs.Layout.{most_owned, wanted}

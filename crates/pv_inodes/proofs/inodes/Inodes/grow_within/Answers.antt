@@ -1,5 +1,5 @@
 use Rattle.std.proofs.Common.{◌≡◌, ◌/◌, ◌<◌, length, refl, ap, ◌∙◌, arith}
-use Rattle.pv_model.specs.Effect.{resize}
+use Rattle.pv_model.specs.Machine.{resize}
 use Rattle.pv_blocks.specs.BlockStore.{BlockStore}
 use Rattle.pv_inodes.specs.Files.{bytes_at}
 use Rattle.pv_inodes.specs.Layout.{size_at, owned_at, owned_count, place_of}

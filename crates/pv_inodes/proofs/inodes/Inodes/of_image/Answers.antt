@@ -1,6 +1,6 @@
 use Rattle.std.proofs.Common.{◌≡◌, suc, ◌+◌, ◌/◌, ◌<◌, List, ap, sym, ◌∙◌, vec_len, arith}
 use Rattle.pv_blocks.specs.BlockStore.{free_from}
-use Rattle.pv_model.specs.Bytes.{Bytes}
+use Rattle.pv_model.specs.Machine.{Bytes}
 use Rattle.pv_inodes.specs.Layout.{owned_count}
 use Rattle.pv_inodes.specs.Sound.{first_data}
 use Rattle.pv_inodes.proofs.Layouts.{first_data-is}

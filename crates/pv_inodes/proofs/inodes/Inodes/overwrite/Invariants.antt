@@ -1,5 +1,5 @@
 use Rattle.std.proofs.Common.{◌≡◌, ◌-◌, ◌≤◌, length, take}
-use Rattle.pv_model.specs.Effect.{overwrite}
+use Rattle.pv_model.specs.Machine.{overwrite}
 use Rattle.pv_inodes.specs.Files.{bytes_at, with_bytes}
 use Rattle.pv_inodes.proofs.inodes.Inodes.overwrite.Given as goal
 

@@ -1,6 +1,5 @@
 use Rattle.std.proofs.Common.{◌≡◌, ◌-◌, suc, List, length, refl, ap, sym, subst, ◌∙◌, arith}
-use Rattle.pv_model.specs.Bytes.{Bytes}
-use Rattle.pv_model.specs.Effect.{resize}
+use Rattle.pv_model.specs.Machine.{Bytes, resize}
 use Rattle.pv_inodes.specs.Files.{bytes_at}
 use Rattle.pv_inodes.specs.Layout.{owned_at, owned_count, wanted}
 use Rattle.pv_inodes.proofs.Growth.{Reduced, reduced_none, reduced_more, MayGiveBack, may_give_back, reduced-index}

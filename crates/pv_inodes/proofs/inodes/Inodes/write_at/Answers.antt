@@ -1,7 +1,6 @@
 use Rattle.std.proofs.Common.{◌≡◌, ◌+◌, ◌<◌, max, length, refl, sym, ap, ◌∙◌, arith}
 use Rattle.std.proofs.lemmas.Bool.{eqb-false}
-use Rattle.pv_model.specs.Effect.{resize}
-use Rattle.pv_model.specs.Room.{greatest_length}
+use Rattle.pv_model.specs.Machine.{resize, greatest_length}
 use Rattle.pv_inodes.specs.Files.{Files, bytes_at}
 use Rattle.pv_inodes.proofs.Bytes.{length-resize}
 use Rattle.pv_inodes.proofs.Edits.{used-with_bytes, bytes_at-with_bytes, lacks_room-written, has_room-written, written-lengthened}

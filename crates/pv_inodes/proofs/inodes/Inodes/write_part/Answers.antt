@@ -1,5 +1,5 @@
 use Rattle.std.proofs.Common.{◌/◌, ◌<◌, arith}
-use Rattle.pv_model.specs.Effect.{overwrite}
+use Rattle.pv_model.specs.Machine.{overwrite}
 use Rattle.pv_inodes.specs.Files.{bytes_at}
 use Rattle.pv_inodes.specs.Layout.{owned_count, place_of}
 use Rattle.pv_inodes.proofs.InUse.{InUse, in_use, place_in_use}

@@ -1,5 +1,5 @@
 use Rattle.std.proofs.Common.{ap, sym, ◌∙◌}
-use Rattle.pv_model.specs.Tree.{node_at}
+use Rattle.pv_model.specs.Machine.{node_at}
 use Rattle.pv_model.specs.Walk.{along}
 use Rattle.pv_namei.specs.Onward.{following, entered}
 use Rattle.pv_namei.proofs.Nodes.{directory-entered}

@@ -1,5 +1,5 @@
 use Rattle.std.proofs.Common.{◌≡◌, IsTrue, length}
-use Rattle.pv_model.specs.Tree.{is_directory_at, find_entry}
+use Rattle.pv_model.specs.Machine.{is_directory_at, find_entry}
 use Rattle.pv_namei.specs.Onward.{remaining}
 use Rattle.pv_namei.proofs.walk.WalkState.go.Given as goal
 

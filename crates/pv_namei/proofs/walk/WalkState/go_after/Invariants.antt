@@ -1,6 +1,5 @@
 use Rattle.std.proofs.Common.{◌≡◌, IsTrue}
-use Rattle.pv_model.specs.Calls.Paths.{link_text}
-use Rattle.pv_model.specs.Tree.{node_at, is_directory_at, find_entry}
+use Rattle.pv_model.specs.Machine.{link_text, node_at, is_directory_at, find_entry}
 use Rattle.pv_namei.specs.Onward.{followed, remaining}
 use Rattle.pv_namei.proofs.walk.WalkState.go_after.Given as goal
 

@@ -1,6 +1,5 @@
 use Rattle.std.proofs.Common.{sym, refl, subst, arith}
-use Rattle.pv_model.specs.Answer.{at_next_line}
-use Rattle.pv_model.specs.State.{Program}
+use Rattle.pv_model.specs.Machine.{at_next_line, Program}
 use Rattle.pv_script.specs.Context.{Changes}
 use Rattle.pv_procs.specs.Slots.{process_of, program_at}
 use Rattle.pv_procs.proofs.Finding.{found-at, live-slot, status-at}

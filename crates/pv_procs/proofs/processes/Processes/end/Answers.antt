@@ -1,6 +1,6 @@
 use Rattle.std.proofs.Common.{◌≡◌, ◌∙◌, List, length, sym, ap, ap₂, subst, arith}
 use Rattle.std.proofs.lemmas.List.{with_items_is}
-use Rattle.pv_model.specs.Calls.Processes.{end_process}
+use Rattle.pv_model.specs.Machine.{end_process}
 use Rattle.pv_procs.specs.declared.slot.ProcessSlot.{ProcessSlot}
 use Rattle.pv_procs.specs.declared.shared.Shared.{Shared}
 use Rattle.pv_procs.specs.Slots.{IsConsistent, table_of, ascends, program_at}

@@ -1,7 +1,6 @@
 use Rattle.std.proofs.Common.{◌≡◌, ◌≢◌, ◌+◌, ◌<◌, ◌∙◌, ℕ, suc, List, [], ◌∷◌, ◌++◌, length, sym, ap, ap₂, subst, add-one, arith}
 use Rattle.std.proofs.lemmas.List.{with_items_is}
-use Rattle.pv_model.specs.Calls.Processes.{fork}
-use Rattle.pv_model.specs.Effect.{answers}
+use Rattle.pv_model.specs.Machine.{fork, answers}
 use Rattle.pv_procs.specs.declared.slot.ProcessSlot.{ProcessSlot}
 use Rattle.pv_procs.specs.declared.shared.Shared.{Shared}
 use Rattle.pv_procs.specs.Children.{child_slot}

@@ -1,5 +1,5 @@
 use Rattle.std.proofs.Common.{◌∙◌, sym, ap, is_some}
-use Rattle.pv_model.specs.State.{live_process}
+use Rattle.pv_model.specs.Machine.{live_process}
 use Rattle.pv_procs.specs.Slots.{program_at}
 use Rattle.pv_procs.proofs.Finding.{found-at, seen-none, seen-at, live_test}
 use Rattle.pv_procs.proofs.processes.Processes.live.Goals as goal

@@ -1,5 +1,5 @@
 use Rattle.std.proofs.Common.{◌∙◌, sym, ap, Some, option_map}
-use Rattle.pv_model.specs.Calls.Processes.{parent_of}
+use Rattle.pv_model.specs.Machine.{parent_of}
 use Rattle.pv_procs.specs.Slots.{program_at}
 use Rattle.pv_procs.proofs.Finding.{found-at, seen-none, seen-at, parent-entry}
 use Rattle.pv_procs.proofs.processes.Processes.parent_of.Goals as goal

@@ -1,5 +1,5 @@
 use Rattle.std.proofs.Common.{◌≡◌, false, refl, subst, sym}
-use Rattle.pv_model.specs.State.{Process, Program}
+use Rattle.pv_model.specs.Machine.{Process, Program}
 use Rattle.pv_script.specs.Context.{in_context, is_inside}
 use Rattle.pv_script.specs.Passing.{Passes}
 use Rattle.pv_procs.specs.Slots.{process_of, program_at}

@@ -1,5 +1,5 @@
 use Rattle.std.proofs.Common.{◌∙◌, ap, Some, option_map, arith}
-use Rattle.pv_model.specs.State.{Process}
+use Rattle.pv_model.specs.Machine.{Process}
 use Rattle.pv_procs.proofs.Finding.{found-at, live-slot, process-at, status-at}
 use Rattle.pv_procs.proofs.Ends.{program-within}
 use Rattle.pv_procs.proofs.Turning.{program-read}

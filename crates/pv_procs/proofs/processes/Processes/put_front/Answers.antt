@@ -1,5 +1,5 @@
 use Rattle.std.proofs.Common.{refl}
-use Rattle.pv_model.specs.Answer.{with_front}
+use Rattle.pv_model.specs.Machine.{with_front}
 use Rattle.pv_procs.specs.Slots.{process_of, program_at}
 use Rattle.pv_procs.proofs.Finding.{found-at, live-slot, status-at}
 use Rattle.pv_procs.proofs.Keeping.{preserved-set, roomy-set}

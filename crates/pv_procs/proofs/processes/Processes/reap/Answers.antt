@@ -1,5 +1,5 @@
 use Rattle.std.proofs.Common.{◌∙◌, List, sym, ap, subst, arith}
-use Rattle.pv_model.specs.Calls.Processes.{wait}
+use Rattle.pv_model.specs.Machine.{wait}
 use Rattle.pv_procs.specs.declared.slot.ProcessSlot.{ProcessSlot}
 use Rattle.pv_procs.specs.declared.processes.Reap.TheVariants.{Child, Blocked}
 use Rattle.pv_procs.specs.Slots.{IsConsistent, table_of}

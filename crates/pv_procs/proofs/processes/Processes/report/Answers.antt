@@ -1,6 +1,6 @@
 use Rattle.std.proofs.Common.{refl, w32}
 use Rattle.std.proofs.lemmas.Int.{to_z-of_z}
-use Rattle.pv_model.specs.Calls.Processes.{with_result}
+use Rattle.pv_model.specs.Machine.{with_result}
 use Rattle.pv_procs.specs.Slots.{process_of, program_at}
 use Rattle.pv_procs.proofs.Finding.{found-at, live-slot, status-at}
 use Rattle.pv_procs.proofs.Keeping.{preserved-set, roomy-set}

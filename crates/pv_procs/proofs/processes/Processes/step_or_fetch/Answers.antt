@@ -1,7 +1,5 @@
 use Rattle.std.proofs.Common.{◌≡◌, sym, subst, refl, slice_set}
-use Rattle.pv_model.specs.CallRef.{call_of}
-use Rattle.pv_model.specs.Program.{inside, calls_for, next}
-use Rattle.pv_model.specs.State.{Program, Process}
+use Rattle.pv_model.specs.Machine.{call_of, inside, calls_for, next, Program, Process}
 use Rattle.pv_script.specs.Context.{in_context}
 use Rattle.pv_procs.specs.declared.processes.Fetched.{Fetched}
 use Rattle.pv_procs.specs.Slots.{process_of, program_at, table_of}

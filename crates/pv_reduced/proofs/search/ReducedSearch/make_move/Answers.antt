@@ -1,16 +1,16 @@
 use Rattle.std.proofs.Common.{◌∙◌, ap, List, refl, ℕ}
 use Rattle.std.specs.Global.{Vec}
-use Rattle.pv_answers.proofs.Writing.{or_as}
+use Rattle.pv_state_encoding.proofs.OfAnswers.Writing.{or_as}
 use Rattle.pv_reduced.proofs.Finding.{bytes-is, visited-at-is, visited-is}
-use Rattle.pv_explain.proofs.Stops.{no_memory, no_memory_after, still_ok, stopped}
+use Rattle.pv_explore.proofs.OfStepLines.Stops.{no_memory, no_memory_after, still_ok, stopped}
 use Rattle.pv_explore.specs.Plan.{reported_after, reported_bytes}
 use Rattle.pv_reduced.specs.Plan.{Visited}
 use Rattle.pv_reduced.specs.Searches.{visited_of, witness_at}
 use Rattle.pv_explore.specs.Witnesses.{longer}
 use Rattle.pv_laws_classes.specs.Reduced.{bound_by}
-use Rattle.pv_model.specs.State.{State}
-use Rattle.pv_session.specs.Running.{stepped}
-use Rattle.pv_step_cache.specs.Steps.{texts_in}
+use Rattle.pv_model.specs.Machine.{State}
+use Rattle.pv_explore.specs.OfSession.Running.{stepped}
+use Rattle.pv_explore.specs.OfStepCache.Steps.{texts_in}
 use Rattle.pv_reduced.proofs.search.ReducedSearch.make_move.Goals as goal
 
 pub returns-in_err-position-clause-written : goal.returns-in_err-position-clause-written

@@ -2,12 +2,11 @@ use Rattle.std.proofs.Common.{◌≡◌, ◌∙◌, ℕ, List, [], Option, ap, a
 use Rattle.std.specs.Prelude.{IfSome}
 use Rattle.std.proofs.lemmas.List.{drop_all}
 use Rattle.std.proofs.lemmas.Option.{get_or_from_slice_get, slice_get-get_or, slice_get_within}
-use Rattle.pv_answers.proofs.Writing.{but_from, or_as}
-use Rattle.pv_explain.proofs.Stops.{but_ends, but_no_memory, but_stopped, but_then, no_memory}
+use Rattle.pv_state_encoding.proofs.OfAnswers.Writing.{but_from, or_as}
+use Rattle.pv_explore.proofs.OfStepLines.Stops.{but_ends, but_no_memory, but_stopped, but_then, no_memory}
 use Rattle.pv_explore.specs.Plan.{move_at, state_at}
 use Rattle.pv_laws_classes.specs.Reduced.{bound_by}
-use Rattle.pv_model.specs.Grammar.Programs.{program_of}
-use Rattle.pv_model.specs.State.{State}
+use Rattle.pv_model.specs.Machine.{program_of, State}
 use Rattle.pv_reduced.specs.Plan.{bytes_at, texts_at, visited_after_steps, visited_at}
 use Rattle.pv_reduced.specs.Searches.{visited_of, witness_at}
 use Rattle.pv_reduced.proofs.Finding.{if_some-at, steps-end, steps-next, steps_left, visited-next, visited-witness}

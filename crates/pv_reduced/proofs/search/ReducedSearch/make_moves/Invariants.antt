@@ -1,12 +1,11 @@
 use Rattle.std.proofs.Common.{◌≡◌, Some, drop, slice_get}
 use Rattle.std.specs.Prelude.{IfSome}
-use Rattle.pv_answers.proofs.Writing.{WritesBut}
+use Rattle.pv_state_encoding.proofs.OfAnswers.Writing.{WritesBut}
 use Rattle.pv_reduced.specs.Plan.{visited_after_steps}
 use Rattle.pv_reduced.specs.Searches.{visited_of, witness_at}
 use Rattle.pv_reduced.proofs.Finding.{steps_left}
 use Rattle.pv_explore.specs.Plan.{state_at}
-use Rattle.pv_model.specs.Grammar.Programs.{program_of}
-use Rattle.pv_model.specs.State.{State}
+use Rattle.pv_model.specs.Machine.{program_of, State}
 use Rattle.pv_reduced.proofs.search.ReducedSearch.make_moves.Given as goal
 
 abbrev pub invariant-loop-pid : goal.invariant-loop-pid

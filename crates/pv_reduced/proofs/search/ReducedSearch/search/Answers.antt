@@ -1,11 +1,11 @@
 use Rattle.std.proofs.Common.{◌≡◌, ◌-◌, arith, ◌∙◌, ap, refl}
 use Rattle.std.proofs.lemmas.Option.{slice_get_within}
-use Rattle.pv_answers.proofs.Writing.{but_from, or_as}
+use Rattle.pv_state_encoding.proofs.OfAnswers.Writing.{but_from, or_as}
 use Rattle.pv_reduced.specs.Plan.{visited_after_steps, visited_from}
 use Rattle.pv_reduced.proofs.Finding.{found-none, found-witness, left-next, left-none, long-after, reported-next, reported-none, reported-past, reported-start}
-use Rattle.pv_explain.proofs.Stops.{but_ends, but_stopped, but_then}
+use Rattle.pv_explore.proofs.OfStepLines.Stops.{but_ends, but_stopped, but_then}
 use Rattle.pv_reduced.specs.Searches.{moving_in, visited_of, witness_at}
-use Rattle.pv_model.specs.Grammar.Programs.{program_of}
+use Rattle.pv_model.specs.Machine.{program_of}
 use Rattle.pv_reduced.proofs.search.ReducedSearch.search.Goals as goal
 
 pub loop-number-init : goal.loop-number-init

@@ -1,5 +1,5 @@
 use Rattle.std.proofs.Common.{◌≡◌}
-use Rattle.pv_answers.proofs.Writing.{WritesBut}
+use Rattle.pv_state_encoding.proofs.OfAnswers.Writing.{WritesBut}
 use Rattle.pv_reduced.specs.Searches.{HaveWitnesses, visited_of}
 use Rattle.pv_reduced.proofs.Finding.{visited_left, reported_left}
 use Rattle.pv_reduced.proofs.search.ReducedSearch.search.Given as goal

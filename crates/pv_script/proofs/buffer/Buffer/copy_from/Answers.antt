@@ -1,6 +1,6 @@
 use Rattle.std.proofs.Common.{◌∙◌, ◌++◌, ap₂, drop, length, subst, sym, take}
 use Rattle.std.proofs.lemmas.List.{take_at}
-use Rattle.pv_model.specs.Bytes.{Bytes}
+use Rattle.pv_model.specs.Machine.{Bytes}
 use Rattle.pv_script.specs.Written.{IsZeroAfter}
 use Rattle.pv_script.proofs.Buffers.{copied}
 use Rattle.pv_script.proofs.buffer.Buffer.copy_from.Goals as goal

@@ -2,7 +2,7 @@ use Rattle.std.proofs.Common.{◌≡◌, ◌∙◌, ap, refl, pos, ◌+ℤ◌, t
 use Rattle.std.specs.Prelude.{slice_index}
 use Rattle.std.proofs.lemmas.Int.{ints}
 use Rattle.pv_model.specs.Program.{clamp, is_zero, is_negative}
-use Rattle.pv_model.specs.State.{Process}
+use Rattle.pv_model.specs.Machine.{Process}
 use Rattle.pv_script.specs.Context.{at_line}
 use Rattle.pv_script.proofs.Contexts.{set_made, add_made, peek_made, put_made, jump_if_zero_made, jump_if_not_zero_made, jump_if_negative_made}
 use Rattle.pv_script.proofs.context.Context.make.Goals as goal

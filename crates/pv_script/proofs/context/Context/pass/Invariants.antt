@@ -1,5 +1,5 @@
 use Rattle.std.proofs.Common.{◌≤◌, ◌-◌}
-use Rattle.pv_model.specs.State.{Process}
+use Rattle.pv_model.specs.Machine.{Process}
 use Rattle.pv_script.specs.Context.{in_context, at_line}
 use Rattle.pv_script.specs.Passing.{Passes}
 use Rattle.pv_script.proofs.context.Context.pass.Given as goal

@@ -1,6 +1,6 @@
 use Rattle.std.proofs.Common.{◌≡◌, ◌∙◌, ap, to_z, of_z, w32, arith}
 use Rattle.std.proofs.lemmas.Int.{ints}
-use Rattle.pv_model.specs.Answer.{at_next_line}
+use Rattle.pv_model.specs.Machine.{at_next_line}
 use Rattle.pv_model.specs.Program.{with_register}
 use Rattle.pv_script.specs.Context.{in_context, at_line}
 use Rattle.pv_script.proofs.context.Context.set.Goals as goal

@@ -1,5 +1,5 @@
 use Rattle.std.proofs.Common.{refl, arith}
-use Rattle.pv_model.specs.Grammar.Programs.{read_program}
+use Rattle.pv_model.specs.Machine.{read_program}
 use Rattle.pv_script.proofs.WholePrograms.{IsProgramSoFar-start}
 use Rattle.pv_script.proofs.program.Program.parse.Goals as goal
 

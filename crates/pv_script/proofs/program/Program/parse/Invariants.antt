@@ -1,6 +1,5 @@
 use Rattle.std.proofs.Common.{◌≡◌, ◌≤◌, ◌+◌, length}
-use Rattle.pv_model.specs.Grammar.Instructions.{instruction_of}
-use Rattle.pv_model.specs.Grammar.Programs.{read_program}
+use Rattle.pv_model.specs.Machine.{instruction_of, read_program}
 use Rattle.pv_script.proofs.WholePrograms.{IsProgramSoFar}
 use Rattle.pv_script.proofs.program.Program.parse.Given as goal
 

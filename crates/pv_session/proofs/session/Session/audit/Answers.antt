@@ -3,7 +3,7 @@ use Rattle.pv_laws_states.specs.States.{IsValid}
 use Rattle.pv_model.specs.declared.verdict.AuditFault.{AuditFault}
 use Rattle.pv_model.specs.declared.verdict.Verdict.{Verdict}
 use Rattle.pv_model.specs.Sealed.{audit}
-use Rattle.pv_model.specs.State.{State}
+use Rattle.pv_model.specs.Machine.{State}
 use Rattle.pv_session.specs.Audits.{KeepsSecret}
 use Rattle.pv_session.proofs.Audited.{audit-keeps_secret}
 use Rattle.pv_calls.specs.Kernel.{Running}

@@ -2,8 +2,7 @@ use Rattle.std.proofs.Common.{Result, Some, sym, ap, subst, ◌∙◌}
 use Rattle.pv_laws_states.specs.States.{IsValid}
 use Rattle.pv_model.specs.declared.verdict.AuditFault.{AuditFault}
 use Rattle.pv_model.specs.declared.verdict.Verdict.{Verdict}
-use Rattle.pv_model.specs.Sealed.{audit_node}
-use Rattle.pv_model.specs.State.{State}
+use Rattle.pv_model.specs.Machine.{audit_node, State}
 use Rattle.pv_session.specs.Audits.{KeepsSecretAt}
 use Rattle.pv_session.proofs.Audited.{audit_node-keeps_secret}
 use Rattle.pv_calls.specs.Kernel.{Running}

@@ -1,11 +1,8 @@
 use Rattle.std.proofs.Common.{◌≡◌, ap, sym, ◌∙◌, subst}
 use Rattle.std.specs.Prelude.{IfOk, OnOk}
-use Rattle.pv_model.specs.CallRef.{call_of}
-use Rattle.pv_model.specs.Grammar.Programs.{program_of}
-use Rattle.pv_model.specs.State.{State}
-use Rattle.pv_model.specs.Step.{Stepped}
+use Rattle.pv_model.specs.Machine.{call_of, program_of, State, Stepped}
 use Rattle.pv_session.specs.Running.{stepped}
-use Rattle.pv_laws_access.proofs.JustReads.{all-justified}
+use Rattle.pv_calls.proofs.OfLawsAccess.JustifiedReads.{all-justified}
 use Rattle.pv_session.proofs.Restrained.{child, others, own}
 use Rattle.pv_session.proofs.Stopped.{called-loads}
 use Rattle.pv_session.proofs.Stepping.{Asks, called-after, called-outcome, step-gone, inside-after, inside-outcome}

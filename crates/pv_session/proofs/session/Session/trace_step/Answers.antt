@@ -1,6 +1,5 @@
 use Rattle.std.proofs.Common.{ap, sym, ◌∙◌, refl, subst, length, List, rules}
-use Rattle.pv_model.specs.Step.{Stepped}
-use Rattle.pv_model.specs.Trace.{Line}
+use Rattle.pv_model.specs.Machine.{Stepped, Line}
 use Rattle.pv_streams.proofs.Reporting.{on_err}
 use Rattle.pv_session.specs.Running.{BeginsLines, WrittenLines, stepped}
 use Rattle.pv_session.proofs.Stepping.{step-gone, gone-lines, inside-is, inside-after, written-none}

@@ -1,6 +1,5 @@
 use Rattle.std.proofs.Common.{◌≡◌, ◌+◌, ◌-◌, true}
-use Rattle.pv_model.specs.Calls.Paths.{contains_directory}
-use Rattle.pv_model.specs.Tree.{is_directory_at}
+use Rattle.pv_model.specs.Machine.{contains_directory, is_directory_at}
 use Rattle.pv_tree.proofs.Parents.{is_among}
 use Rattle.pv_tree.proofs.tree.Tree.contains.Given as goal
 

@@ -1,8 +1,7 @@
 use Rattle.std.proofs.Common.{◌≡◌, ◌≤◌, None, Some, length, refl, ap, sym, subst, ◌∙◌}
 use Rattle.std.specs.Prelude.{OnOk, IfErr}
 use Rattle.std.proofs.lemmas.Result.{on_ok_weaker, on_err_weaker}
-use Rattle.pv_model.specs.Sealed.{is_file}
-use Rattle.pv_model.specs.Tree.{Tree, node_at}
+use Rattle.pv_model.specs.Machine.{is_file, Tree, node_at}
 use Rattle.pv_dirs.specs.Trees.{bytes_at}
 use Rattle.pv_tree.specs.Changes.{resized}
 use Rattle.pv_tree.specs.Holding.{HeldTree, with_tree}

@@ -1,6 +1,6 @@
 use Rattle.std.proofs.Common.{◌≡◌, ◌-◌, ◌%◌, take, drop, ap, ◌∙◌, arith}
 use Rattle.std.proofs.lemmas.List.{length-drop}
-use Rattle.pv_model.specs.Tree.{Tree}
+use Rattle.pv_model.specs.Machine.{Tree}
 use Rattle.pv_dirs.specs.Trees.{bytes_at}
 use Rattle.pv_tree.specs.Holding.{HeldTree}
 use Rattle.pv_tree.proofs.Lending.{run-is, run-some, run-within}

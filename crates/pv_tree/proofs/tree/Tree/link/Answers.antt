@@ -1,10 +1,10 @@
 use Rattle.std.proofs.Common.{◌≡◌, ◌+◌, is_some, ap, subst, sym, ◌∙◌, arith}
 use Rattle.std.specs.Prelude.{slice_index, slice_set}
 use Rattle.pv_laws_trees.specs.Tree.{Appears}
-use Rattle.pv_model.specs.Tree.{Tree, node_at, find_entry, is_directory_at, is_name, with_entry}
+use Rattle.pv_model.specs.Machine.{Tree, node_at, find_entry, is_directory_at, is_name, with_entry}
 use Rattle.pv_tree.specs.Present.{IsTied}
-use Rattle.pv_laws_trees.proofs.Encoded.{bytes-all}
-use Rattle.pv_laws_trees.proofs.Found.{alike-with}
+use Rattle.pv_laws_trees.proofs.TreeBytes.{bytes-all}
+use Rattle.pv_laws_trees.proofs.Lookups.{alike-with}
 use Rattle.pv_tree.proofs.Counting.{below-seen}
 use Rattle.pv_tree.proofs.Elsewhere.{but-along}
 use Rattle.pv_tree.proofs.Linking.{count-fits, linked-tied}

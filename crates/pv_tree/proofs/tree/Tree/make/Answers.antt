@@ -1,10 +1,10 @@
 use Rattle.std.proofs.Common.{◌≡◌, ◌<◌, length, ap, subst, sym, ◌∙◌}
 use Rattle.std.specs.Prelude.{slice_set, IsSome}
-use Rattle.pv_model.specs.Tree.{Tree, find_entry, is_directory_at, is_name, is_node, node_at, new_number, with_new_node}
+use Rattle.pv_model.specs.Machine.{Tree, find_entry, is_directory_at, is_name, is_node, node_at, new_number, with_new_node}
 use Rattle.pv_laws_trees.specs.Tree.{Appears}
 use Rattle.pv_tree.specs.Changes.{new_node}
 use Rattle.pv_tree.specs.Present.{IsTied}
-use Rattle.pv_laws_trees.proofs.Encoded.{bytes-all}
+use Rattle.pv_laws_trees.proofs.TreeBytes.{bytes-all}
 use Rattle.pv_tree.proofs.Elsewhere.{but-along, alike-made, there-made}
 use Rattle.pv_tree.proofs.Made.{made-tied}
 use Rattle.pv_tree.proofs.tree.Tree.make.Goals as goal

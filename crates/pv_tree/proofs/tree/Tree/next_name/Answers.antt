@@ -1,6 +1,6 @@
 use Rattle.std.proofs.Common.{Option, None, Some, sym, subst, arith, Bor}
 use Rattle.std.specs.Option.{option_copied}
-use Rattle.pv_model.specs.Bytes.{Bytes}
+use Rattle.pv_model.specs.Machine.{Bytes}
 use Rattle.pv_laws_trees.proofs.Trees.{ordered}
 use Rattle.pv_tree.specs.NodeNames.{last_of}
 use Rattle.pv_tree.proofs.Rising.{next-found, rest-found}

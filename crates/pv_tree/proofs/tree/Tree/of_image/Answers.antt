@@ -1,6 +1,5 @@
 use Rattle.std.proofs.Common.{◌≡◌, length, sym, subst, ◌∙◌, arith}
-use Rattle.pv_model.specs.Image.{IsImageOf}
-use Rattle.pv_model.specs.Tree.{Tree}
+use Rattle.pv_model.specs.Machine.{IsImageOf, Tree}
 use Rattle.pv_laws_trees.proofs.Changes.{some-below}
 use Rattle.pv_tree.proofs.Gathering.{gathered_none, gathered_few, gathered_other, gathered_more, image-short, image-tied}
 use Rattle.pv_tree.proofs.Encoding.{bytes-within, image-bytes}

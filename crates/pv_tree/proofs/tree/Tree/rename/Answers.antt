@@ -1,13 +1,13 @@
 use Rattle.std.proofs.Common.{◌≡◌, ℕ, ◌-◌, None, Some, is_some, refl, ap, sym, subst, ◌∙◌, arith}
 use Rattle.std.specs.Prelude.{slice_index, slice_set}
 use Rattle.std.proofs.lemmas.Result.{err_from_is_err_and}
-use Rattle.pv_model.specs.Tree.{Tree, node_at, find_entry, is_directory_at, with_entry, without_entry}
+use Rattle.pv_model.specs.Machine.{Tree, node_at, find_entry, is_directory_at, with_entry, without_entry}
 use Rattle.pv_tree.specs.Changes.{moved, settled}
 use Rattle.pv_tree.specs.Holding.{collected}
 use Rattle.pv_tree.specs.Rooms.{refusal}
 use Rattle.pv_tree.specs.Present.{IsTied}
-use Rattle.pv_laws_trees.proofs.Found.{alike-moved}
-use Rattle.pv_laws_trees.proofs.Encoded.{bytes-all}
+use Rattle.pv_laws_trees.proofs.Lookups.{alike-moved}
+use Rattle.pv_laws_trees.proofs.TreeBytes.{bytes-all}
 use Rattle.pv_tree.proofs.Counting.{collected-tied}
 use Rattle.pv_tree.proofs.Elsewhere.{two-along, alike-refused, alike-renamed}
 use Rattle.pv_tree.proofs.Linking.{found-place}

@@ -1,6 +1,6 @@
 use Rattle.std.proofs.Common.{◌≡◌, ◌-◌, [], Some, ap, subst, sym, ◌∙◌, arith}
 use Rattle.std.specs.Prelude.{slice_index, slice_set, is_some}
-use Rattle.pv_model.specs.Tree.{Tree, node_at, entries_at, find_entry, is_directory_at, without_entry}
+use Rattle.pv_model.specs.Machine.{Tree, node_at, entries_at, find_entry, is_directory_at, without_entry}
 use Rattle.pv_tree.specs.Changes.{settled}
 use Rattle.pv_tree.specs.Holding.{after, collected}
 use Rattle.pv_tree.specs.Present.{IsTied}

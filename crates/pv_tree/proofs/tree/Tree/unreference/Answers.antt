@@ -1,10 +1,10 @@
 use Rattle.std.proofs.Common.{◌≡◌, ◌<◌, subst, ap, sym, ◌∙◌}
 use Rattle.std.specs.Prelude.{slice_index}
-use Rattle.pv_model.specs.Tree.{Tree}
+use Rattle.pv_model.specs.Machine.{Tree}
 use Rattle.pv_tree.specs.Holding.{held_less, held_numbers, collected}
 use Rattle.pv_tree.specs.Present.{IsTied}
 use Rattle.pv_tree.proofs.Counting.{settled-less, counted-less, collected-tied}
-use Rattle.pv_laws_trees.proofs.Found.{alike-preserved}
+use Rattle.pv_laws_trees.proofs.Lookups.{alike-preserved}
 use Rattle.pv_tree.proofs.Elsewhere.{alike-along}
 use Rattle.pv_tree.proofs.tree.Tree.unreference.Goals as goal
 use Rattle.pv_tree.proofs.tree.Tree.unreference.Goals.{After-settle}

@@ -1,13 +1,11 @@
 use Rattle.std.proofs.Common.{◌≡◌, ◌+◌, ◌<◌, ◌≤◌, None, Some, length, refl, ap, subst, ◌∙◌}
 use Rattle.std.specs.Prelude.{OnOk, IfErr}
 use Rattle.std.proofs.lemmas.Result.{on_ok_weaker, on_err_weaker}
-use Rattle.pv_model.specs.Room.{greatest_length}
-use Rattle.pv_model.specs.Sealed.{is_file}
-use Rattle.pv_model.specs.Tree.{Tree, node_at}
+use Rattle.pv_model.specs.Machine.{greatest_length, is_file, Tree, node_at}
 use Rattle.pv_tree.specs.Changes.{overwritten}
 use Rattle.pv_tree.specs.Holding.{HeldTree, with_tree}
 use Rattle.pv_tree.specs.Rooms.{refusal}
-use Rattle.pv_laws_trees.proofs.Encoded.{bytes-all}
+use Rattle.pv_laws_trees.proofs.TreeBytes.{bytes-all}
 use Rattle.pv_tree.proofs.Contents.{IsAnswer, file-of, write-answer, write-ends}
 use Rattle.pv_tree.proofs.Elsewhere.{alike-along, alike-answered, alike-overwritten}
 use Rattle.pv_tree.proofs.tree.Tree.write_at.Goals as goal

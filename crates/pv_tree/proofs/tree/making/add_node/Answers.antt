@@ -1,6 +1,5 @@
 use Rattle.std.proofs.Common.{◌≡◌, ◌<◌, is_some, length, refl, ap, sym, subst, ◌∙◌, arith}
-use Rattle.pv_model.specs.Room.{greatest_entries}
-use Rattle.pv_model.specs.Tree.{Tree, node_at, entries_at, with_node, with_entry, with_new_node}
+use Rattle.pv_model.specs.Machine.{greatest_entries, Tree, node_at, entries_at, with_node, with_entry, with_new_node}
 use Rattle.pv_dirs.specs.Trees.{new_node as empty_node, without_node}
 use Rattle.pv_laws_trees.proofs.Changes.{node_at-same}
 use Rattle.pv_tree.specs.Changes.{new_node, sort_of, IsNewName}

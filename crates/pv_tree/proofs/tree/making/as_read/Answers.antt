@@ -1,4 +1,4 @@
-use Rattle.pv_laws_trees.proofs.Encoded.{bytes-all}
+use Rattle.pv_laws_trees.proofs.TreeBytes.{bytes-all}
 use Rattle.pv_tree.proofs.tree.making.as_read.Goals as goal
 
 pub returns-clause-bytes : goal.returns-clause-bytes

@@ -1,6 +1,6 @@
 use Rattle.std.proofs.Common.{Some, ap, sym, subst, ◌∙◌}
 use Rattle.std.specs.Prelude.{OnErr}
-use Rattle.pv_model.specs.Tree.{link_node, with_node, is_node, is_link_text}
+use Rattle.pv_model.specs.Machine.{link_node, with_node, is_node, is_link_text}
 use Rattle.pv_dirs.specs.Trees.{new_node as empty_node, LacksRoom}
 use Rattle.pv_laws_trees.specs.Encoded.{are_bytes, has_bytes}
 use Rattle.pv_tree.specs.Changes.{new_node, sort_of}

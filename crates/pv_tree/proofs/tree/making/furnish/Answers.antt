@@ -1,5 +1,5 @@
 use Rattle.std.proofs.Common.{◌≡◌, is_some, ap, sym, ◌∙◌}
-use Rattle.pv_model.specs.Tree.{Tree, node_at, with_node, with_entry}
+use Rattle.pv_model.specs.Machine.{Tree, node_at, with_node, with_entry}
 use Rattle.pv_dirs.specs.Trees.{new_node as empty_node, without_node}
 use Rattle.pv_tree.specs.Changes.{new_node, sort_of}
 use Rattle.pv_tree.specs.Rooms.{refusal}

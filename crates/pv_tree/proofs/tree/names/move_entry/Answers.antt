@@ -1,6 +1,6 @@
 use Rattle.std.proofs.Common.{◌≡◌, ◌≢◌, Some, refl, ap, subst, sym, ◌∙◌}
 use Rattle.std.specs.Prelude.{IfSome, IfNone}
-use Rattle.pv_model.specs.Tree.{Tree, find_entry, is_directory_at, with_entry, without_entry}
+use Rattle.pv_model.specs.Machine.{Tree, find_entry, is_directory_at, with_entry, without_entry}
 use Rattle.pv_tree.specs.Changes.{moved, IsNewName}
 use Rattle.pv_tree.specs.Rooms.{refusal}
 use Rattle.pv_tree.specs.Present.{IsShaped}

@@ -1,6 +1,6 @@
 use Rattle.std.proofs.Common.{sym, ap, subst, ◌∙◌}
 use Rattle.pv_model.specs.declared.judgement.Judgement.{Judgement}
-use Rattle.pv_model.specs.Unveil.{judgement}
+use Rattle.pv_model.specs.Machine.{judgement}
 use Rattle.pv_unveil.specs.Judged.{IsJudged}
 use Rattle.pv_unveil.specs.Unveiled.{Unveiled}
 use Rattle.pv_unveil.proofs.JudgedLemmas.{IsJudged-judgement}

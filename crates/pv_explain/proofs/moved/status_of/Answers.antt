@@ -1,7 +1,0 @@
-use Rattle.std.proofs.Common.{◌∙◌, ap, sym}
-use Rattle.pv_model.specs.Image.{number_of}
-use Rattle.pv_explain.proofs.StatusBytes.{last-four}
-use Rattle.pv_explain.proofs.moved.status_of.Goals as goal
-
-pub returns-clause-size : goal.returns-clause-size
-returns-clause-size c = c.number_of_four.ensures ∙ sym (ap number_of (last-four c.args.bytes.now c.requires))
