@@ -1,0 +1,1 @@
+-- Definitions of answers to questions.

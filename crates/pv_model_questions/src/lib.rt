@@ -1,0 +1,5 @@
+//! Definitions of answers that `pv_model` does not have: those that only the crates of questions cite.
+//!
+//! `specs/` has one module for each subject. A change of a definition here unproves the crates of questions, but none of
+//! the kernel.
+#![tactic(auto)]
