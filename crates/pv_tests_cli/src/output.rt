@@ -147,12 +147,17 @@ impl Directories for NoFiles {
     }
 }
 
-// Words that make the program write something: without arguments, the trace of the bundle on the standard input.
-const WORDS: &[&[&str]] = &[&["pvsim", "--help"], &["pvsim", "--version"], &["pvsim"]];
+// Words that make the program write something, and what the standard error receives if the output takes nothing: without
+// arguments, the trace of the bundle on the standard input.
+const WORDS: &[(&[&str], &[u8])] = &[
+    (&["pvsim", "--help"], b"pvsim: write\n"),
+    (&["pvsim", "--version"], b"pvsim: write\n"),
+    (&["pvsim"], b"pvsim: write\n  standard output\n"),
+];
 
 #[test]
 fn an_output_that_takes_nothing_is_a_failed_write(rt: HostRuntime) {
-    for words in WORDS {
+    for (words, message) in WORDS {
         let mut system = HostSystem {
             files: NoFiles,
             input: Bytes::new(b"image 2 1\nschedule\n1\n"),
@@ -160,6 +165,6 @@ fn an_output_that_takes_nothing_is_a_failed_write(rt: HostRuntime) {
             errors: Gathered::new(rt.alloc()),
         };
         assert!(rt; run(rt.alloc(), *words, &mut system, &mut Unshown) == 4);
-        assert!(rt; system.errors.bytes.as_slice() == b"pvsim: write\n".as_slice());
+        assert!(rt; system.errors.bytes.as_slice() == *message);
     }
 }
