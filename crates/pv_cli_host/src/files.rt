@@ -2,6 +2,7 @@
 ghost use Rattle.std.specs.Prelude.{◌≡◌, ◌≤◌, length, None, IfOk};
 ghost use Rattle.std.specs.String.{string_bytes};
 
+use crate::output::counted;
 use pv_cli_commands::Files;
 use pv_streams::{Failed, Sink, Source};
 use std::alloc::{AllocError, Global};
@@ -134,17 +135,8 @@ impl Sink for WrittenFile<'_> {
     ghost failures = { λ s. s.failures };
 
     fn write(&mut self, buffer: &[u8]) -> Result<usize, Failed> {
-        match self.write_bytes(buffer) {
-            Ok(0) if !buffer.is_empty() => {
-                self.failures = self.failures.saturating_add(1);
-                Ok(0)
-            }
-            Ok(count) => Ok(count),
-            Err(Failed) => {
-                self.failures = self.failures.saturating_add(1);
-                Err(Failed)
-            }
-        }
+        let written = self.write_bytes(buffer);
+        counted(written, buffer, &mut self.failures)
     }
 
     fn flush(&mut self) -> Result<(), Failed> {

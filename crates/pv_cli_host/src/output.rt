@@ -1,8 +1,26 @@
 //! Sinks over writers of the operating system.
 ghost use Rattle.std.specs.Prelude.{◌≡◌, None};
+ghost use Rattle.pv_model.specs.Stream.{CountsNothingTaken};
 
 use pv_streams::{Failed, Sink};
 use std::io::Write;
+
+// Counts a write that failed or took no byte of a nonempty buffer, and returns its result.
+pub(crate) fn counted(
+    written: Result<usize, Failed>,
+    buffer: &[u8],
+    failures: &mut u64,
+) -> Result<usize, Failed>
+    ensures { result ≡ written }
+    ensures failed { CountsNothingTaken failures.old failures.new result buffer.now }
+{
+    match written {
+        Ok(0) if buffer.is_empty() => {}
+        Ok(0) | Err(Failed) => *failures = failures.saturating_add(1),
+        Ok(_) => {}
+    }
+    written
+}
 
 /// A sink over a writer. Its contract does not know the bytes that it received.
 #[derive(Drop)]
@@ -32,17 +50,11 @@ impl<W: Write + Drop> Sink for Output<W> {
     ghost failures = { λ s. s.failures };
 
     fn write(&mut self, buffer: &[u8]) -> Result<usize, Failed> {
-        match self.writer.write(buffer) {
-            Ok(0) if !buffer.is_empty() => {
-                self.failures = self.failures.saturating_add(1);
-                Ok(0)
-            }
+        let written = match self.writer.write(buffer) {
             Ok(count) => Ok(count),
-            Err(_) => {
-                self.failures = self.failures.saturating_add(1);
-                Err(Failed)
-            }
-        }
+            Err(_) => Err(Failed),
+        };
+        counted(written, buffer, &mut self.failures)
     }
 
     fn flush(&mut self) -> Result<(), Failed> {

@@ -2,7 +2,7 @@
 ghost use Rattle.std.specs.Prelude.{◌≡◌, [], length, None};
 ghost use Rattle.pv_model.specs.Stream.{WritesAtMost};
 
-use crate::output::Output;
+use crate::output::{Output, counted};
 use crate::screen::Screen;
 use pv_streams::{Buffered, Failed, Sink};
 use std::alloc::Global;
@@ -67,17 +67,8 @@ where
     ghost failures = { λ s. s.failures };
 
     fn write(&mut self, buffer: &[u8]) -> Result<usize, Failed> {
-        match self.write_bytes(buffer) {
-            Ok(0) if !buffer.is_empty() => {
-                self.failures = self.failures.saturating_add(1);
-                Ok(0)
-            }
-            Ok(count) => Ok(count),
-            Err(Failed) => {
-                self.failures = self.failures.saturating_add(1);
-                Err(Failed)
-            }
-        }
+        let written = self.write_bytes(buffer);
+        counted(written, buffer, &mut self.failures)
     }
 
     fn flush(&mut self) -> Result<(), Failed> {

@@ -38,7 +38,8 @@ enum Argument {
 
 use Argument::{Flag, Named, Optional, Renamed, Required};
 
-// A command: its name, its help, the example at the end of its help, and its arguments in order.
+// A command: its name, its help, the end of its help with what the answer leaves out and an example, and its arguments
+// in order.
 struct CommandRow {
     name: &'static str,
     about: &'static str,
@@ -208,7 +209,7 @@ const RUNS: &[CommandRow] = &[
     CommandRow {
         name: "audit",
         about: "Run an image under a schedule, and report which files are sealed",
-        example: "Example, with the files of examples/:\n  pvsim audit -b sealed.bundle",
+        example: "'sealed' is about later calls, of any program. Bytes that were read before and copies are not covered.\n\nExample, with the files of examples/:\n  pvsim audit -b sealed.bundle",
         arguments: &[
             BUNDLE,
             SOURCE,
@@ -233,7 +234,7 @@ const RUNS: &[CommandRow] = &[
     CommandRow {
         name: "reach",
         about: "Run an image under a schedule, and print the operations that each process may perform at each place",
-        example: "Example, with the files of examples/:\n  pvsim reach -b daemon.bundle",
+        example: "This is about the next call alone: two calls may do what neither may do, see audit.\n\nExample, with the files of examples/:\n  pvsim reach -b daemon.bundle",
         arguments: &[
             BUNDLE,
             SOURCE,
@@ -270,7 +271,7 @@ const RUNS: &[CommandRow] = &[
     CommandRow {
         name: "needs",
         about: "Run an image under a schedule, and print the promises and paths that each program used",
-        example: "Example, with the files of examples/:\n  pvsim needs -b motd.bundle",
+        example: "This is about one run: another schedule may need more, see policy.\n\nExample, with the files of examples/:\n  pvsim needs -b motd.bundle",
         arguments: &[BUNDLE, SOURCE, BY, FIRST, IMAGE, SCHEDULE, GRANTED],
     },
     CommandRow {
@@ -319,25 +320,25 @@ const SEARCHES: &[CommandRow] = &[
     CommandRow {
         name: "access",
         about: "Print which process can access which file under any schedule, each with a shortest schedule",
-        example: "Example, with the files of examples/:\n  pvsim access -b race-first.bundle",
+        example: "A file is shown by its path at that step. After a rename or through a link it has another path.\n\nExample, with the files of examples/:\n  pvsim access -b race-first.bundle",
         arguments: &[BUNDLE, SOURCE, IMAGE, STATES, REDUCED],
     },
     CommandRow {
         name: "exposure",
         about: "Print at which lines of each program a process could still reach each file, whatever it called next",
-        example: "Example, with the files of examples/:\n  pvsim exposure -b privsep.bundle",
+        example: "The lines are about one process and its children alone. Another process may hand the file over, and bytes that were read before\nremain in the buffer: see audit and access.\n\nExample, with the files of examples/:\n  pvsim exposure -b privsep.bundle",
         arguments: &[BUNDLE, SOURCE, IMAGE, STATES, REDUCED],
     },
     CommandRow {
         name: "policy",
         about: "Print the promises and permissions that each program needs under any schedule, and those that it never uses",
-        example: "Example, with the files of examples/:\n  pvsim policy -b daemon.bundle",
+        example: "A child and a new program inherit promises and permissions. Ask compare before you drop one that this program never uses.\n\nExample, with the files of examples/:\n  pvsim policy -b daemon.bundle",
         arguments: &[BUNDLE, SOURCE, IMAGE, STATES, REDUCED, GRANTED],
     },
     CommandRow {
         name: "compare",
         about: "Say whether two images let the same happen under any schedule, calls of pledge and unveil aside",
-        example: "Example, with the files of examples/:\n  pvsim compare -b motd.bundle motd.manifest",
+        example: "'the same' is about these programs. An attacker makes other calls: see audit and exposure.\n\nExample, with the files of examples/:\n  pvsim compare -b motd.bundle motd.manifest",
         arguments: &[FIRST_BUNDLE, FIRST_IMAGE, OTHER, PAIRS],
     },
     CommandRow {
