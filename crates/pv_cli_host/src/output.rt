@@ -11,8 +11,8 @@ pub(crate) fn counted(
     buffer: &[u8],
     failures: &mut u64,
 ) -> Result<usize, Failed>
-    ensures { result ≡ written }
-    ensures failed { CountsNothingTaken failures.old failures.new result buffer.now }
+    ensures same { result ≡ written }
+    ensures counted { CountsNothingTaken failures.old failures.new result buffer.now }
 {
     match written {
         Ok(0) if buffer.is_empty() => {}
