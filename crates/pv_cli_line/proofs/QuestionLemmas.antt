@@ -47,7 +47,7 @@ module _ (entered : Option (Text × List Row)) where
       → (question : Question) (run : RunInput) → IsQuestionIn entered question run → ⊥
   no_question traced state explain needs audit reaches Trace run is = traced run is
   no_question traced state explain needs audit reaches State run is = state run is
-  no_question traced state explain needs audit reaches (Explain errors) run is = explain run is.0
+  no_question traced state explain needs audit reaches (Explain errors allowed) run is = explain run is.0
   no_question traced state explain needs audit reaches (Needs granted) run is = needs run is.0
   no_question traced state explain needs audit reaches (Audit path) run is = audit run (option_map (λ bytes. bytes.now) path) is.0
   no_question traced state explain needs audit reaches (Reasons path) run is = audit run (option_map (λ bytes. bytes.now) path) is.0

@@ -258,7 +258,7 @@ abbrev pub question_name : Question → Text
 question_name Trace = codes "run-tree"
 question_name State = codes "state"
 question_name (Reach pid) = codes "reach"
-question_name (Explain errors) = codes "explain"
+question_name (Explain errors allowed) = codes "explain"
 question_name (Needs granted) = codes "needs"
 question_name (Audit path) = codes "audit"
 question_name (Reasons path) = codes "audit"
@@ -277,16 +277,21 @@ IsTracedIn entered (OfManifest manifest (AsTurns turns)) =
     IsTracedTextIn entered manifest × (entered_text entered (codes "run-tree") (codes "by") ≡ Some turns.now)
 IsTracedIn entered run = ⊥
 
--- the reasons of errors are written, unless the flag `brief` is given without the flag `errors`
+-- the reasons of errors and the lines of execve(2) are written, unless the flag `brief` is given without the flag `errors`
 abbrev pub errors_entered : Option (Text × List Row) → Bool
 errors_entered entered = is_given (entered_text entered (codes "explain") (codes "errors")) || not (is_given (entered_text entered (codes "explain") (codes "brief")))
+
+-- what allowed each walk is written
+abbrev pub allowed_entered : Option (Text × List Row) → Bool
+allowed_entered entered = is_given (entered_text entered (codes "explain") (codes "allowed"))
 
 -- a question about a run was entered, with its input
 abbrev pub IsQuestionIn : Option (Text × List Row) → Question → RunInput → Type 0
 IsQuestionIn entered Trace run = IsTracedIn entered run
 IsQuestionIn entered State run = IsValidRunIn entered (codes "state") run
 IsQuestionIn entered (Reach pid) run = (word : Option Text) × IsRunIn entered (codes "reach") (codes "PID") run word × EncodesNumber word pid
-IsQuestionIn entered (Explain errors) run = IsValidRunIn entered (codes "explain") run × (errors_entered entered ≡ errors)
+IsQuestionIn entered (Explain errors allowed) run =
+    IsValidRunIn entered (codes "explain") run × (errors_entered entered ≡ errors) × (allowed_entered entered ≡ allowed)
 IsQuestionIn entered (Needs granted) run =
     IsValidRunIn entered (codes "needs") run × (is_given (entered_text entered (codes "needs") (codes "granted")) ≡ granted)
 IsQuestionIn entered (Audit path) run =

@@ -88,7 +88,7 @@ schedule_apps =
     ∷ command_app (codes "audit") (question_rules ++ optional_rule (codes "PATH") ∷ flag_rule (codes "reasons") ∷ [])
     ∷ command_app (codes "state") question_rules
     ∷ command_app (codes "reach") (question_rules ++ optional_rule (codes "PID") ∷ [])
-    ∷ command_app (codes "explain") (question_rules ++ flag_rule (codes "errors") ∷ flag_rule (codes "brief") ∷ [])
+    ∷ command_app (codes "explain") (question_rules ++ flag_rule (codes "errors") ∷ flag_rule (codes "brief") ∷ flag_rule (codes "allowed") ∷ [])
     ∷ command_app (codes "needs") (question_rules ++ flag_rule (codes "granted") ∷ [])
     ∷ command_app (codes "cat") (tree_rules ++ optional_rule (codes "PATH") ∷ [])
     ∷ command_app (codes "turns") (tree_rules ++ long_rule (codes "slice") ∷ long_rule (codes "steps") ∷ [])

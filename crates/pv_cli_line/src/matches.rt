@@ -264,7 +264,8 @@ fn needs_in<'a>(matches: &ArgMatches<'a>) -> Option<Parsed<'a>>
     Some(with_steps(matches, Question::Needs { granted }, run))
 }
 
-// Returns whether the reasons of errors are written: they are, unless `brief` is given without `errors`.
+// Returns whether the reasons of errors and the lines of execve(2) are written: they are, unless `brief` is given without
+// `errors`.
 fn are_errors_explained(matches: &ArgMatches<'_>) -> bool
     ensures { result ≡ errors_entered (entered matches.now) }
 {
@@ -278,7 +279,8 @@ fn explain_in<'a>(matches: &ArgMatches<'a>) -> Option<Parsed<'a>>
 {
     let run = run_in(matches, "explain")?;
     let errors = are_errors_explained(matches);
-    Some(with_steps(matches, Question::Explain { errors }, run))
+    let allowed = is_flag_given(matches, "explain", "allowed");
+    Some(with_steps(matches, Question::Explain { errors, allowed }, run))
 }
 
 // Returns the command of a question about a run, if the matches are of one.

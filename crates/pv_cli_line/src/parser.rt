@@ -259,12 +259,17 @@ const RUNS: &[CommandRow] = &[
             Flag {
                 name: "errors",
                 short: None,
-                help: "say why each call failed that neither a promise nor an unveil table refused: the default, unless --brief is given",
+                help: "say why each call failed that neither a promise nor an unveil table refused, and what each execve did to promises, execpromises, table and lock: the default, unless --brief is given",
             },
             Flag {
                 name: "brief",
                 short: None,
                 help: "say why a call failed only if a promise or an unveil table refused it",
+            },
+            Flag {
+                name: "allowed",
+                short: None,
+                help: "say what allowed each path that was checked: the unveil entry, or that there is no table",
             },
         ],
     },
@@ -326,7 +331,7 @@ const SEARCHES: &[CommandRow] = &[
     CommandRow {
         name: "exposure",
         about: "Print at which lines of each program a process could still reach each file, whatever it called next",
-        example: "The lines are about one process and its children alone. Another process may hand the file over, and bytes that were read before\nremain in the buffer: see audit and access.\n\nExample, with the files of examples/:\n  pvsim exposure -b privsep.bundle",
+        example: "An attacker controls one process. LEAK and EDIT are about its own calls; PEER: another process could hand the file over;\nREAD: what was read there is still in the buffer later.\n\nExample, with the files of examples/:\n  pvsim exposure -b privsep.bundle",
         arguments: &[BUNDLE, SOURCE, IMAGE, STATES, REDUCED],
     },
     CommandRow {

@@ -1,5 +1,5 @@
 -- The reason of an error is the same in the state before the call and in the state that it left.
-use Rattle.std.proofs.Common.{◌≡◌, ◌∙◌, ℕ, ℤ, pos, negsuc, Bool, true, false, List, [], ◌∷◌, if◌then◌else◌, Option, None, Some, option_map, refl, ap, ap₂, sym, subst}
+use Rattle.std.proofs.Common.{◌≡◌, ◌∙◌, ℕ, ℤ, pos, negsuc, List, [], ◌∷◌, if◌then◌else◌, Option, None, Some, option_map, refl, ap, ap₂, sym, subst}
 use Rattle.std.specs.Prelude.{codes, unwrap_or}
 use Rattle.pv_model.specs.declared.call.Call.{Call}
 use Rattle.pv_model.specs.declared.call.Start.{Start}
@@ -8,15 +8,13 @@ use Rattle.pv_model.specs.declared.errno.Errno.{Errno}
 use Rattle.pv_model.specs.declared.outcome.Cause.TheVariants.{Plain, Promise as ByPromise, Unveil as ByUnveil, Locked}
 use Rattle.pv_model.specs.declared.outcome.Outcome.{Outcome}
 use Rattle.pv_model.specs.declared.outcome.Outcome.TheVariants.{Value, Text, Failed, Killed, Exited, Blocked, Gone}
-use Rattle.pv_model.specs.Machine.{Answered, answer, AnswerLine, answer_line, Bytes, call_of, descriptor_at, directory_of_file, open_file, open_file_of, start_directory, program_of, Numbered, at_number, Descriptor, OpenFile, Process, State, process_at, Tree, is_directory_at, is_absolute, Walk, walks_of}
+use Rattle.pv_model.specs.Machine.{Answered, answer, answer_line, Bytes, call_of, descriptor_at, directory_of_file, open_file, open_file_of, start_directory, program_of, Numbered, at_number, Descriptor, OpenFile, Process, State, process_at, Tree, is_directory_at, is_absolute, Walk, walks_of}
 use Rattle.pv_laws_states.specs.Calls.{IsUnharmed}
 use Rattle.pv_laws_states.proofs.Outcomes.{refused-unharmed}
 use Rattle.pv_step_lines.specs.declared.making.MadeCall.{MadeCall}
-use Rattle.pv_step_lines.specs.declared.making.MadeStep.{MadeStep}
-use Rattle.pv_step_lines.specs.declared.making.MadeStep.TheVariants.{Gone as GoneStep, Register, Call as CallMade}
-use Rattle.pv_explain.specs.Errors.{PrefixEnd, Reason, opened, one_path, two_paths, added_by, argument_reason, arrives, descriptor_reason, descriptor_used, error_line, error_lines, error_lines_by, error_lines_next, error_lines_of, file_reason, is_of_path, misfits, path_reason, plain_error, prefix_end, reason_of, reason_text, start_of, walk_prefix, walks_reason, words_reason}
-use Rattle.pv_step_lines.specs.Made.{IsMade, IsMadeCall}
-use Rattle.pv_explain.specs.Made.{error_after, error_of_step}
+use Rattle.pv_explain.specs.Errors.{PrefixEnd, Reason, opened, one_path, two_paths, argument_reason, arrives, descriptor_reason, descriptor_used, error_line, error_lines, error_lines_by, error_lines_next, error_lines_of, file_reason, is_of_path, misfits, path_reason, plain_error, prefix_end, reason_of, reason_text, start_of, walk_prefix, walks_reason, words_reason}
+use Rattle.pv_step_lines.specs.Made.{IsMadeCall}
+use Rattle.pv_explain.specs.Made.{error_after}
 
 -- ---- states with the same tree and open files, and processes with the same directory and descriptors
 
@@ -107,18 +105,9 @@ module _ (s : State) (pid : ℕ) (m : MadeCall) (after : State) (is : IsMadeCall
   outcome-same Blocked gives = none-after Blocked refl refl
   outcome-same Gone gives = none-after Gone refl refl
 
-  called-same : error_after pid after (process_at after pid) c m.answer.outcome ≡ error_lines s pid
+  -- the reason of the error of a call, in the state that it left
+  pub error-called : error_after pid after (process_at after pid) c m.answer.outcome ≡ error_lines s pid
   unfolding error_lines
-  called-same =
+  error-called =
       outcome-same m.answer.outcome refl
       ∙ sym (ap (error_lines_of s pid) is.lives ∙ ap (error_lines_next s pid is.me) is.comes ∙ ap (λ (a : Answered). error_lines_by pid s is.me c a.outcome) is.answered)
-
--- the reason of the error of a step, in the state that it left
-pub error-is : (errors : Bool) (s : State) (pid : ℕ) (made : MadeStep) (after : State) → IsMade s pid made after → error_of_step errors pid made after ≡ added_by errors s pid
-unfolding error_lines
-error-is false s pid GoneStep after is = refl
-error-is false s pid (Register n) after is = refl
-error-is false s pid (CallMade m) after is = refl
-error-is true s pid GoneStep after is = sym (ap (error_lines_of s pid) is.0)
-error-is true s pid (Register n) after is = sym (ap (error_lines_of s pid) is.lives ∙ ap (error_lines_next s pid is.me) is.comes)
-error-is true s pid (CallMade m) after is = called-same s pid m after is

@@ -1,5 +1,5 @@
 -- A step, as in the definitions: its number and line, and the records after it.
-use Rattle.std.proofs.Common.{◌≡◌, ◌∙◌, ℕ, Bool, List, ◌++◌, Some, ap, ap₂, sym}
+use Rattle.std.proofs.Common.{◌≡◌, ◌∙◌, ℕ, List, ◌++◌, Some, ap, ap₂, sym}
 use Rattle.std.specs.Prelude.{codes}
 use Rattle.std.specs.Fmt.{decimal}
 use Rattle.pv_model.specs.Machine.{Answered, settings_next, AnswerLine, answer_line, answer_bytes, answer_line_bytes, Setting, Settings, settings_of, Bytes, call_of, program_of, State, process_at}
@@ -9,9 +9,11 @@ use Rattle.pv_step_lines.specs.declared.making.MadeStep.{MadeStep}
 use Rattle.pv_step_lines.specs.declared.making.MadeStep.TheVariants.{Gone, Register, Call as CallMade}
 use Rattle.pv_explain.specs.Keeping.{entry_at, reported_settings}
 use Rattle.pv_step_lines.specs.Made.{IsMade, line_of, made_lines}
-use Rattle.pv_explain.specs.Made.{error_of_step, settings_made}
+use Rattle.pv_model_questions.specs.ExplainMore.{source_in}
+use Rattle.pv_explain.specs.declared.extra.Extra.{Extra}
+use Rattle.pv_explain.specs.Errors.{added_by}
+use Rattle.pv_explain.specs.Made.{settings_made}
 use Rattle.pv_explain.specs.Steps.{location_text, step_lines, step_text}
-use Rattle.pv_explain.proofs.ErrorLines.{error-is}
 use Rattle.pv_explain.proofs.Following.{reported-is, next-gone, next-inside, next-called}
 use Rattle.pv_step_lines.proofs.MadeLines.{made-is}
 
@@ -24,16 +26,16 @@ module _ (s : State) (pid : ℕ) (made : MadeStep) (after : State) (is : IsMade 
   line-is : (k : ℕ) → answer_line pid (codes "STEP") (step_text k (line_of made)) ≡ step_line program_of k s pid
   line-is k = ap (λ (bs : Bytes). answer_line pid (codes "STEP") (decimal k ++ bs)) (appeared s pid made after is)
 
-  -- the STEP line, and then the lines of the step
-  pub step-text : (errors : Bool) (k : ℕ) (all : Settings) (mine : List Setting) → mine ≡ settings_of all pid
-      → answer_line_bytes (answer_line pid (codes "STEP") (step_text k (line_of made))) ++ answer_bytes (made_lines pid mine made after ++ error_of_step errors pid made after)
-      ≡ answer_bytes (step_lines errors k all s pid)
-  step-text errors k all mine same =
-      let error : List AnswerLine = error_of_step errors pid made after in
-      ap (λ (l : AnswerLine). answer_line_bytes l ++ answer_bytes (made_lines pid mine made after ++ error)) (line-is k)
-      ∙ ap (λ (own : List Setting). answer_line_bytes (step_line program_of k s pid) ++ answer_bytes (made_lines pid own made after ++ error)) same
+  -- the STEP line, then the lines of the step, and then the lines added to it
+  pub step-text : (extra : Extra) (k : ℕ) (all : Settings) (mine : List Setting) → mine ≡ settings_of all pid
+      → (added : List AnswerLine) → added ≡ added_by extra (source_in all pid) s pid
+      → answer_line_bytes (answer_line pid (codes "STEP") (step_text k (line_of made))) ++ answer_bytes (made_lines pid mine made after ++ added)
+      ≡ answer_bytes (step_lines extra k all s pid)
+  step-text extra k all mine same added is_added =
+      ap (λ (l : AnswerLine). answer_line_bytes l ++ answer_bytes (made_lines pid mine made after ++ added)) (line-is k)
+      ∙ ap (λ (own : List Setting). answer_line_bytes (step_line program_of k s pid) ++ answer_bytes (made_lines pid own made after ++ added)) same
       ∙ ap₂ (λ (ls others : List AnswerLine). answer_line_bytes (step_line program_of k s pid) ++ answer_bytes (ls ++ others)) (made-is s pid (settings_of all pid) made after is)
-      (error-is errors s pid made after is)
+      is_added
 
 -- the records after a step
 pub settings-made : (s : State) (pid : ℕ) (made : MadeStep) (after : State) (all : Settings) → IsMade s pid made after → settings_made pid made after all ≡ settings_next program_of s pid all

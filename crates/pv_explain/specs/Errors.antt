@@ -18,10 +18,12 @@ use Rattle.pv_model.specs.declared.outcome.Outcome.{Outcome}
 use Rattle.pv_model.specs.declared.outcome.Outcome.TheVariants.{Failed}
 use Rattle.pv_model.specs.declared.place.Place.{Place}
 use Rattle.pv_model.specs.declared.place.Place.TheVariants.{At, Node as Unnamed}
-use Rattle.pv_model.specs.Machine.{answer, explained_step, settings_next, AnswerLine, answer_line, locations, Settings, settings_of, Bytes, is_empty, is_directory_there, end_of, node_of, open_file, size_of, start_directory, program_of, Next, inside, calls_for, next, OpenFile, Process, State, reads, writes, process_at, step, mode_text, quote, Node, directory_node, file_node, link_node, Tree, is_directory_at, node_at, begins_walk, is_absolute, resolve, Walk, walks_of}
-use Rattle.pv_model.specs.Answers.Explain.{explain_lines, set_text, step_line}
+use Rattle.pv_model.specs.Machine.{answer, AnswerLine, answer_line, Bytes, is_empty, is_directory_there, end_of, node_of, open_file, size_of, start_directory, program_of, Next, inside, calls_for, next, OpenFile, Process, State, reads, writes, process_at, mode_text, quote, Node, directory_node, file_node, link_node, Tree, is_directory_at, node_at, begins_walk, is_absolute, resolve, Walk, walks_of}
+use Rattle.pv_model.specs.Answers.Explain.{explain_lines}
 use Rattle.pv_model.specs.Perms.{permission_of}
 use Rattle.pv_model.specs.Promises.{keywords, promise_of}
+use Rattle.pv_model_questions.specs.ExplainMore.{Added, allowed_lines, execve_lines, explain_adding}
+use Rattle.pv_explain.specs.declared.extra.Extra.{Extra}
 
 -- a prefix of a path, and the end of the walk along it
 pub record PrefixEnd : Type 0 where
@@ -286,34 +288,27 @@ error_lines_of s pid (Some p) = error_lines_next s pid p (next p)
 unfoldable pub error_lines : State → ℕ → List AnswerLine
 error_lines s pid = error_lines_of s pid (process_at s pid)
 
-module _ (added : State → ℕ → List AnswerLine) where
-  -- the steps from number k on, as `explain_from` of the model gives them, with more lines after each
-  abbrev pub explain_adding : ℕ → Settings → List ℕ → State → List AnswerLine
-  explain_adding k all [] s = locations s
-  explain_adding k all (pid ∷ pids) s =
-      (step_line program_of k s pid ∷ explained_step program_of (set_text program_of (settings_of all pid)) s pid ++ added s pid)
-      ++ explain_adding (k + 1) (settings_next program_of s pid all) pids (step program_of s pid).after
+-- the lines added to a step: what allowed its walks, the reason of its error, and what it did if it is an execve
+abbrev pub added_by : Extra → Added
+added_by extra source s pid =
+    (if extra.allowed then allowed_lines source s pid else []) ++ (if extra.errors then error_lines s pid ++ execve_lines s pid else [])
 
-abbrev pub no_lines : State → ℕ → List AnswerLine
-no_lines s pid = []
+-- the lines of a run with their explanations and the lines added to them
+unfoldable pub explained_lines : Extra → List ℕ → State → List AnswerLine
+explained_lines extra pids s = explain_adding (added_by extra) 1 [] pids s
 
--- the lines of a run with their explanations and the reasons of errors
-unfoldable pub explain_with_errors_lines : List ℕ → State → List AnswerLine
-explain_with_errors_lines pids s = explain_adding error_lines 1 [] pids s
+abbrev pub no_lines : Added
+no_lines source s pid = []
 
--- without the lines of errors these are the lines of the model
+-- a brief explanation has no added lines
+abbrev pub brief : Extra
+brief = record { errors = false; allowed = false }
+
+-- without added lines these are the lines of the model; so are those of a brief explanation
 abbrev pub AddsNothingElse : Type 0
-AddsNothingElse = (pids : List ℕ) (s : State) → explain_adding no_lines 1 [] pids s ≡ explain_lines program_of pids s
-
--- the lines that are added after a step
-abbrev pub added_by : Bool → State → ℕ → List AnswerLine
-added_by true s pid = error_lines s pid
-added_by false s pid = []
-
--- the lines of a run, with or without the reasons of errors
-abbrev pub explained_lines : Bool → List ℕ → State → List AnswerLine
-explained_lines false pids s = explain_lines program_of pids s
-explained_lines true pids s = explain_with_errors_lines pids s
+AddsNothingElse =
+    (pids : List ℕ) (s : State)
+    → (explain_adding no_lines 1 [] pids s ≡ explain_lines program_of pids s) × (explained_lines brief pids s ≡ explain_lines program_of pids s)
 
 -- ---- a reason is true
 

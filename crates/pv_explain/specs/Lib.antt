@@ -1,3 +1,5 @@
+pub mod Added
+pub mod AddedLaws
 pub mod ErrorParts
 pub mod Errors
 pub mod Keeping

@@ -1,6 +1,6 @@
--- The reason of the error of a step that was made, and the origins of entries after it, given the parts of the states before
+-- The reason of the error of a call that was made, and the origins of entries after it, given the parts of the states before
 -- and after it.
-use Rattle.std.specs.Prelude.{ℕ, Bool, true, false, List, [], Option, None, Some}
+use Rattle.std.specs.Prelude.{ℕ, List, [], Option, None, Some}
 use Rattle.pv_model.specs.declared.call.Call.{Call}
 use Rattle.pv_model.specs.declared.outcome.Outcome.{Outcome}
 use Rattle.pv_model.specs.Machine.{AnswerLine, Settings, call_of, Process, State, process_at}
@@ -14,15 +14,6 @@ use Rattle.pv_explain.specs.Keeping.{entry_at, reported_settings}
 abbrev pub error_after : ℕ → State → Option Process → Call → Outcome → List AnswerLine
 error_after pid after None call outcome = []
 error_after pid after (Some q) call outcome = error_lines_by pid after q call outcome
-
-abbrev pub error_made : Bool → ℕ → MadeCall → State → List AnswerLine
-error_made false pid m after = []
-error_made true pid m after = error_after pid after (process_at after pid) (call_of m.call) m.answer.outcome
-
--- the reason of the error of a step
-abbrev pub error_of_step : Bool → ℕ → MadeStep → State → List AnswerLine
-error_of_step errors pid (CallMade m) after = error_made errors pid m after
-error_of_step errors pid made after = []
 
 -- ---- the origins of entries after the step
 

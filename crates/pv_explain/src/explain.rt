@@ -1,6 +1,6 @@
 //! Explained runs of schedules, step by step.
 ghost use Rattle.std.specs.Prelude.{◌≡◌, ◌+◌, ◌≤◌, ◌<◌, ◌^◌, [], ◌∷◌, length, replicate, IfErr, IfOk, IfSome, IsTrue, OnOk, option_copied};
-ghost use Rattle.pv_explain.specs.Errors.{AddsNothingElse, explained_lines};
+ghost use Rattle.pv_explain.specs.Errors.{explained_lines};
 ghost use Rattle.pv_explain.specs.Keeping.{Agree, entry_at};
 ghost use Rattle.pv_explain.specs.Made.{settings_called};
 ghost use Rattle.pv_explain.specs.Steps.{StopsExplained, settings_through, step_lines, steps_lines};
@@ -11,8 +11,10 @@ ghost use Rattle.pv_procs.specs.Turns.{CallsNext};
 ghost use Rattle.pv_step_lines.specs.OfSession.Running.{FailsBy, run_of, stepped, turn};
 ghost use Rattle.pv_streams.specs.Sinks.{WritesOr};
 
-use crate::explained::{write_call_and_error, write_step_line};
+use crate::explained::{write_call_and_added, write_step_line};
+use crate::extra::Extra;
 use crate::origins::Origins;
+use crate::prior::Prior;
 use pv_model::{CallRef, Target};
 use pv_procs::Fetched;
 use pv_script::CallTexts;
@@ -61,8 +63,7 @@ struct NumberedStep {
     number: u64,
 }
 
-// Makes the next call of a process, and writes the STEP line and the explained lines of the call, with the reason of its
-// error if `errors`.
+// Makes the next call of a process, and writes the STEP line, the explained lines of the call and the lines added to it.
 fn explain_call<W: Sink>(
     alloc: Global,
     session: &mut Session,
@@ -70,27 +71,30 @@ fn explain_call<W: Sink>(
     origins: &mut Origins,
     step: NumberedStep,
     call: CallRef<'_>,
-    errors: bool,
+    extra: Extra,
     out: &mut W,
 ) -> Result<(), Stop>
     requires next { CallsNext call (process_at session.old step.pid) }
     requires callable { IsTrue (is_call (call_of call)) }
     ensures after { OnOk result (session.new ≡ (stepped session.old step.pid).after) }
-    ensures written { WritesOr W.Sink FailsBy (answer_bytes (step_lines errors step.number origins.old session.old step.pid)) out.old out.new result }
-    ensures stopped { IfErr result (λ stop. StopsExplained errors stop step.number origins.old (step.pid ∷ []) session.old session.new (W.written out.old) (W.written out.new)) }
+    ensures written { WritesOr W.Sink FailsBy (answer_bytes (step_lines extra step.number origins.old session.old step.pid)) out.old out.new result }
+    ensures stopped { IfErr result (λ stop. StopsExplained extra stop step.number origins.old (step.pid ∷ []) session.old session.new (W.written out.old) (W.written out.new)) }
     ensures keeps { OnOk result (Agree session.new origins.new (settings_next program_of session.old step.pid origins.old)) }
 {
     let NumberedStep { pid, number } = step;
+    let parts = session.parts();
+    let prior = Prior::of(parts, pid, call, extra);
     let made = make_call(alloc, session, pid, call)?;
     write_step_line(out, pid, number, Some(made.before.line))?;
-    write_call_and_error(
+    write_call_and_added(
         out,
         line_buffer,
         session,
         pid,
         &made,
+        &prior,
         origins.of(pid),
-        errors,
+        extra.errors,
     )?;
     follow(origins, session.parts(), pid, &made);
     Ok(())
@@ -131,8 +135,7 @@ impl Explainer {
         })
     }
 
-    /// Makes a step of a process, and writes its STEP line and its explained lines. If `errors`, also writes why the call
-    /// failed, unless a promise or a table refused it.
+    /// Makes a step of a process, and writes its STEP line, its explained lines and the lines added to it.
     ///
     /// # Errors
     ///
@@ -145,12 +148,12 @@ impl Explainer {
         session: &mut Session,
         pid: u32,
         number: u64,
-        errors: bool,
+        extra: Extra,
         out: &mut W,
     ) -> Result<(), Stop>
         ensures after { OnOk result (session.new ≡ (stepped session.old pid).after) }
-        ensures written { WritesOr W.Sink FailsBy (answer_bytes (step_lines errors number self.old session.old pid)) out.old out.new result }
-        ensures stopped { IfErr result (λ stop. StopsExplained errors stop number self.old (pid ∷ []) session.old session.new (W.written out.old) (W.written out.new)) }
+        ensures written { WritesOr W.Sink FailsBy (answer_bytes (step_lines extra number self.old session.old pid)) out.old out.new result }
+        ensures stopped { IfErr result (λ stop. StopsExplained extra stop number self.old (pid ∷ []) session.old session.new (W.written out.old) (W.written out.new)) }
 
         // The explainer knows the origins of the entries of live processes.
         ensures keeps { OnOk result (Agree session.new self.new (settings_next program_of session.old pid self.old)) }
@@ -173,7 +176,7 @@ impl Explainer {
                 &mut self.origins,
                 NumberedStep { pid, number },
                 call,
-                errors,
+                extra,
                 out,
             ),
         }
@@ -188,20 +191,20 @@ fn explain_turn<W: Sink>(
     pid: u32,
     count: u32,
     number: u64,
-    errors: bool,
+    extra: Extra,
     out: &mut W,
 ) -> Result<(), Stop>
     requires { number + count < 2 ^ 64 }
     ensures after { OnOk result (session.new ≡ (turn session.old pid count).final) }
-    ensures written { WritesOr W.Sink FailsBy (answer_bytes (steps_lines errors number explainer.old (replicate count pid) session.old)) out.old out.new result }
-    ensures stopped { IfErr result (λ stop. StopsExplained errors stop number explainer.old (replicate count pid) session.old session.new (W.written out.old) (W.written out.new)) }
+    ensures written { WritesOr W.Sink FailsBy (answer_bytes (steps_lines extra number explainer.old (replicate count pid) session.old)) out.old out.new result }
+    ensures stopped { IfErr result (λ stop. StopsExplained extra stop number explainer.old (replicate count pid) session.old session.new (W.written out.old) (W.written out.new)) }
     ensures keeps { OnOk result (Agree session.new explainer.new (settings_through explainer.old (replicate count pid) session.old)) }
 {
     for step in 0..count {
         // The contract of `parts` states that the state satisfies the invariant.
         let _ = session.parts();
         let at = number + u64::from(step);
-        explainer.explain_step(alloc, session, pid, at, errors, out)?;
+        explainer.explain_step(alloc, session, pid, at, extra, out)?;
     }
     Ok(())
 }
@@ -212,27 +215,27 @@ fn explain_steps<W: Sink>(
     session: &mut Session,
     explainer: &mut Explainer,
     schedule: &[(u32, u32)],
-    errors: bool,
+    extra: Extra,
     out: &mut W,
 ) -> Result<(), Stop>
     requires { length schedule.now ≤ SCHEDULE_LINES }
     ensures after { OnOk result (session.new ≡ (run_of session.old schedule.now).final) }
-    ensures written { WritesOr W.Sink FailsBy (answer_bytes (steps_lines errors 1 explainer.old (steps_of schedule.now) session.old)) out.old out.new result }
-    ensures stopped { IfErr result (λ stop. StopsExplained errors stop 1 explainer.old (steps_of schedule.now) session.old session.new (W.written out.old) (W.written out.new)) }
+    ensures written { WritesOr W.Sink FailsBy (answer_bytes (steps_lines extra 1 explainer.old (steps_of schedule.now) session.old)) out.old out.new result }
+    ensures stopped { IfErr result (λ stop. StopsExplained extra stop 1 explainer.old (steps_of schedule.now) session.old session.new (W.written out.old) (W.written out.new)) }
 {
     let mut number = 1;
     for turn in schedule {
         let _ = session.parts();
         let (pid, count) = *turn;
-        explain_turn(alloc, session, explainer, pid, count, number, errors, out)?;
+        explain_turn(alloc, session, explainer, pid, count, number, extra, out)?;
         number += u64::from(count);
     }
     Ok(())
 }
 
 /// Runs a schedule, and writes the explained lines of each step before it makes the next: the number of the step first,
-/// the meaning of bytes after each GIO line, and the reason after each refusal. If `errors`, also writes why a call
-/// failed that neither a promise nor a table refused. Then writes the location of each process.
+/// the meaning of bytes after each GIO line, the reason after each refusal, and the lines that `extra` adds. Then writes the
+/// location of each process.
 ///
 /// The explainer must be new.
 ///
@@ -246,20 +249,15 @@ pub fn explain_schedule<W: Sink>(
     session: &mut Session,
     explainer: &mut Explainer,
     schedule: &[(u32, u32)],
-    errors: bool,
+    extra: Extra,
     out: &mut W,
 ) -> Result<(), Stop>
     requires lines { length schedule.now ≤ SCHEDULE_LINES }
     requires fresh { explainer.old ≡ [] }
     ensures after { OnOk result (session.new ≡ (run_of session.old schedule.now).final) }
-    ensures written { WritesOr W.Sink FailsBy (answer_bytes (explained_lines errors (steps_of schedule.now) session.old)) out.old out.new result }
-    ensures stopped { IfErr result (λ stop. StopsExplained errors stop 1 [] (steps_of schedule.now) session.old session.new (W.written out.old) (W.written out.new)) }
+    ensures written { WritesOr W.Sink FailsBy (answer_bytes (explained_lines extra (steps_of schedule.now) session.old)) out.old out.new result }
+    ensures stopped { IfErr result (λ stop. StopsExplained extra stop 1 [] (steps_of schedule.now) session.old session.new (W.written out.old) (W.written out.new)) }
 {
-    explain_steps(alloc, session, explainer, schedule, errors, out)?;
+    explain_steps(alloc, session, explainer, schedule, extra, out)?;
     Ok(write_locations(out, session.parts())?)
 }
-
-/// States that `explained_lines` with the reasons of errors adds lines to those of the model, and changes none of them.
-pub fn adds_nothing_else()
-    ensures { AddsNothingElse }
-{}

@@ -8,9 +8,11 @@ use Rattle.std.proofs.lemmas.List.Elements.{filter-append}
 use Rattle.std.proofs.lemmas.List.Folds.{list_any-append}
 use Rattle.pv_model.specs.Machine.{new_ones, AnswerLine, answer_bytes, answer_line_bytes, counted_from, first_of, Numbers, Bytes, Tree}
 use Rattle.pv_model.specs.Answers.Observed.{with_alike}
-use Rattle.pv_exposure.specs.Collected.{Exposed, RecordedLeak, all_recorded_lines, recorded_lines, recorded_lines_by, last_recorded, lines_of_exposed, ranges_recorded, safe_line}
+use Rattle.pv_exposure.specs.Collected.{Exposed, Recorded, all_recorded_lines, recorded_lines, recorded_lines_by, last_recorded, lines_of_exposed, ranges_recorded}
+use Rattle.pv_model_questions.specs.declared.finding_kind.FindingKind.{FindingKind}
+use Rattle.pv_model_questions.specs.Exposure.{safe_line}
 use Rattle.pv_exposure.specs.Stored.{all_recorded, first_at, recorded_in, recorded_of_file}
-use Rattle.pv_exposure.specs.declared.leaks.StoredLeak.{StoredLeak}
+use Rattle.pv_exposure.specs.declared.findings.StoredFinding.{StoredFinding}
 
 -- one more element
 pub one-more : {X Y : Type 0} (f : X → List Y) (xs : List X) (start : List Y) (i : ℕ) (x d : X) (before after : List Y) → i < length xs → get_or xs i d ≡ x → before ≡ start ++ flat_map f (take i xs)
@@ -34,16 +36,16 @@ pub filter-flat : (p : ℕ → Bool) (ns : List ℕ) → flat_map (λ n. filter 
 filter-flat p [] = refl
 filter-flat p (n ∷ ns) = ap (λ (ms : List ℕ). filter p (n ∷ []) ++ ms) (filter-flat p ns) ∙ sym (filter-append p (n ∷ []) ns)
 
--- ---- the leaks of a file text
+-- ---- the findings of a file text
 
-pub lines-flat : (file : Bytes) (ls : List StoredLeak) → flat_map (λ l. map (λ k. k.line) (recorded_of_file file (recorded_in l ∷ []))) ls ≡ map (λ k. k.line) (recorded_of_file file (all_recorded ls))
+pub lines-flat : (file : Bytes) (ls : List StoredFinding) → flat_map (λ l. map (λ k. k.line) (recorded_of_file file (recorded_in l ∷ []))) ls ≡ map (λ k. k.line) (recorded_of_file file (all_recorded ls))
 lines-flat file [] = refl
 lines-flat file (l ∷ ls) =
     ap (λ (ns : List ℕ). map (λ k. k.line) (recorded_of_file file (recorded_in l ∷ [])) ++ ns) (lines-flat file ls)
     ∙ sym (ap (map (λ k. k.line)) (filter-append (λ k. bytes_eq k.file file) (recorded_in l ∷ []) (all_recorded ls)) ∙ map-append (λ k. k.line) (recorded_of_file file (recorded_in l ∷ [])) (recorded_of_file file (all_recorded ls)))
 
-module _ (file : Bytes) (line : ℕ) (l : StoredLeak) (ls : List StoredLeak) where
-  abbrev first : List RecordedLeak → Option RecordedLeak
+module _ (file : Bytes) (line : ℕ) (l : StoredFinding) (ls : List StoredFinding) where
+  abbrev first : List Recorded → Option Recorded
   first ks = first_at line (recorded_of_file file ks)
 
   pub first-here : bytes_eq l.file.items file ≡ true → l.line ≡ line → first (all_recorded (l ∷ ls)) ≡ Some (recorded_in l)
@@ -62,9 +64,9 @@ module _ (file : Bytes) (line : ℕ) (l : StoredLeak) (ls : List StoredLeak) whe
       by true = ap (λ b. first_of (cond b (recorded_in l ∷ filter (λ k. k.line == line) (recorded_of_file file (all_recorded ls))) (filter (λ k. k.line == line) (recorded_of_file file (all_recorded ls))))) other
       by false = refl
 
--- ---- the leaks of all file texts
+-- ---- the findings of all file texts
 
-abbrev file_in : RecordedLeak → Bytes
+abbrev file_in : Recorded → Bytes
 file_in k = k.file
 
 new-same : {X : Type 0} (key : X → Numbers) (had seen : List Numbers) → ((n : Numbers) → list_any (bytes_eq n) had ≡ list_any (bytes_eq n) seen) → (xs : List X) → new_ones key had xs ≡ new_ones key seen xs
@@ -74,15 +76,15 @@ new-same {X = X} key had seen same (x ∷ xs) =
     ∙ ap (λ (ys : List X). if list_any (bytes_eq (key x)) seen then new_ones key seen xs else x ∷ ys)
     (new-same key (key x ∷ had) (key x ∷ seen) (λ n. ap (λ b. bytes_eq n (key x) || b) (same n)) xs)
 
-module _ (ks : List RecordedLeak) where
+module _ (kind : FindingKind) (ks : List Recorded) where
   abbrev pub lines_of_text : Bytes → Bytes
-  lines_of_text file = answer_bytes (recorded_lines_by (ranges_recorded (recorded_of_file file ks)) (last_recorded (recorded_of_file file ks)))
+  lines_of_text file = answer_bytes (recorded_lines_by kind (ranges_recorded (recorded_of_file file ks)) (last_recorded (recorded_of_file file ks)))
 
   -- the lines of the file texts that were not seen
-  abbrev pub lines_left : List Bytes → List RecordedLeak → Bytes
+  abbrev pub lines_left : List Bytes → List Recorded → Bytes
   lines_left seen ls = flat_map (λ k. lines_of_text k.file) (new_ones file_in seen ls)
 
-  pub left-next : (seen : List Bytes) (k : RecordedLeak) (ls : List RecordedLeak)
+  pub left-next : (seen : List Bytes) (k : Recorded) (ls : List Recorded)
       → lines_left seen (k ∷ ls)
       ≡ (if list_any (bytes_eq k.file) seen then [] else lines_of_text k.file) ++ lines_left (if list_any (bytes_eq k.file) seen then seen else seen ++ k.file ∷ []) ls
   left-next seen k ls = by (list_any (bytes_eq k.file) seen)
@@ -97,17 +99,17 @@ module _ (ks : List RecordedLeak) where
           ≡ (if b then [] else lines_of_text k.file) ++ lines_left (if b then seen else seen ++ k.file ∷ []) ls
       by true = refl
       by false =
-          ap (λ (zs : List RecordedLeak). lines_of_text k.file ++ flat_map (λ k. lines_of_text k.file) zs)
+          ap (λ (zs : List Recorded). lines_of_text k.file ++ flat_map (λ k. lines_of_text k.file) zs)
           (new-same file_in (k.file ∷ seen) (seen ++ k.file ∷ [])
           (λ n. swap (bytes_eq n k.file) (list_any (bytes_eq n) seen) ∙ sym (list_any-append (bytes_eq n) seen (k.file ∷ []))) ls)
 
-  flat-lines : (zs : List RecordedLeak) → flat_map (λ k. lines_of_text k.file) zs ≡ answer_bytes (flat_map recorded_lines (map (with_alike file_in ks) zs))
+  flat-lines : (zs : List Recorded) → flat_map (λ k. lines_of_text k.file) zs ≡ answer_bytes (flat_map (recorded_lines kind) (map (with_alike file_in ks) zs))
   flat-lines [] = refl
   flat-lines (z ∷ zs) =
       ap (λ (bs : Bytes). lines_of_text z.file ++ bs) (flat-lines zs)
-      ∙ sym (flat_map-append answer_line_bytes (recorded_lines (with_alike file_in ks z)) (flat_map recorded_lines (map (with_alike file_in ks) zs)))
+      ∙ sym (flat_map-append answer_line_bytes (recorded_lines kind (with_alike file_in ks z)) (flat_map (recorded_lines kind) (map (with_alike file_in ks) zs)))
 
-  pub all-left : lines_left [] ks ≡ answer_bytes (all_recorded_lines ks)
+  pub all-left : lines_left [] ks ≡ answer_bytes (all_recorded_lines kind ks)
   all-left = flat-lines (new_ones file_in [] ks)
 
 -- ---- safe files, and programs
@@ -133,3 +135,21 @@ three old first second new line ls ms a b c =
     c ∙ ap (λ (bs : Bytes). bs ++ answer_bytes ms) (b ∙ ap (λ (bs : Bytes). bs ++ answer_bytes ls) a ∙ append_assoc old line (answer_bytes ls))
     ∙ append_assoc old (line ++ answer_bytes ls) (answer_bytes ms)
     ∙ ap (λ (bs : Bytes). old ++ bs) (append_assoc line (answer_bytes ls) (answer_bytes ms) ∙ ap (λ (bs : Bytes). line ++ bs) (sym (bytes-both ls ms)))
+
+-- four lists of lines in sequence
+module _ (a b c d : List AnswerLine) where
+  four-bytes : answer_bytes (a ++ (b ++ (c ++ (d ++ [])))) ≡ answer_bytes a ++ (answer_bytes b ++ (answer_bytes c ++ answer_bytes d))
+  four-bytes =
+      bytes-both a (b ++ (c ++ (d ++ [])))
+      ∙ ap (λ (bs : Bytes). answer_bytes a ++ bs)
+      (bytes-both b (c ++ (d ++ []))
+      ∙ ap (λ (bs : Bytes). answer_bytes b ++ bs) (bytes-both c (d ++ []) ∙ ap (λ (ls : List AnswerLine). answer_bytes c ++ answer_bytes ls) (append-nil d)))
+
+  pub four : (old p q r new : Bytes) → p ≡ old ++ answer_bytes a → q ≡ p ++ answer_bytes b → r ≡ q ++ answer_bytes c → new ≡ r ++ answer_bytes d
+      → new ≡ old ++ answer_bytes (a ++ (b ++ (c ++ (d ++ []))))
+  four old p q r new one two three last =
+      last ∙ ap (λ (bs : Bytes). bs ++ answer_bytes d) (three ∙ ap (λ (bs : Bytes). bs ++ answer_bytes c) (two ∙ ap (λ (bs : Bytes). bs ++ answer_bytes b) one))
+      ∙ append_assoc ((old ++ answer_bytes a) ++ answer_bytes b) (answer_bytes c) (answer_bytes d)
+      ∙ append_assoc (old ++ answer_bytes a) (answer_bytes b) (answer_bytes c ++ answer_bytes d)
+      ∙ append_assoc old (answer_bytes a) (answer_bytes b ++ (answer_bytes c ++ answer_bytes d))
+      ∙ ap (λ (bs : Bytes). old ++ bs) (sym four-bytes)

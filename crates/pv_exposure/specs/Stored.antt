@@ -1,42 +1,63 @@
--- The stored leaks and records of programs, as contracts see them.
-use Rattle.std.specs.Prelude.{◌≡◌, ◌==◌, ℕ, List, [], ◌∷◌, map, bytes_eq, filter, Option, None, Some}
-use Rattle.pv_model.specs.Machine.{Found, Located, first_of, Numbers, program_numbers, Bytes, leaks, Process, Program}
-use Rattle.pv_model.specs.Answers.Exposure.{leak_of}
-use Rattle.pv_exposure.specs.Collected.{RecordedLeak, key_of, recorded_of}
-use Rattle.pv_exposure.specs.declared.leaks.StoredLeak.{StoredLeak}
-use Rattle.pv_exposure.specs.declared.leaks.Visit.{Visit}
+-- The stored findings and records of programs, as contracts see them.
+use Rattle.std.specs.Prelude.{◌≡◌, ◌==◌, ℕ, List, [], ◌∷◌, map, bytes_eq, filter, Option, None, Some, option_to_list, IsSome}
+use Rattle.pv_model.specs.Machine.{Found, Located, first_of, Bytes, Process, process_at, program_of, Tree}
+use Rattle.pv_model_questions.specs.declared.finding_kind.FindingKind.{FindingKind}
+use Rattle.pv_model_questions.specs.declared.finding_kind.FindingKind.TheVariants.{Leak, Peer, Edit, Read}
+use Rattle.pv_model_questions.specs.Exposure.{files_read, finding_by, reason_by}
+use Rattle.pv_session.specs.Running.{stepped}
+use Rattle.pv_exposure.specs.Collected.{Exposed, Recorded, recorded_of, with_all}
+use Rattle.pv_exposure.specs.StateFiles.{AreFilesOf}
+use Rattle.pv_exposure.specs.declared.findings.StoredFinding.{StoredFinding}
+use Rattle.pv_exposure.specs.declared.reasons.Visit.{Visit}
 
-abbrev pub recorded_in : StoredLeak → RecordedLeak
-recorded_in l = record { witness = l.witness.items; pid = l.pid; line = l.line; file = l.file.items; why = l.why }
+abbrev pub recorded_in : StoredFinding → Recorded
+recorded_in x = record { witness = x.witness.items; pid = x.pid; line = x.line; file = x.file.items; reason = x.reason.items }
 
-abbrev pub all_recorded : List StoredLeak → List RecordedLeak
-all_recorded ls = map recorded_in ls
+abbrev pub all_recorded : List StoredFinding → List Recorded
+all_recorded xs = map recorded_in xs
 
--- the leak of a process and a file, if the process is not closed to it
-abbrev pub recorded_by_file : Located → ℕ → List RecordedLeak
-recorded_by_file l f = map recorded_of (leak_of l f (leaks l.found.state l.process f))
+-- the finding of a kind about a process and a file, if there is one
+abbrev pub recorded_by_file : Tree → FindingKind → Located → ℕ → List Recorded
+recorded_by_file first kind l f = map recorded_of (finding_by program_of first kind l f (reason_by program_of l f kind))
 
--- a visited state with its witness
-abbrev pub found_in : Visit → Found
-found_in v = record { witness = v.witness.now; state = v.parts.now }
+-- a process of a visited state
+abbrev pub located_by : Found → ℕ → Process → Located
+located_by f pid p = record { found = f; pid = pid; process = p }
+
+abbrev pub located_if : Found → ℕ → Option Process → List Located
+located_if f pid None = []
+located_if f pid (Some p) = located_by f pid p ∷ []
 
 -- the process of a visit
 abbrev pub located_in : Visit → Process → Located
-located_in v p = record { found = found_in v; pid = v.pid; process = p }
+located_in v p = located_by (record { witness = v.witness.now; state = v.parts.now }) v.pid p
 
-abbrev pub located_if : Visit → Option Process → List Located
-located_if v None = []
-located_if v (Some p) = located_in v p ∷ []
+-- a process is live, with the files of its state, and the file that its next step reads
+pub record IsVisit (v : Visit) : Type 0 where
+  pub live : IsSome (process_at v.parts.now v.pid)
+  pub files : AreFilesOf v.first.now.tree v.parts.now v.files.now
+  pub read : option_to_list v.read ≡ files_read v.parts.now v.pid (stepped v.parts.now v.pid)
 
--- a record has the numbers of its program, and the keys of its leaks
-pub record IsIndexed (program : Program) (numbers : Numbers) (recorded : List RecordedLeak) (keys : List Bytes) : Type 0 where
-  pub same : numbers ≡ program_numbers program
-  pub keyed : keys ≡ map key_of recorded
-
--- the leaks of a file text
-abbrev pub recorded_of_file : Bytes → List RecordedLeak → List RecordedLeak
+-- the findings of a file text
+abbrev pub recorded_of_file : Bytes → List Recorded → List Recorded
 recorded_of_file file ks = filter (λ k. bytes_eq k.file file) ks
 
--- the first leak at a line
-abbrev pub first_at : ℕ → List RecordedLeak → Option RecordedLeak
+-- the first finding at a line
+abbrev pub first_at : ℕ → List Recorded → Option Recorded
 first_at line ks = first_of (filter (λ k. k.line == line) ks)
+
+-- the record of a program after the findings about one more file
+abbrev pub with_file : Tree → Located → Exposed → ℕ → Exposed
+with_file first l e f = record {
+  program = e.program;
+  leaks = with_all e.leaks (recorded_by_file first Leak l f);
+  peers = with_all e.peers (recorded_by_file first Peer l f);
+  edits = with_all e.edits (recorded_by_file first Edit l f);
+  reads = with_all e.reads (recorded_by_file first Read l f);
+  safe = e.safe;
+}
+
+-- the record of a program after the findings about files
+abbrev pub with_files : Tree → Located → Exposed → List ℕ → Exposed
+with_files first l e [] = e
+with_files first l e (f ∷ fs) = with_files first l (with_file first l e f) fs

@@ -1,73 +1,167 @@
 //! The exposure of the programs under all schedules.
-ghost use Rattle.std.specs.Prelude.{◌≡◌, ◌≤◌, [], flat_map, length, slice_get, IfOk, OnOk, Some};
-ghost use Rattle.pv_exposure.specs.Collected.{exposed_after, lines_of_all};
-ghost use Rattle.pv_model.specs.Machine.{Found, named_files, answer_bytes};
+ghost use Rattle.std.specs.Prelude.{◌≡◌, ◌≤◌, [], flat_map, length, slice_get, IfOk, IsSome, OnOk, Some};
+ghost use Rattle.pv_exposure.specs.Answers.{exposed_lines_by, lines_of_all};
+ghost use Rattle.pv_exposure.specs.Collected.{exposed_after, exposed_with};
+ghost use Rattle.pv_exposure.specs.Seen.{IsSeen, found_seen};
+ghost use Rattle.pv_exposure.specs.Stored.{located_by, located_if};
+ghost use Rattle.pv_model.specs.Machine.{Found, named_files, answer_bytes, Process, process_at};
 ghost use Rattle.pv_model.specs.Answers.Exposure.{located_at};
-ghost use Rattle.pv_reduced.specs.Kinds.{exposure_lines_by, is_complete_by};
+ghost use Rattle.pv_reduced.specs.Kinds.{is_complete_by};
+ghost use Rattle.pv_reduced.specs.OfExplore.Visiting.{found_of};
 ghost use Rattle.pv_reduced.specs.OfSession.Running.{FailsBy};
 ghost use Rattle.pv_streams.specs.Sinks.{WritesOr};
 
-use crate::files::files_of_tree;
-use crate::programs::{ProgramRecord, add_state};
+use crate::files::StateFiles;
+use crate::programs::{ProgramRecord, add_process};
+use crate::reads::read_of;
+use crate::reasons::Visit;
 use crate::text::text_of_all;
 use pv_model::StepFault;
 use pv_named_files::named_files;
+use pv_programs::calls_state::Parts;
 use pv_reduced::SearchKind;
 use pv_reduced::explore_crate::{FirstMachine, Progress, SearchedStates, VisitedState};
 use pv_reduced::session::Stop;
 use pv_streams::{Sink, write_whole};
 use pv_tree::Tree;
-use std::alloc::{AllocError, Global};
+use std::alloc::Global;
 
-// Adds the live processes of a visited state.
-fn add_visited(
+// A visited state, its number and files, and the schedule that leads to it.
+#[derive(Clone, Copy)]
+struct SeenState<'a> {
+    first: &'a Tree,
+    number: usize,
+    parts: &'a Parts,
+    files: &'a StateFiles,
+    witness: &'a [u32],
+}
+
+// Adds a live process of a visited state.
+fn add_live(
     alloc: Global,
     records: &mut Vec<ProgramRecord>,
     named: &[u16],
-    visited: &VisitedState,
-) -> Result<(), AllocError>
-    ensures { OnOk result (records.new.items ≡ exposed_after named.now records.old.items (located_at (record { witness = visited.now.witness.items; state = visited.now.machine }))) }
+    states: &mut SearchedStates<'_>,
+    seen: &SeenState<'_>,
+    pid: u32,
+) -> Result<(), StepFault>
+    requires live { IsSome (process_at seen.now.parts.now pid) }
+    requires seen { IsSeen states.old seen.now }
+    ensures unchanged { states.new ≡ states.old }
+    ensures added { OnOk result ((p : Process) → process_at seen.now.parts.now pid ≡ Some p → records.new.items ≡ exposed_with seen.now.first.now.tree named.now records.old.items (located_by (found_seen seen.now) pid p)) }
 {
-    let parts = visited.machine.parts();
-    let files = files_of_tree(alloc, parts.tree())?;
-    add_state(alloc, records, named, parts, &visited.witness, &files)
+    let read = read_of(alloc, states, seen.number, seen.parts, pid)?;
+    let visit = Visit {
+        first: seen.first,
+        parts: seen.parts,
+        files: seen.files,
+        witness: seen.witness,
+        pid,
+        read,
+    };
+    Ok(add_process(alloc, records, named, &visit)?)
+}
+
+// Adds a process of a visited state, if it is live.
+fn add_number(
+    alloc: Global,
+    records: &mut Vec<ProgramRecord>,
+    named: &[u16],
+    states: &mut SearchedStates<'_>,
+    seen: &SeenState<'_>,
+    pid: u32,
+) -> Result<(), StepFault>
+    requires { IsSeen states.old seen.now }
+    ensures unchanged { states.new ≡ states.old }
+    ensures added { OnOk result (records.new.items ≡ exposed_after seen.now.first.now.tree named.now records.old.items (located_if (found_seen seen.now) pid (process_at seen.now.parts.now pid))) }
+{
+    if seen.parts.processes().live(pid) {
+        return add_live(alloc, records, named, states, seen, pid);
+    }
+    Ok(())
+}
+
+// Adds the live processes of a visited state, given the named files of the first tree.
+fn add_state(
+    alloc: Global,
+    records: &mut Vec<ProgramRecord>,
+    named: &[u16],
+    states: &mut SearchedStates<'_>,
+    seen: &SeenState<'_>,
+) -> Result<(), StepFault>
+    requires { IsSeen states.old seen.now }
+    ensures unchanged { states.new ≡ states.old }
+    ensures added { OnOk result (records.new.items ≡ exposed_after seen.now.first.now.tree named.now records.old.items (located_at (found_seen seen.now))) }
+{
+    // The contract of `invariant` states that the numbers ascend.
+    seen.parts.invariant();
+    let mut last = 0;
+    while let Some(pid) = seen.parts.processes().next_number(last) {
+        add_number(alloc, records, named, states, seen, pid)?;
+        last = pid;
+    }
+    Ok(())
+}
+
+// Adds the live processes of a visited state, given its number.
+fn add_visited(
+    alloc: Global,
+    records: &mut Vec<ProgramRecord>,
+    first: &Tree,
+    named: &[u16],
+    states: &mut SearchedStates<'_>,
+    number: usize,
+    visited: VisitedState,
+) -> Result<(), StepFault>
+    requires { slice_get states.old.found number ≡ Some (found_of visited) }
+    ensures unchanged { states.new ≡ states.old }
+    ensures added { OnOk result (records.new.items ≡ exposed_after first.now.tree named.now records.old.items (located_at (found_of visited))) }
+{
+    let VisitedState { machine, witness } = visited;
+    let files = StateFiles::of(alloc, first, machine.parts())?;
+    let seen = SeenState {
+        first,
+        number,
+        parts: machine.parts(),
+        files: &files,
+        witness: &witness,
+    };
+    add_state(alloc, records, named, states, &seen)?;
+    states.release(machine);
+    Ok(())
 }
 
 // Adds the live processes of visited state `number`.
 fn add_at(
     alloc: Global,
     records: &mut Vec<ProgramRecord>,
+    first: &Tree,
     named: &[u16],
     states: &mut SearchedStates<'_>,
     number: usize,
-) -> Result<(), AllocError>
+) -> Result<(), StepFault>
     ensures unchanged { states.new ≡ states.old }
-    ensures added { OnOk result ((f : Found) → slice_get states.old.found number ≡ Some f → records.new.items ≡ exposed_after named.now records.old.items (located_at f)) }
+    ensures added { OnOk result ((f : Found) → slice_get states.old.found number ≡ Some f → records.new.items ≡ exposed_after first.now.tree named.now records.old.items (located_at f)) }
 {
-    let Ok(found) = states.at(alloc, number) else {
-        return Err(AllocError);
-    };
-    let Some(visited) = found else {
-        return Ok(());
-    };
-    let added = add_visited(alloc, records, named, &visited);
-    let VisitedState { machine, .. } = visited;
-    states.release(machine);
-    added
+    match states.at(alloc, number)? {
+        Some(visited) => add_visited(alloc, records, first, named, states, number, visited),
+        None => Ok(()),
+    }
 }
 
 // Returns the records of the programs of all visited states.
 fn records_of(
     alloc: Global,
+    first: &Tree,
     named: &[u16],
     states: &mut SearchedStates<'_>,
-) -> Result<Vec<ProgramRecord>, AllocError>
+) -> Result<Vec<ProgramRecord>, StepFault>
     ensures unchanged { states.new ≡ states.old }
-    ensures records { IfOk result (λ records. records.items ≡ exposed_after named.now [] (flat_map located_at states.old.found)) }
+    ensures records { IfOk result (λ records. records.items ≡ exposed_after first.now.tree named.now [] (flat_map located_at states.old.found)) }
 {
     let mut records = Vec::new(alloc);
     for number in 0..states.len() {
-        add_at(alloc, &mut records, named, states, number)?;
+        add_at(alloc, &mut records, first, named, states, number)?;
     }
     Ok(records)
 }
@@ -80,10 +174,10 @@ fn text_of_states(
     states: &mut SearchedStates<'_>,
 ) -> Result<Vec<u8>, StepFault>
     ensures unchanged { states.new ≡ states.old }
-    ensures text { IfOk result (λ text. text.items ≡ answer_bytes (lines_of_all kind tree.now.tree states.old.complete (length states.old.found) (exposed_after (named_files tree.now.tree) [] (flat_map located_at states.old.found)))) }
+    ensures text { IfOk result (λ text. text.items ≡ answer_bytes (lines_of_all kind tree.now.tree states.old.complete (length states.old.found) (exposed_after tree.now.tree (named_files tree.now.tree) [] (flat_map located_at states.old.found)))) }
 {
     let named = named_files(alloc, tree)?;
-    let records = records_of(alloc, &named, states)?;
+    let records = records_of(alloc, tree, &named, states)?;
     let complete = states.is_complete();
     let count = states.len();
     Ok(text_of_all(alloc, kind, tree, complete, count, &records)?)
@@ -91,18 +185,22 @@ fn text_of_states(
 
 /// Writes what an attacker gains who takes over a process, at each line of its program. The search, of the given kind,
 /// visits at most `states` states, in breadth-first order from the first state of a machine. For each program that a live process of a
-/// visited state has, it writes a line PROG, and for each file text to which a process of this program is not closed:
+/// visited state has, it writes a line PROG, and then four lists:
 ///
-/// - a line BY with the schedule that leads to the first visited state in which a process of this program at the greatest
-///   such line is not closed to the file;
-/// - a line LEAK with all such lines, and the first reason in that state.
+/// - LEAK: the process is not closed to the file, with the first reason;
+/// - PEER: the process is closed to the file, but another live process is not, with its number and first reason;
+/// - EDIT: the process is not fixed to the file, with the first reason;
+/// - READ: the next step of the process reads the file.
 ///
-/// Then, if no state was left out, it writes a line SAFE for each file of the first tree to which each process of this
-/// program is closed in each visited state. The last line, DONE, has the number of visited states, and whether no state was
-/// left out. Returns whether no state was left out.
+/// For each file text of a list it writes a line BY with the schedule that leads to the first visited state in which the list
+/// has a process at the greatest line with this text, and then a line with all lines at which the list has it.
 ///
-/// If so, a process of a program at another line is closed to each file with such a text: see `pv_laws_schedules` and
-/// `pv_laws_classes::shown`.
+/// Then, if no state was left out, it writes a line SAFE for each file of the first tree to which every live process is
+/// closed in each visited state with a live process of this program. The last line, DONE, has the number of visited states,
+/// and whether no state was left out. Returns whether no state was left out.
+///
+/// If so, a process of a program at a line that LEAK does not list for a text is closed to each file with that text: see
+/// `pv_laws_schedules` and `pv_laws_classes::shown`.
 ///
 /// `progress` shows the state of the search, and ends with it.
 ///
@@ -119,7 +217,7 @@ pub fn write_exposure<W: Sink, P: Progress>(
     out: &mut W,
 ) -> Result<bool, Stop>
     requires { 1 ≤ states }
-    ensures written { WritesOr W.Sink FailsBy (answer_bytes (exposure_lines_by kind states first_machine.now)) out.old out.new result }
+    ensures written { WritesOr W.Sink FailsBy (answer_bytes (exposed_lines_by kind states first_machine.now)) out.old out.new result }
     ensures complete { IfOk result (λ complete. complete ≡ is_complete_by kind states first_machine.now) }
 {
     let mut visits = kind.states(alloc, first_machine, states, progress)?;

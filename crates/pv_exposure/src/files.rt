@@ -1,12 +1,40 @@
-//! The files of a tree.
-ghost use Rattle.std.specs.Prelude.{◌≡◌, ◌&&◌, ◌++◌, ◌∷◌, [], filter, length, IfOk, OnOk};
+//! The files of a state, and who leaks them.
+ghost use Rattle.std.specs.Prelude.{◌≡◌, ◌&&◌, ◌++◌, ◌∷◌, [], filter, length, map, not, IfOk, OnOk};
+ghost use Rattle.pv_exposure.specs.StateFiles.{AreFilesOf, described, described_file, first_leak_at, is_safe_at, leak_in};
 ghost use Rattle.pv_exposure.specs.Unnamed.{is_unnamed};
-ghost use Rattle.pv_model.specs.Machine.{files_of_tree};
+ghost use Rattle.pv_model.specs.Machine.{files_of_tree, State, Tree as DefinedTree};
 ghost use Rattle.pv_model.specs.Answers.Files.{unnamed_files};
+ghost use Rattle.pv_model_questions.specs.Briefs.{brief_since, path_text, with_first};
+ghost use Rattle.pv_model_questions.specs.Exposure.{first_leak_of};
+ghost use Rattle.std.specs.List.{range_with_len};
+ghost use Rattle.std.specs.Prelude.{None, option_map, slice_index_or};
 
+use pv_audit::leak;
+use pv_model::Why;
 use pv_named_files::{is_file, named_files};
+use pv_programs::answers::{NodeBrief, PathOf, has_path, text_of};
+use pv_programs::calls_state::Parts;
 use pv_tree::Tree;
 use std::alloc::{AllocError, Global};
+
+/// A file of a state.
+#[derive(Drop)]
+pub(crate) struct StateFile {
+    /// The number of the file.
+    pub(crate) node: u16,
+    /// The file in brief, and its path in the first tree if that is another one.
+    pub(crate) text: Vec<u8>,
+}
+
+/// The files of a state.
+#[derive(Drop)]
+pub(crate) struct StateFiles {
+    /// The files, those with names first.
+    pub(crate) files: Vec<StateFile>,
+    // For each node, the live process with the least number that is not closed to it if it is a file, and the first
+    // reason.
+    leaks: Vec<Option<(u32, Why)>>,
+}
 
 // Returns whether a number is the node of a file without a name.
 fn is_unnamed(tree: &Tree, node: u16) -> bool
@@ -42,16 +70,180 @@ fn push_all_unnamed(files: &mut Vec<u16>, tree: &Tree) -> Result<(), AllocError>
     Ok(())
 }
 
-/// Returns the files of a tree: those with names in the order of a listing, each once, and then those without, by
-/// number.
-///
-/// # Errors
-///
-/// `AllocError`, if there is no memory.
-pub(crate) fn files_of_tree(alloc: Global, tree: &Tree) -> Result<Vec<u16>, AllocError>
+// Returns the files of a tree: those with names in the order of a listing, each once, and then those without, by
+// number.
+fn files_of_tree(alloc: Global, tree: &Tree) -> Result<Vec<u16>, AllocError>
     ensures { IfOk result (λ files. files.items ≡ files_of_tree tree.now.tree) }
 {
     let mut files = named_files(alloc, tree)?;
     push_all_unnamed(&mut files, tree)?;
     Ok(files)
+}
+
+// Returns the path of a node as a quoted text, if it has one.
+fn path_of(alloc: Global, tree: &Tree, node: u16) -> Result<Option<Vec<u8>>, AllocError>
+    ensures { IfOk result (λ path. option_map (λ p. p.items) path ≡ path_text tree.now.tree node) }
+{
+    if !has_path(tree, node) {
+        return Ok(None);
+    }
+    Ok(Some(text_of(alloc, &PathOf { tree, node })?))
+}
+
+// Returns a description and a first path, unless they are the same.
+fn with_first(mut text: Vec<u8>, first: &Option<Vec<u8>>) -> Result<Vec<u8>, AllocError>
+    ensures { IfOk result (λ full. full.items ≡ with_first text.items (option_map (λ p. p.items) first.now)) }
+{
+    let Some(path) = first else {
+        return Ok(text);
+    };
+    if path.as_slice() == text.as_slice() {
+        return Ok(text);
+    }
+    text.extend_from_slice(b", first ")?;
+    text.extend_from_slice(path)?;
+    Ok(text)
+}
+
+// Returns a file in brief, and its path in the first tree if that is another one.
+fn brief_of(alloc: Global, first: &Tree, tree: &Tree, node: u16) -> Result<Vec<u8>, AllocError>
+    ensures { IfOk result (λ text. text.items ≡ brief_since first.now.tree tree.now.tree node) }
+{
+    let text = text_of(alloc, &NodeBrief { tree, node })?;
+    let path = path_of(alloc, first, node)?;
+    with_first(text, &path)
+}
+
+// Appends a file.
+fn push_described(
+    alloc: Global,
+    files: &mut Vec<StateFile>,
+    first: &Tree,
+    tree: &Tree,
+    node: u16,
+) -> Result<(), AllocError>
+    ensures { OnOk result (map described files.new.items ≡ map described files.old.items ++ described_file first.now.tree tree.now.tree node ∷ []) }
+{
+    let text = brief_of(alloc, first, tree, node)?;
+    files.push(StateFile { node, text })?;
+    Ok(())
+}
+
+// Returns files with their descriptions.
+fn describe(
+    alloc: Global,
+    first: &Tree,
+    tree: &Tree,
+    nodes: &[u16],
+) -> Result<Vec<StateFile>, AllocError>
+    ensures { IfOk result (λ files. map described files.items ≡ map (described_file first.now.tree tree.now.tree) nodes.now) }
+{
+    let mut files = Vec::new(alloc);
+    for node in nodes {
+        push_described(alloc, &mut files, first, tree, *node)?;
+    }
+    Ok(files)
+}
+
+// Returns the first reason why a process is not closed to a file, if it is live.
+fn leak_if_live(parts: &Parts, pid: u32, node: u16) -> Option<Why>
+    ensures { result ≡ leak_in parts.now pid node }
+{
+    if parts.processes().live(pid) {
+        leak(parts, pid, node)
+    } else {
+        None
+    }
+}
+
+// Returns the live process with the least number that is not closed to a file, with its first reason.
+fn first_leak(parts: &Parts, node: u16) -> Option<(u32, Why)>
+    ensures { result ≡ first_leak_of parts.now node }
+{
+    // The contract of `invariant` states that the numbers ascend.
+    parts.invariant();
+    let mut last = 0;
+    while let Some(pid) = parts.processes().next_number(last) {
+        if let Some(why) = leak_if_live(parts, pid, node) {
+            return Some((pid, why));
+        }
+        last = pid;
+    }
+    None
+}
+
+// Returns the first leak of a node, if it is a file.
+fn leak_of_node(parts: &Parts, node: u16) -> Option<(u32, Why)>
+    ensures { result ≡ first_leak_at parts.now node }
+{
+    if is_file(parts.tree(), node) {
+        first_leak(parts, node)
+    } else {
+        None
+    }
+}
+
+// Appends the first leak of a node.
+fn push_leak(
+    leaks: &mut Vec<Option<(u32, Why)>>,
+    parts: &Parts,
+    node: u16,
+) -> Result<(), AllocError>
+    ensures { OnOk result (leaks.new.items ≡ leaks.old.items ++ first_leak_at parts.now node ∷ []) }
+{
+    leaks.push(leak_of_node(parts, node))?;
+    Ok(())
+}
+
+// Returns the first leak of each node.
+fn leaks_of(alloc: Global, parts: &Parts) -> Result<Vec<Option<(u32, Why)>>, AllocError>
+    ensures { IfOk result (λ leaks. leaks.items ≡ map (first_leak_at parts.now) (range_with_len 0 (length parts.now.tree.nodes))) }
+{
+    let mut leaks = Vec::new(alloc);
+    for node in 0..node_count(parts.tree()) {
+        push_leak(&mut leaks, parts, node)?;
+    }
+    Ok(leaks)
+}
+
+// Returns the element of a list with a number, if there is one.
+fn leak_at(leaks: &[Option<(u32, Why)>], node: u16) -> Option<(u32, Why)>
+    ensures { result ≡ slice_index_or leaks.now node None }
+{
+    let node = usize::from(node);
+    if node < leaks.len() {
+        leaks[node]
+    } else {
+        None
+    }
+}
+
+impl StateFiles {
+    /// Returns the files of a state, given the first tree.
+    ///
+    /// # Errors
+    ///
+    /// `AllocError`, if there is no memory.
+    pub(crate) fn of(alloc: Global, first: &Tree, parts: &Parts) -> Result<StateFiles, AllocError>
+        ensures { IfOk result (λ files. AreFilesOf first.now.tree parts.now files) }
+    {
+        let nodes = files_of_tree(alloc, parts.tree())?;
+        let files = describe(alloc, first, parts.tree(), &nodes)?;
+        let leaks = leaks_of(alloc, parts)?;
+        Ok(StateFiles { files, leaks })
+    }
+
+    /// Returns the live process with the least number that is not closed to a file, with its first reason.
+    pub(crate) fn leak(&self, node: u16) -> Option<(u32, Why)>
+        ensures { (first : DefinedTree) (s : State) → AreFilesOf first s self.now → result ≡ first_leak_at s node }
+    {
+        leak_at(&self.leaks, node)
+    }
+
+    /// Returns whether every live process is closed to the file with a number, if the state has one.
+    pub(crate) fn is_safe(&self, node: u16) -> bool
+        ensures { (first : DefinedTree) (s : State) → AreFilesOf first s self.now → result ≡ is_safe_at node s }
+    {
+        self.leak(node).is_none()
+    }
 }

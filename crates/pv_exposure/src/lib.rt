@@ -1,15 +1,19 @@
-//! The exposure of each program under all schedules: the files that a process is not closed to, line by line.
+//! The exposure of each program under all schedules: what an attacker gains who takes over a process, line by line.
 //!
-//! A search visits the states, and `exposure` goes over them once. `programs` records each program that a process has,
-//! with its leaks (`leaks`): of each line and file text the first. `files` lists the files of a state. `text` has the
-//! lines of the records, `ranges` ascending numbers as ranges, and `reasons` the words of reasons.
+//! A search visits the states, and `exposure` goes over them once. `files` lists the files of a state, with the first
+//! process that is not closed to each. `reads` finds the file that the next step of a process reads, `edit` why a process is
+//! not fixed to a file, and `reasons` has the text of each kind of finding. `programs` records each program that a process
+//! has, with its findings (`findings`): of each kind, line and file text the first. `text` has the lines of the records, and
+//! `ranges` ascending numbers as ranges.
 #![tactic(auto)]
 
+mod edit;
 mod exposure;
 mod files;
-mod leaks;
+mod findings;
 mod programs;
 mod ranges;
+mod reads;
 mod reasons;
 mod text;
 

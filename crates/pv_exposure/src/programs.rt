@@ -1,40 +1,64 @@
-//! Programs, their leaks, and the files that they are closed to.
-ghost use Rattle.std.specs.Prelude.{◌≡◌, position, IfOk, IsSome, OnOk, Some};
-ghost use Rattle.pv_exposure.specs.Collected.{exposed_after, exposed_more, exposed_none, exposed_with, is_of as is_of_numbers};
-ghost use Rattle.pv_exposure.specs.Stored.{all_recorded, located_if, located_in};
-ghost use Rattle.pv_model.specs.Answers.Exposure.{located_at};
-ghost use Rattle.pv_model.specs.Machine.{files_of_tree, program_numbers, Process, process_at};
+//! Programs, their findings, and the files that all processes are closed to.
+ghost use Rattle.std.specs.Prelude.{◌≡◌, ◌++◌, ◌∷◌, [], filter, map, position, IfOk, OnOk, Some};
+ghost use Rattle.pv_exposure.specs.Collected.{exposed_more, exposed_none, exposed_with, findings_of, is_of as is_of_numbers};
+ghost use Rattle.pv_exposure.specs.StateFiles.{AreFilesOf, IsFileOf, described, described_file, is_safe_at};
+ghost use Rattle.pv_exposure.specs.Stored.{IsVisit, located_in, with_file, with_files};
+ghost use Rattle.pv_model.specs.Machine.{files_of_tree, program_numbers, Process, process_at, State, Tree};
 
-use crate::leaks::{StoredLeak, Visit, add_files, closed_among};
-use pv_named_files::step_cache::tables::Keys;
-use pv_programs::calls_state::Parts;
+use crate::files::{StateFile, StateFiles};
+use crate::findings::{FindingList, key_of_line, line_of};
+use crate::reasons::Visit;
+use pv_model_questions::FindingKind;
 use pv_programs::program_numbers;
 use pv_script::Program;
 use std::alloc::{AllocError, Global};
 use std::marker::Model;
 
-/// A program, its leaks, and the files of the first tree that all its processes so far are closed to. A contract sees
-/// these.
+/// A program, its findings of each kind, and the files of the first tree that every process was closed to in each state in
+/// which a process of the program was live. A contract sees these.
 #[derive(Drop)]
 pub(crate) struct ProgramRecord {
     program: Program,
     // The numbers of the program.
     numbers: Vec<u64>,
-    leaks: Vec<StoredLeak>,
-    // The key of each leak.
-    keys: Keys,
+    leaks: FindingList,
+    peers: FindingList,
+    edits: FindingList,
+    reads: FindingList,
     safe: Vec<u16>,
 }
 
+// Appends a file, if every process of a state is closed to it.
+fn push_safe(safe: &mut Vec<u16>, files: &StateFiles, node: u16) -> Result<(), AllocError>
+    ensures { OnOk result ((first : Tree) (s : State) → AreFilesOf first s files.now → safe.new.items ≡ safe.old.items ++ filter (λ f. is_safe_at f s) (node ∷ [])) }
+{
+    if files.is_safe(node) {
+        safe.push(node)?;
+    }
+    Ok(())
+}
+
+// Returns those of files that every process of a state is closed to.
+fn safe_among(alloc: Global, files: &StateFiles, nodes: &[u16]) -> Result<Vec<u16>, AllocError>
+    ensures { IfOk result (λ safe. (first : Tree) (s : State) → AreFilesOf first s files.now → safe.items ≡ filter (λ f. is_safe_at f s) nodes.now) }
+{
+    let mut safe = Vec::new(alloc);
+    for node in nodes {
+        push_safe(&mut safe, files, *node)?;
+    }
+    Ok(safe)
+}
+
 impl Model for ProgramRecord {
+    ghost use Rattle.std.specs.Prelude.{◌≡◌};
     ghost use Rattle.pv_exposure.specs.Collected.{Exposed};
-    ghost use Rattle.pv_exposure.specs.Stored.{IsIndexed, all_recorded};
+    ghost use Rattle.pv_model.specs.Machine.{program_numbers};
 
     ghost Value = { Exposed };
 
-    ghost view = { λ r. record { program = r.program; recorded = all_recorded r.leaks.items; safe = r.safe.items } };
+    ghost view = { λ r. record { program = r.program; leaks = r.leaks; peers = r.peers; edits = r.edits; reads = r.reads; safe = r.safe.items } };
 
-    ghost invariant = { λ r. IsIndexed r.program r.numbers.items (all_recorded r.leaks.items) r.keys };
+    ghost invariant = { λ r. r.numbers.items ≡ program_numbers r.program };
 }
 
 impl ProgramRecord {
@@ -51,8 +75,10 @@ impl ProgramRecord {
         Ok(ProgramRecord {
             program: program.share()?,
             numbers,
-            leaks: Vec::new(alloc),
-            keys: Keys::new(alloc),
+            leaks: FindingList::new(alloc),
+            peers: FindingList::new(alloc),
+            edits: FindingList::new(alloc),
+            reads: FindingList::new(alloc),
             safe: named.to_vec(alloc)?,
         })
     }
@@ -64,14 +90,48 @@ impl ProgramRecord {
         numbers == self.numbers.as_slice()
     }
 
-    // Adds a live process of the program, given the files of its state.
-    fn add(&mut self, alloc: Global, visit: &Visit<'_>, files: &[u16]) -> Result<(), AllocError>
-        requires live { IsSome (process_at visit.now.parts.now visit.now.pid) }
-        requires files { files.now ≡ files_of_tree visit.now.parts.now.tree }
-        ensures { OnOk result ((p : Process) → process_at visit.now.parts.now visit.now.pid ≡ Some p → self.new ≡ exposed_more self.old (located_in visit.now p)) }
+    // Adds the findings about a live process of the program and a file of its state.
+    fn add_file(
+        &mut self,
+        alloc: Global,
+        visit: &Visit<'_>,
+        file: &StateFile,
+    ) -> Result<(), AllocError>
+        requires visit { IsVisit visit.now }
+        requires file { IsFileOf visit.now.first.now.tree visit.now.parts.now file.now }
+        ensures { OnOk result ((p : Process) → process_at visit.now.parts.now visit.now.pid ≡ Some p → self.new ≡ with_file visit.now.first.now.tree (located_in visit.now p) self.old file.now.node) }
     {
-        add_files(alloc, &mut self.leaks, &mut self.keys, visit, files)?;
-        let safe = closed_among(alloc, visit, &self.safe)?;
+        let key = key_of_line(alloc, line_of(visit), &file.text)?;
+        self.leaks.add(alloc, FindingKind::Leak, visit, file, &key)?;
+        self.peers.add(alloc, FindingKind::Peer, visit, file, &key)?;
+        self.edits.add(alloc, FindingKind::Edit, visit, file, &key)?;
+        self.reads.add(alloc, FindingKind::Read, visit, file, &key)
+    }
+
+    // Adds the findings about a live process of the program and the files of its state.
+    fn add_files(
+        &mut self,
+        alloc: Global,
+        visit: &Visit<'_>,
+        files: &[StateFile],
+    ) -> Result<(), AllocError>
+        requires visit { IsVisit visit.now }
+        requires files { map described files.now ≡ map (described_file visit.now.first.now.tree visit.now.parts.now.tree) (files_of_tree visit.now.parts.now.tree) }
+        ensures { OnOk result ((p : Process) → process_at visit.now.parts.now visit.now.pid ≡ Some p → self.new ≡ with_files visit.now.first.now.tree (located_in visit.now p) self.old (files_of_tree visit.now.parts.now.tree)) }
+    {
+        for file in files {
+            self.add_file(alloc, visit, file)?;
+        }
+        Ok(())
+    }
+
+    // Adds the findings about a live process of the program.
+    fn add(&mut self, alloc: Global, visit: &Visit<'_>) -> Result<(), AllocError>
+        requires { IsVisit visit.now }
+        ensures { OnOk result ((p : Process) → process_at visit.now.parts.now visit.now.pid ≡ Some p → self.new ≡ exposed_more visit.now.first.now.tree self.old (located_in visit.now p)) }
+    {
+        self.add_files(alloc, visit, &visit.files.files)?;
+        let safe = safe_among(alloc, visit.files, &self.safe)?;
         self.safe = safe;
         Ok(())
     }
@@ -83,18 +143,23 @@ impl ProgramRecord {
         &self.program
     }
 
-    /// Returns the files that all processes so far are closed to.
+    /// Returns the files that every process was closed to.
     pub(crate) fn safe(&self) -> &[u16]
         ensures { result.now ≡ self.now.safe }
     {
         &self.safe
     }
 
-    /// Returns the leaks.
-    pub(crate) fn leaks(&self) -> &[StoredLeak]
-        ensures { all_recorded result.now ≡ self.now.recorded }
+    /// Returns the findings of a kind.
+    pub(crate) fn findings(&self, kind: FindingKind) -> &FindingList
+        ensures { result.now ≡ findings_of kind self.now }
     {
-        &self.leaks
+        match kind {
+            FindingKind::Leak => &self.leaks,
+            FindingKind::Peer => &self.peers,
+            FindingKind::Edit => &self.edits,
+            FindingKind::Read => &self.reads,
+        }
     }
 }
 
@@ -105,75 +170,29 @@ fn index_of(records: &[ProgramRecord], numbers: &[u64]) -> Option<usize>
     records.iter().position(|record| record.is_of(numbers))
 }
 
-// Adds a live process of a visited state, given the files of the state and the named files of the first tree.
-fn add_process(
-    alloc: Global,
-    records: &mut Vec<ProgramRecord>,
-    named: &[u16],
-    visit: &Visit<'_>,
-    files: &[u16],
-) -> Result<(), AllocError>
-    requires live { IsSome (process_at visit.now.parts.now visit.now.pid) }
-    requires files { files.now ≡ files_of_tree visit.now.parts.now.tree }
-    ensures { OnOk result ((p : Process) → process_at visit.now.parts.now visit.now.pid ≡ Some p → records.new.items ≡ exposed_with named.now records.old.items (located_in visit.now p)) }
-{
-    let program = visit.parts.processes().program(visit.pid);
-    let numbers = program_numbers(alloc, program)?;
-    match index_of(records, &numbers) {
-        Some(k) => records[k].add(alloc, visit, files),
-        None => {
-            let mut added = ProgramRecord::new(alloc, program, numbers, named)?;
-            added.add(alloc, visit, files)?;
-            records.push(added)?;
-            Ok(())
-        }
-    }
-}
-
-// Adds a process of a visited state, if it is live.
-fn add_number(
-    alloc: Global,
-    records: &mut Vec<ProgramRecord>,
-    named: &[u16],
-    visit: &Visit<'_>,
-    files: &[u16],
-) -> Result<(), AllocError>
-    requires { files.now ≡ files_of_tree visit.now.parts.now.tree }
-    ensures { OnOk result (records.new.items ≡ exposed_after named.now records.old.items (located_if visit.now (process_at visit.now.parts.now visit.now.pid))) }
-{
-    if visit.parts.processes().live(visit.pid) {
-        return add_process(alloc, records, named, visit, files);
-    }
-    Ok(())
-}
-
-/// Adds the live processes of a visited state, given its files and the named files of the first tree.
+/// Adds a live process of a visited state, given the named files of the first tree.
 ///
 /// # Errors
 ///
 /// `AllocError`, if there is no memory.
-pub(crate) fn add_state(
+pub(crate) fn add_process(
     alloc: Global,
     records: &mut Vec<ProgramRecord>,
     named: &[u16],
-    parts: &Parts,
-    witness: &[u32],
-    files: &[u16],
+    visit: &Visit<'_>,
 ) -> Result<(), AllocError>
-    requires { files.now ≡ files_of_tree parts.now.tree }
-    ensures { OnOk result (records.new.items ≡ exposed_after named.now records.old.items (located_at (record { witness = witness.now; state = parts.now }))) }
+    requires { IsVisit visit.now }
+    ensures { OnOk result ((p : Process) → process_at visit.now.parts.now visit.now.pid ≡ Some p → records.new.items ≡ exposed_with visit.now.first.now.tree named.now records.old.items (located_in visit.now p)) }
 {
-    // The contract of `invariant` states that the numbers ascend.
-    parts.invariant();
-    let mut last = 0;
-    while let Some(pid) = parts.processes().next_number(last) {
-        let visit = Visit {
-            parts,
-            witness,
-            pid,
-        };
-        add_number(alloc, records, named, &visit, files)?;
-        last = pid;
+    let program = visit.parts.processes().program(visit.pid);
+    let numbers = program_numbers(alloc, program)?;
+    match index_of(records, &numbers) {
+        Some(k) => records[k].add(alloc, visit),
+        None => {
+            let mut added = ProgramRecord::new(alloc, program, numbers, named)?;
+            added.add(alloc, visit)?;
+            records.push(added)?;
+            Ok(())
+        }
     }
-    Ok(())
 }

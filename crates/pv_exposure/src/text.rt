@@ -1,14 +1,16 @@
 //! The lines of programs, in memory.
 ghost use Rattle.std.specs.Prelude.{◌≡◌, ◌++◌, ◌∷◌, [], bytes_eq, codes, flat_map, if◌then◌else◌, map, IfOk, OnOk, Some};
 ghost use Rattle.std.specs.List.{list_any};
-ghost use Rattle.pv_exposure.specs.Collected.{Exposed, all_recorded_lines, recorded_lines_by, recorded_text, last_recorded, lines_of_all, lines_of_exposed, ranges_recorded, safe_line};
+ghost use Rattle.pv_exposure.specs.Answers.{lines_of_all};
+ghost use Rattle.pv_exposure.specs.Collected.{all_lines_recorded_of, all_recorded_lines, recorded_lines_by, recorded_text, last_recorded, lines_of_exposed, lines_recorded_of, ranges_recorded};
 ghost use Rattle.pv_exposure.specs.Stored.{all_recorded, first_at, recorded_in, recorded_of_file};
 ghost use Rattle.pv_model.specs.Machine.{witness_text, answer_bytes, answer_line, answer_line_bytes, counted_from};
+ghost use Rattle.pv_model_questions.specs.Exposure.{kind_word, safe_line};
 
-use crate::leaks::StoredLeak;
+use crate::findings::StoredFinding;
 use crate::programs::ProgramRecord;
 use crate::ranges::append_ranges;
-use crate::reasons::WhyText;
+use pv_model_questions::FindingKind;
 use pv_named_files::step_cache::tables::Keys;
 use pv_programs::answers::{Line, NodeBrief, Plain, append};
 use pv_programs::append_program_line;
@@ -18,129 +20,188 @@ use pv_streams::Gathered;
 use pv_tree::Tree;
 use std::alloc::{AllocError, Global};
 
-// Appends the line of a leak if it has a file text.
-fn push_line(lines: &mut Vec<u32>, leak: &StoredLeak, file: &[u8]) -> Result<(), AllocError>
-    ensures { OnOk result (lines.new.items ≡ lines.old.items ++ map (λ k. k.line) (recorded_of_file file.now (recorded_in leak.now ∷ []))) }
+// Appends the line of a finding if it has a file text.
+fn push_line(lines: &mut Vec<u32>, finding: &StoredFinding, file: &[u8]) -> Result<(), AllocError>
+    ensures { OnOk result (lines.new.items ≡ lines.old.items ++ map (λ k. k.line) (recorded_of_file file.now (recorded_in finding.now ∷ []))) }
 {
-    if leak.file.as_slice() == file {
-        lines.push(u32::from(leak.line))?;
+    if finding.file.as_slice() == file {
+        lines.push(u32::from(finding.line))?;
     }
     Ok(())
 }
 
-// Returns the lines of the leaks of a file text.
-fn lines_of_file(alloc: Global, leaks: &[StoredLeak], file: &[u8]) -> Result<Vec<u32>, AllocError>
-    ensures { IfOk result (λ lines. lines.items ≡ map (λ k. k.line) (recorded_of_file file.now (all_recorded leaks.now))) }
+// Returns the lines of the findings of a file text.
+fn lines_of_file(
+    alloc: Global,
+    findings: &[StoredFinding],
+    file: &[u8],
+) -> Result<Vec<u32>, AllocError>
+    ensures { IfOk result (λ lines. lines.items ≡ map (λ k. k.line) (recorded_of_file file.now (all_recorded findings.now))) }
 {
     let mut lines = Vec::new(alloc);
-    for leak in leaks {
-        push_line(&mut lines, leak, file)?;
+    for finding in findings {
+        push_line(&mut lines, finding, file)?;
     }
     Ok(lines)
 }
 
-// Appends the line BY of a leak.
+// Returns the letters of a kind's word.
+fn word_of(kind: FindingKind) -> [u8; 4]
+    ensures { result ≡ kind_word kind }
+{
+    match kind {
+        FindingKind::Leak => *b"LEAK",
+        FindingKind::Peer => *b"PEER",
+        FindingKind::Edit => *b"EDIT",
+        FindingKind::Read => *b"READ",
+    }
+}
+
+// Appends the line BY of a finding.
 #[tactic(auto, unfolding(pv_model::specs::Trace::text_line))]
-fn append_by(out: &mut Gathered, leak: &StoredLeak) -> Result<(), AllocError>
-    ensures { OnOk result (out.new.bytes.items ≡ out.old.bytes.items ++ answer_line_bytes (answer_line leak.now.pid (codes "BY") (witness_text leak.now.witness.items))) }
+fn append_by(out: &mut Gathered, finding: &StoredFinding) -> Result<(), AllocError>
+    ensures { OnOk result (out.new.bytes.items ≡ out.old.bytes.items ++ answer_line_bytes (answer_line finding.now.pid (codes "BY") (witness_text finding.now.witness.items))) }
 {
     let line = Line {
-        pid: leak.pid,
+        pid: finding.pid,
         word: *b"BY  ",
-        text: Witness(&leak.witness),
+        text: Witness(&finding.witness),
     };
     append(out, &line)
 }
 
-// Appends the line LEAK of a leak.
+// Appends the line of a finding, after its line BY.
 #[tactic(auto, unfolding(pv_model::specs::Trace::text_line))]
-fn append_reason(out: &mut Gathered, leak: &StoredLeak, ranges: &[u8]) -> Result<(), AllocError>
-    ensures { OnOk result (out.new.bytes.items ≡ out.old.bytes.items ++ answer_line_bytes (answer_line leak.now.pid (codes "LEAK") (recorded_text (recorded_in leak.now) ranges.now))) }
+fn append_reason(
+    out: &mut Gathered,
+    kind: FindingKind,
+    finding: &StoredFinding,
+    ranges: &[u8],
+) -> Result<(), AllocError>
+    ensures { OnOk result (out.new.bytes.items ≡ out.old.bytes.items ++ answer_line_bytes (answer_line finding.now.pid (kind_word kind) (recorded_text (recorded_in finding.now) ranges.now))) }
 {
     let text = (
-        Plain(&leak.file),
+        Plain(&finding.file),
         Plain(b", lines "),
         Plain(ranges),
-        Plain(b", "),
-        WhyText(leak.why),
+        Plain(&finding.reason),
     );
     let line = Line {
-        pid: leak.pid,
-        word: *b"LEAK",
+        pid: finding.pid,
+        word: word_of(kind),
         text,
     };
     append(out, &line)
 }
 
-// Appends the lines of a leak.
-fn append_leak(out: &mut Gathered, leak: &StoredLeak, ranges: &[u8]) -> Result<(), AllocError>
-    ensures { OnOk result (out.new.bytes.items ≡ out.old.bytes.items ++ answer_bytes (recorded_lines_by ranges.now (Some (recorded_in leak.now)))) }
+// Appends the lines of a finding.
+fn append_finding(
+    out: &mut Gathered,
+    kind: FindingKind,
+    finding: &StoredFinding,
+    ranges: &[u8],
+) -> Result<(), AllocError>
+    ensures { OnOk result (out.new.bytes.items ≡ out.old.bytes.items ++ answer_bytes (recorded_lines_by kind ranges.now (Some (recorded_in finding.now)))) }
 {
-    append_by(out, leak)?;
-    append_reason(out, leak, ranges)
+    append_by(out, finding)?;
+    append_reason(out, kind, finding, ranges)
 }
 
-// Appends the lines of the first leak of a file text at a line.
+// Appends the lines of the first finding of a file text at a line.
 fn append_first(
     out: &mut Gathered,
-    leaks: &[StoredLeak],
+    kind: FindingKind,
+    findings: &[StoredFinding],
     file: &[u8],
     line: u32,
     ranges: &[u8],
 ) -> Result<(), AllocError>
-    ensures { OnOk result (out.new.bytes.items ≡ out.old.bytes.items ++ answer_bytes (recorded_lines_by ranges.now (first_at line (recorded_of_file file.now (all_recorded leaks.now))))) }
+    ensures { OnOk result (out.new.bytes.items ≡ out.old.bytes.items ++ answer_bytes (recorded_lines_by kind ranges.now (first_at line (recorded_of_file file.now (all_recorded findings.now))))) }
 {
-    for leak in leaks {
-        if leak.file.as_slice() == file && u32::from(leak.line) == line {
-            return append_leak(out, leak, ranges);
+    for finding in findings {
+        if finding.file.as_slice() == file && u32::from(finding.line) == line {
+            return append_finding(out, kind, finding, ranges);
         }
     }
     Ok(())
 }
 
-// Appends the lines of the leaks of a file text.
+// Appends the lines of the findings of a file text.
 fn append_group(
     alloc: Global,
     out: &mut Gathered,
-    leaks: &[StoredLeak],
+    kind: FindingKind,
+    findings: &[StoredFinding],
     file: &[u8],
 ) -> Result<(), AllocError>
-    ensures { OnOk result (out.new.bytes.items ≡ out.old.bytes.items ++ answer_bytes (recorded_lines_by (ranges_recorded (recorded_of_file file.now (all_recorded leaks.now))) (last_recorded (recorded_of_file file.now (all_recorded leaks.now))))) }
+    ensures { OnOk result (out.new.bytes.items ≡ out.old.bytes.items ++ answer_bytes (recorded_lines_by kind (ranges_recorded (recorded_of_file file.now (all_recorded findings.now))) (last_recorded (recorded_of_file file.now (all_recorded findings.now))))) }
 {
-    let lines = lines_of_file(alloc, leaks, file)?;
+    let lines = lines_of_file(alloc, findings, file)?;
     let sorted = ascending(alloc, &lines)?;
     let mut ranges = Gathered::new(alloc);
     append_ranges(&mut ranges, &sorted)?;
-    append_first(out, leaks, file, greatest(&lines), &ranges.bytes)
+    append_first(out, kind, findings, file, greatest(&lines), &ranges.bytes)
 }
 
-// Appends the lines of the leaks of a file text, unless it was seen.
+// Appends the lines of the findings of a file text, unless it was seen.
 fn append_unseen(
     alloc: Global,
     out: &mut Gathered,
     seen: &mut Keys,
-    leaks: &[StoredLeak],
+    kind: FindingKind,
+    findings: &[StoredFinding],
     file: &[u8],
 ) -> Result<(), AllocError>
-    ensures out { OnOk result (out.new.bytes.items ≡ out.old.bytes.items ++ (if list_any (bytes_eq file.now) seen.old then [] else answer_bytes (recorded_lines_by (ranges_recorded (recorded_of_file file.now (all_recorded leaks.now))) (last_recorded (recorded_of_file file.now (all_recorded leaks.now)))))) }
+    ensures out { OnOk result (out.new.bytes.items ≡ out.old.bytes.items ++ (if list_any (bytes_eq file.now) seen.old then [] else answer_bytes (recorded_lines_by kind (ranges_recorded (recorded_of_file file.now (all_recorded findings.now))) (last_recorded (recorded_of_file file.now (all_recorded findings.now)))))) }
     ensures seen { OnOk result (seen.new ≡ (if list_any (bytes_eq file.now) seen.old then seen.old else seen.old ++ file.now ∷ [])) }
 {
     if seen.contains(file) {
         return Ok(());
     }
-    append_group(alloc, out, leaks, file)?;
+    append_group(alloc, out, kind, findings, file)?;
     seen.learn(alloc, file)
 }
 
-// Appends the lines of leaks, those of one file text together.
-fn append_leaks(alloc: Global, out: &mut Gathered, leaks: &[StoredLeak]) -> Result<(), AllocError>
-    ensures { OnOk result (out.new.bytes.items ≡ out.old.bytes.items ++ answer_bytes (all_recorded_lines (all_recorded leaks.now))) }
+// Appends the lines of findings, those of one file text together.
+fn append_findings(
+    alloc: Global,
+    out: &mut Gathered,
+    kind: FindingKind,
+    findings: &[StoredFinding],
+) -> Result<(), AllocError>
+    ensures { OnOk result (out.new.bytes.items ≡ out.old.bytes.items ++ answer_bytes (all_recorded_lines kind (all_recorded findings.now))) }
 {
     let mut seen = Keys::new(alloc);
-    for leak in leaks {
-        append_unseen(alloc, out, &mut seen, leaks, &leak.file)?;
+    for finding in findings {
+        append_unseen(alloc, out, &mut seen, kind, findings, &finding.file)?;
     }
     Ok(())
+}
+
+// Appends the lines of the findings of a kind about a program.
+fn append_kind(
+    alloc: Global,
+    out: &mut Gathered,
+    kind: FindingKind,
+    program: &ProgramRecord,
+) -> Result<(), AllocError>
+    ensures { OnOk result (out.new.bytes.items ≡ out.old.bytes.items ++ answer_bytes (lines_recorded_of kind program.now)) }
+{
+    append_findings(alloc, out, kind, program.findings(kind).findings())
+}
+
+// Appends the lines of all findings about a program.
+fn append_kinds(
+    alloc: Global,
+    out: &mut Gathered,
+    program: &ProgramRecord,
+) -> Result<(), AllocError>
+    ensures { OnOk result (out.new.bytes.items ≡ out.old.bytes.items ++ answer_bytes (all_lines_recorded_of program.now)) }
+{
+    append_kind(alloc, out, FindingKind::Leak, program)?;
+    append_kind(alloc, out, FindingKind::Peer, program)?;
+    append_kind(alloc, out, FindingKind::Edit, program)?;
+    append_kind(alloc, out, FindingKind::Read, program)
 }
 
 // Appends the line of a safe file.
@@ -193,7 +254,7 @@ fn append_program(
     ensures { OnOk result (out.new.bytes.items ≡ out.old.bytes.items ++ answer_bytes (lines_of_exposed tree.now.tree complete (number, program.now))) }
 {
     append_program_line(alloc, out, tree, number, program.program())?;
-    append_leaks(alloc, out, program.leaks())?;
+    append_kinds(alloc, out, program)?;
     append_safe_if(out, tree, complete, program.safe())
 }
 

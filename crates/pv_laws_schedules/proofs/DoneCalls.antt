@@ -4,7 +4,7 @@ use Rattle.std.specs.Prelude.{option_to_list}
 use Rattle.pv_model.specs.declared.call.Call.{Call}
 use Rattle.pv_model.specs.declared.open_flags.OpenFlags.{OpenFlags}
 use Rattle.pv_model.specs.Answer.{answer_by_reply}
-use Rattle.pv_model.specs.Machine.{at_next_line, update, with_front, effect, Attempt, Bytes, new_open_file, with_open_file, with_file, with_result, Reply, returns, returns_bytes, ends, waits, open_file, open_file_of, among, collect, needs, Numbered, at_number, with_number, least_free, calls_for, next, missing_promise, is_file, OpenFile, Descriptor, Program, Process, State, process_at, with_tree, step, has_succeeded, Tree, node_at, find_entry}
+use Rattle.pv_model.specs.Machine.{at_next_line, update, with_front, Attempt, Bytes, new_open_file, with_open_file, with_file, with_result, Reply, returns, returns_bytes, ends, waits, open_file, open_file_of, among, collect, needs, Numbered, at_number, with_number, least_free, calls_for, next, missing_promise, is_file, OpenFile, Descriptor, Program, Process, State, process_at, with_tree, step, has_succeeded, Tree, node_at, find_entry}
 use Rattle.pv_model.specs.Answers.Access.{node_opened}
 use Rattle.pv_laws_states.specs.Held.{used}
 use Rattle.pv_laws_states.specs.States.{EncodesPrograms, is_call, IsTree, IsValid}

@@ -1,5 +1,5 @@
 -- A step with other promises that miss what its own promises miss has the same lines, and the next state is equal but for promises.
-use Rattle.std.proofs.Common.{◌≡◌, ◌∙◌, sym, ap, ap₂, subst, refl, ℕ, Bool, true, false, if◌then◌else◌, List, [], ◌∷◌, ◌++◌, map, take, Option, None, Some, option_map}
+use Rattle.std.proofs.Common.{◌≡◌, ◌∙◌, sym, ap, ap₂, subst, refl, ℕ, Bool, true, false, if◌then◌else◌, [], ◌∷◌, take, Option, None, Some, option_map}
 use Rattle.pv_model.specs.declared.call.Call.{Call}
 use Rattle.pv_model.specs.declared.call.Call.TheVariants as TheCall
 use Rattle.pv_model.specs.declared.errno.Errno.TheVariants.{EACCES, ENOENT, ENOEXEC, ENOSYS}
@@ -7,12 +7,10 @@ use Rattle.pv_model.specs.declared.follow.Follow.TheVariants.{Last}
 use Rattle.pv_model.specs.declared.outcome.Cause.TheVariants.{Promise as ByPromise}
 use Rattle.pv_model.specs.declared.outcome.Outcome.{Outcome}
 use Rattle.pv_model.specs.declared.outcome.Outcome.TheVariants.{Value, Text, Killed}
-use Rattle.pv_model.specs.declared.place.Place.{Place}
 use Rattle.pv_model.specs.declared.promise.Promise.{Promise}
 use Rattle.pv_model.specs.Answer.{answer_without_promise}
 use Rattle.pv_model.specs.Answers.Observed.{is_pledge}
-use Rattle.pv_model.specs.Machine.{Answered, answer, answer_of, answer_where, answer_by_attempt, at_next_line, effect, Attempt, done, refused, after_walks, ◌>>=◌, ◌>>◌, demand, Bytes, executable_bytes, with_program, end_process, Effect, returns, walk_from, judge_for, node_of, collect, needs, permission_x, Next, inside, calls_for, next, Promises, is_lenient, missing_promise, Program, Process, State, process_at, with_process, Stepped, step, step_by, call_lines, line, Line, Word, call_word, nami_word, promise_words, unveil_words, end_words, moved_words, gave, gio_word, buffer_of, walked_paths, node_at}
-use Rattle.pv_model.specs.Step.{step_by_call}
+use Rattle.pv_model.specs.Machine.{Answered, answer, answer_of, answer_where, answer_by_attempt, at_next_line, effect, Attempt, done, refused, after_walks, ◌>>=◌, ◌>>◌, demand, Bytes, executable_bytes, with_program, end_process, Effect, returns, walk_from, judge_for, node_of, collect, needs, permission_x, Next, inside, calls_for, next, Promises, is_lenient, missing_promise, Program, Process, State, process_at, with_process, Stepped, step, step_by, call_lines, moved_words, gave, gio_word, buffer_of, node_at}
 use Rattle.pv_laws_states.specs.States.{IsValid}
 use Rattle.pv_laws_states.proofs.CallRests
 use Rattle.pv_laws_states.proofs.Members.{live-found}
@@ -20,6 +18,7 @@ use Rattle.pv_laws_states.proofs.Outcomes.{at_call}
 use Rattle.pv_laws_states.proofs.Processes.{process_at-same, update-is}
 use Rattle.pv_laws_access.proofs.Ends.{step-is}
 use Rattle.pv_laws_steps.proofs.CommutingSteps.{put-there}
+use Rattle.pv_laws_steps.proofs.ReportedParts.{lines_of}
 use Rattle.pv_laws_answers.specs.Begun.{begun_with}
 use Rattle.pv_laws_answers.specs.ProcessImages.{with_promises}
 use Rattle.pv_laws_answers.proofs.AskingCalls.{met-answer}
@@ -168,19 +167,10 @@ module _ (program_of : Bytes → Option Program) (s : State) (pid : ℕ) (p : Pr
     moves-same v w same (TheCall.Write d n) (Value count) = refl
     moves-same v w same c o = refl
 
-    abbrev lines_by : Outcome → ℕ → List Word → List Line
-    lines_by o walks moves =
-        line pid (call_word call)
-        ∷ map (λ path. line pid (nami_word path)) (take walks (walked_paths call))
-        ++ map (line pid) (promise_words call o)
-        ++ map (line pid) (unveil_words call walks o)
-        ++ map (line pid) moves
-        ++ map (line pid) (end_words call o)
-
     lines-same : (a b : Answered) → SameAnswer a b → call_lines pid q call b ≡ call_lines pid p call a
     unfolding call_lines
     lines-same a b is =
-        ap₂ (λ (o : Outcome) (walks : ℕ). lines_by o walks (moved_words b.after pid q call o)) is.outcome is.walks ∙ ap (lines_by a.outcome a.walks) (moves-same a.after b.after is.after call a.outcome)
+        ap₂ (λ (o : Outcome) (walks : ℕ). lines_of pid call walks o (moved_words b.after pid q call o)) is.outcome is.walks ∙ ap (lines_of pid call a.walks a.outcome) (moves-same a.after b.after is.after call a.outcome)
 
   -- ---- steps
 

@@ -1,5 +1,5 @@
 -- Groups of elements with equal keys, and programs with equal keys.
-use Rattle.std.proofs.Common.{◌≡◌, ◌∙◌, sym, ap, subst, bytes_eq, List, [], ◌∷◌, ◌++◌, ◌⊎◌, inl, inr}
+use Rattle.std.proofs.Common.{◌≡◌, ◌∙◌, sym, ap, subst, ℕ, bytes_eq, List, [], ◌∷◌, ◌++◌, ◌⊎◌, inl, inr}
 use Rattle.pv_model.specs.Machine.{new_ones, Numbers, bool_numbers, bytes_numbers, descriptor_numbers, entry_numbers, file_numbers, integer_numbers, list_numbers, number_numbers, option_numbers, state_numbers, tree_numbers, groups, program_numbers, Program, Process, State, first_process, first_state, Tree}
 use Rattle.pv_model.specs.Answers.Numbers.{process_numbers}
 use Rattle.pv_model.specs.Answers.Observed.{with_alike}
@@ -7,6 +7,7 @@ use Rattle.pv_laws_trees.proofs.Entries.{bytes_eq-same, bytes_eq-itself}
 use Rattle.pv_laws_answers.proofs.Lists.{Among, among-filter, filter-among, among-map, map-among}
 use Rattle.pv_laws_answers.proofs.NewKeys.{new-came, new-like}
 use Rattle.pv_laws_answers.proofs.StateDecoding.{same-state_numbers}
+use Rattle.pv_laws_schedules.proofs.Rising.{IsRising, rising-filter}
 
 module _ {X : Type 0} (key : X → Numbers) where
   -- the group of an element
@@ -47,6 +48,12 @@ module _ {X : Type 0} (key : X → Numbers) where
       let from = map-among (with_alike key xs) g (new_ones key [] xs) h in
       subst (λ (p : X × List X). Among x p.1) (sym from.2)
       (among-filter (λ z. bytes_eq (key z) (key from.0)) x xs within (ap (λ k. bytes_eq k (key from.0)) (same ∙ ap (λ (p : X × List X). key p.0) from.2) ∙ bytes_eq-itself (key from.0)))
+
+  -- a group of a rising list is rising
+  pub group-rising : (size : X → ℕ) (xs : List X) (g : X × List X) → Among g (groups key xs) → IsRising size xs → IsRising size g.1
+  group-rising size xs g h rising =
+      let from = map-among (with_alike key xs) g (new_ones key [] xs) h in
+      subst (λ (p : X × List X). IsRising size p.1) (sym from.2) (rising-filter size (λ z. bytes_eq (key z) (key from.0)) xs rising)
 
 -- programs with the same numbers are equal
 numbers-alike : (t : Tree) (a b : Program) → program_numbers a ≡ program_numbers b → state_numbers (first_state t a) ≡ state_numbers (first_state t b)

@@ -4,15 +4,21 @@
 -- - `access`: ReachedStates (the visited states), SeenStates (what processes show in them), ReportedObservations
 --   (reported observations), ReadAccess (reads are accesses), UnreadFiles, SuccessfulCalls, NamedPlaces and DoneCalls (calls
 --   that succeed), TouchAccesses (touches are accesses), ListedTouches, JustifiedAccesses, ReducedAccesses (the reduced search).
--- - `exposure`: Groups (elements with equal keys), ExposureLines, AllFiles, ReducedExposureLines (the reduced search).
+-- - `exposure`: Groups (elements with equal keys), FixedProcesses (reasons of EDIT), FindingReasons, ExposureLines, AllFiles,
+--   ReducedExposureLines (the reduced search), UnlistedRuns (runs from lines that are not listed), LeastReasons (the reasons
+--   of an audit).
 -- - `policy`: VisitedCalls (the calls of visited states), NeededPromises (promises), NeededPermissions (permissions),
---   TargetLines (their lines), Granted (granted calls), FewerPromises (a step with other promises), IdlePromises.
+--   TargetLines (their lines), Granted (granted calls), FewerPromises (a step with other promises), IdlePromises,
+--   PermissionSets, OtherTables (a step with another table), IdlePermissions.
+-- - Rising (lists in which no element is greater than a later one) and ShortestWitnesses, for `exposure` and `policy`.
 -- - ReducedTextRuns: texts by the reduced search, by computation.
 pub mod Searches
 pub mod PairSearch
 pub mod StepTexts
 pub mod AlikeRuns
 pub mod ReachedStates
+pub mod Rising
+pub mod PermissionSets
 pub mod SeenStates
 pub mod ReportedObservations
 pub mod ReadAccess
@@ -25,9 +31,14 @@ pub mod ListedTouches
 pub mod JustifiedAccesses
 pub mod ReducedAccesses
 pub mod Groups
+pub mod FixedProcesses
+pub mod FindingReasons
 pub mod ExposureLines
 pub mod AllFiles
 pub mod ReducedExposureLines
+pub mod ShortestWitnesses
+pub mod UnlistedRuns
+pub mod LeastReasons
 pub mod VisitedCalls
 pub mod NeededPromises
 pub mod NeededPermissions
@@ -35,4 +46,6 @@ pub mod TargetLines
 pub mod Granted
 pub mod FewerPromises
 pub mod IdlePromises
+pub mod OtherTables
+pub mod IdlePermissions
 pub mod ReducedTextRuns

@@ -1,16 +1,14 @@
 -- Each touch of each step is listed.
-use Rattle.std.proofs.Common.{◌≡◌, sym, subst, ℕ, ℤ, Bool, true, false, if◌then◌else◌, List, [], map, filter_map, Option, Some, option_map, option_and_then, ◌⊎◌, inl, inr, ⊎_elim, refl}
+use Rattle.std.proofs.Common.{◌≡◌, sym, subst, ℕ, ℤ, Bool, true, false, if◌then◌else◌, [], map, filter_map, Option, Some, option_map, option_and_then, ◌⊎◌, inl, inr, ⊎_elim, refl}
 use Rattle.std.specs.Prelude.{option_to_list}
-use Rattle.std.specs.List.{list_any}
 use Rattle.pv_model.specs.declared.call.Call.{Call}
 use Rattle.pv_model.specs.declared.call.Call.TheVariants.{Chdir, Stat, Lstat, Readlink}
-use Rattle.pv_model.specs.Machine.{Access, executes, changes_name, accesses, lines_of_accesses, node_of_descriptor, is_complete, AnswerLine, answer_line_bytes, of_next, of_process, of_calls, Bytes, node_of, name_of, open_file, Next, calls_for, next, OpenFile, Program, Process, State, process_at, step, run, flags_of, has_succeeded, places, read_file, change_file, report_node, gain_descriptor, Touches}
+use Rattle.pv_model.specs.Machine.{Access, executes, changes_name, accesses, lines_of_accesses, node_of_descriptor, AnswerLine, answer_line_bytes, of_next, of_process, of_calls, Bytes, node_of, name_of, open_file, Next, calls_for, next, OpenFile, Program, Process, State, process_at, step, run, flags_of, has_succeeded, places, read_file, change_file, report_node, gain_descriptor, Touches}
 use Rattle.pv_model.specs.Answers.Access.{opens, reads, reports, writes, access_line, accesses_by_open, accesses_by_success, nodes_of_places, nodes_reported, places_changed, reported_accesses}
 use Rattle.pv_model.specs.Touch.{Touch, change_entry, reports_of_descriptor, reports_of_place, IsNodeOfDescriptor, IsNodeOfPlace}
 use Rattle.pv_laws_states.specs.States.{EncodesPrograms, IsValid}
 use Rattle.pv_laws_states.proofs.BySteps.{run-keeps_whole}
 use Rattle.pv_laws_answers.specs.Accesses.{is_access_listed}
-use Rattle.pv_laws_answers.specs.Search.{IsSearchable}
 use Rattle.pv_laws_answers.proofs.Lists.{Among, among-left, among-map, among-right, among-filter_map, any-among}
 use Rattle.pv_laws_answers.proofs.CompleteObservations.{all-observed}
 use Rattle.pv_laws_schedules.specs.Access.{lines_of_touch, TouchesAreListed}

@@ -1,19 +1,19 @@
 -- The places of a call that succeeds: the names that it changes are allowed for c, an entry that it creates was absent, and an
 -- open has one place, whose node it opens.
-use Rattle.std.proofs.Common.{◌≡◌, ◌≢◌, ◌⊎◌, inl, inr, ◌∙◌, sym, ap, subst, refl, cond, ℕ, ℤ, Bool, true, false, not, ◌&&◌, ◌||◌, if◌then◌else◌, nat_le, nat_lt, List, [], ◌∷◌, filter, filter_map, Option, None, Some, is_some, is_none, option_and_then, Result, Ok}
+use Rattle.std.proofs.Common.{◌≡◌, ◌≢◌, ◌⊎◌, inl, inr, ◌∙◌, sym, ap, subst, refl, cond, ℕ, ℤ, Bool, true, false, not, ◌&&◌, ◌||◌, if◌then◌else◌, nat_le, nat_lt, List, [], ◌∷◌, filter, filter_map, Option, None, Some, is_some, is_none, option_and_then, Ok}
 use Rattle.std.specs.List.{cons_option}
 use Rattle.std.proofs.lemmas.Bool.{and_parts, not-false}
 use Rattle.pv_model.specs.declared.call.Call.{Call}
 use Rattle.pv_model.specs.declared.call.Call.TheVariants as TheCall
 use Rattle.pv_model.specs.declared.call.Start.{Start}
 use Rattle.pv_model.specs.declared.call.Start.TheVariants.{WorkingDirectory}
-use Rattle.pv_model.specs.declared.errno.Errno.TheVariants.{EFBIG, EPERM, EBADF, ENOENT, EBUSY, EEXIST, ENOTDIR, EISDIR, EINVAL, ENAMETOOLONG, ENOTEMPTY, ENFILE, EMFILE, ELOOP}
+use Rattle.pv_model.specs.declared.errno.Errno.TheVariants.{EFBIG, EPERM, EBADF, ENOENT, EEXIST, ENOTDIR, EISDIR, EINVAL, ENAMETOOLONG, ENFILE, EMFILE, ELOOP}
 use Rattle.pv_model.specs.declared.follow.Follow.{Follow}
 use Rattle.pv_model.specs.declared.follow.Follow.TheVariants.{Last, Keep, KeepTrimmed}
 use Rattle.pv_model.specs.declared.judgement.Judgement.TheVariants.{Allowed, Denied}
 use Rattle.pv_model.specs.declared.open_flags.OpenFlags.{OpenFlags}
 use Rattle.pv_model.specs.declared.place.Place.{Place}
-use Rattle.pv_model.specs.Machine.{effect, Attempt, done, refused, ◌>>=◌, ◌>>◌, refuse_if, Bytes, is_empty, within, natural, is_past_greatest, is_link, contradicts, with_content, with_open_file, open_node, open_at, open_file_for, check_start, write_end, after_write, ends_in_dot, Effect, Reply, returns, answers, node_of, name_of, walk_from, judge_for, start_directory, end_of, permissions_of_open, no_permissions, join_permissions, covers, permission_c, permission_r, least_free, OpenFile, Program, Process, State, reads, writes, process_at, with_tree, flags_of, place_found, places, Node, directory_node, file_node, link_node, Tree, node_at, is_directory, is_directory_at, find_entry, with_entry, without_entry, with_new_node, new_number, Table, permissions_at, judge_entry, governing_entry, judgement, resolve, Walked, Walk, from_here, follow_of, open_walk, rename_walk}
+use Rattle.pv_model.specs.Machine.{effect, Attempt, done, refused, ◌>>=◌, ◌>>◌, refuse_if, Bytes, is_empty, within, natural, is_past_greatest, is_link, contradicts, with_content, with_open_file, open_node, open_at, open_file_for, check_start, write_end, after_write, ends_in_dot, Effect, Reply, returns, answers, node_of, name_of, walk_from, judge_for, start_directory, end_of, permissions_of_open, no_permissions, join_permissions, covers, permission_c, permission_r, least_free, Program, Process, State, writes, process_at, with_tree, flags_of, place_found, places, Node, directory_node, file_node, link_node, Tree, node_at, is_directory, is_directory_at, find_entry, with_entry, with_new_node, new_number, Table, permissions_at, judge_entry, governing_entry, judgement, resolve, Walked, Walk, from_here, follow_of, open_walk, rename_walk}
 use Rattle.pv_model.specs.Answers.Access.{creates_names, places_changed, removes_names}
 use Rattle.pv_model.specs.Calls.Paths.{make}
 use Rattle.pv_model.specs.Needs.{permissions_of_mode}

@@ -227,6 +227,7 @@ module _ (program_of : Bytes → Option Program) where
   pub record IsListedOf (rs : Requests) (l : ListedNeed) : Type 0 where
     pub within : Among l.1 rs
     pub has : list_any (same_need l.0) (needs l.1.item.call) ≡ true
+    pub first : first_of (with_need rs l.0) ≡ Some l.1
 
   first-of : (rs : Requests) (ns : List Need) (l : ListedNeed) → first_listed rs ns ≡ Some l → IsListedOf rs l
   first-of rs [] l is = cc
@@ -237,7 +238,7 @@ module _ (program_of : Bytes → Option Program) where
       by (x ∷ xs) some is' later =
           let same : ◌≡◌ {A = ListedNeed} (need, x) l = cc is' in
           let own = filter-among (λ r. list_any (same_need need) (needs r.item.call)) x rs (subst (λ (ys : Requests). Among x ys) (sym some) (inl refl)) in
-          subst (IsListedOf rs) same (record { within = own.0; has = own.1 })
+          subst (IsListedOf rs) same (record { within = own.0; has = own.1; first = ap first_of some })
 
   listed-of : (rs : Requests) (ps : List Promise) (l : ListedNeed) → Among l (filter_map (λ p. first_listed rs (needs_with p)) ps) → IsListedOf rs l
   listed-of rs [] l h = absurd h

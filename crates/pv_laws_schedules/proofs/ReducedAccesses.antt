@@ -1,13 +1,11 @@
 -- The accesses of the reduced search, and the files that it lists as unread.
-use Rattle.std.proofs.Common.{◌≡◌, ◌∙◌, sym, ap, ap₂, subst, ℕ, Bool, true, false, not, ◌&&◌, ◌==◌, eq-eqb, List, [], ◌∷◌, ◌++◌, map, length, codes, Contains, Option, None, Some, is_some, ⊎_elim, refl}
-use Rattle.std.specs.List.{AllByRecursion, list_any}
+use Rattle.std.proofs.Common.{◌≡◌, ◌∙◌, sym, ap, ap₂, subst, ℕ, true, false, not, ◌==◌, eq-eqb, List, [], ◌∷◌, ◌++◌, map, length, codes, Contains, Option, None, Some, is_some, ⊎_elim, refl}
+use Rattle.std.specs.List.{list_any}
 use Rattle.std.proofs.lemmas.Bool.{and_parts, not-true}
-use Rattle.pv_model.specs.Machine.{Access, executes, accesses, lines_of_accesses, Found, Move, move, moves_of, AnswerLine, named_files, Observation, observed, of_next, of_process, of_calls, Bytes, same_node, Next, calls_for, next, Program, Process, State, process_at, Run, step, run, read_file, file_bytes, with_bytes, Touches, trace_bytes, root, find_entry}
+use Rattle.pv_model.specs.Machine.{Access, executes, accesses, lines_of_accesses, Move, move, moves_of, AnswerLine, named_files, Observation, observed, of_next, of_process, of_calls, Bytes, same_node, Next, Program, Process, State, process_at, step, run, read_file, file_bytes, with_bytes, Touches, trace_bytes, root, find_entry}
 use Rattle.pv_model.specs.Answers.Access.{reads, file_read, is_unread}
-use Rattle.pv_model.specs.Touch.{SameButFile, Touch}
 use Rattle.pv_laws_states.specs.States.{EncodesPrograms, IsValid}
 use Rattle.pv_laws_states.proofs.BySteps.{run-keeps_whole, step-keeps_whole}
-use Rattle.pv_laws_access.specs.Secrets.{StepsDifferInFile}
 use Rattle.pv_laws_access.specs.Sealing.{RunsDifferInFile}
 use Rattle.pv_laws_access.proofs.SimilarTrees.{as_is, near-bytes, near-length_of, same-but_file}
 use Rattle.pv_laws_answers.specs.Accesses.{is_access_listed}

@@ -2,12 +2,14 @@
 use Rattle.std.proofs.Common.{◌≡◌, true, bytes_eq, length, refl}
 use Rattle.pv_model.specs.Machine.{accesses, states_found, is_complete, answer_bytes, leaks}
 use Rattle.pv_model.specs.Answers.OnLiterals.{answers_on_literals}
+use Rattle.pv_model_questions.specs.Exposure.{exposed_lines}
+use Rattle.pv_model_questions.specs.Fixed.{edits}
 use Rattle.pv_laws_trees.proofs.Entries.{bytes_eq-same}
 use Rattle.pv_laws_states.specs.ExampleStates.{no_programs}
 use Rattle.pv_laws_classes.specs.Canonical.{canonical}
 use Rattle.pv_laws_classes.specs.Reduced.{representative, reduced_found}
-use Rattle.pv_laws_classes.specs.ReducedAnswers.{reduced_access_lines, reduced_policy_lines, reduced_exposure_lines}
-use Rattle.pv_laws_schedules.specs.ReducedRuns.{file_open, reduced_access_text, reduced_policy_text, reduced_exposure_text, ReducedTexts}
+use Rattle.pv_laws_classes.specs.ReducedAnswers.{reduced_access_lines, reduced_policy_lines}
+use Rattle.pv_laws_schedules.specs.ReducedRuns.{exposed_now, file_open, reduced_access_text, reduced_policy_text, reduced_exposure_text, ReducedTexts}
 
 complete-now : is_complete no_programs 30 file_open ≡ true
 unfolding answers_on_literals
@@ -25,8 +27,8 @@ policy-now : bytes_eq (answer_bytes (reduced_policy_lines no_programs 30 file_op
 unfolding answers_on_literals canonical representative reduced_found reduced_policy_lines
 policy-now = refl
 
-exposure-now : bytes_eq (answer_bytes (reduced_exposure_lines no_programs 30 file_open)) reduced_exposure_text ≡ true
-unfolding answers_on_literals leaks canonical representative reduced_found reduced_exposure_lines
+exposure-now : bytes_eq (answer_bytes exposed_now) reduced_exposure_text ≡ true
+unfolding answers_on_literals leaks edits exposed_lines canonical representative reduced_found
 exposure-now = refl
 
 pub texts-happen : ReducedTexts
@@ -35,5 +37,5 @@ texts-happen = record {
   states = states-now;
   access = bytes_eq-same (answer_bytes (reduced_access_lines no_programs 30 file_open)) reduced_access_text access-now;
   policy = bytes_eq-same (answer_bytes (reduced_policy_lines no_programs 30 file_open)) reduced_policy_text policy-now;
-  exposure = bytes_eq-same (answer_bytes (reduced_exposure_lines no_programs 30 file_open)) reduced_exposure_text exposure-now;
+  exposure = bytes_eq-same (answer_bytes exposed_now) reduced_exposure_text exposure-now;
 }

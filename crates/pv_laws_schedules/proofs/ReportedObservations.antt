@@ -5,15 +5,16 @@ use Rattle.pv_model.specs.Machine.{accesses, lines_of_accesses, Found, Move, mov
 use Rattle.pv_model.specs.Answers.Access.{access_line, reported_accesses}
 use Rattle.pv_model.specs.Answers.Observed.{CallObserver, observations_at}
 use Rattle.pv_laws_answers.specs.Search.{IsSearchable}
-use Rattle.pv_laws_answers.specs.Witnesses.{AreSteps, EachToLater}
+use Rattle.pv_laws_answers.specs.Witnesses.{AreSteps}
 use Rattle.pv_laws_answers.proofs.CompleteSearches.{among-contains}
 use Rattle.pv_laws_answers.proofs.Lists.{Among, each-among, each-from_among, among-map, map-among, among-flat, flat-among}
 use Rattle.pv_laws_answers.proofs.NewKeys.{new-came, new-first, new-differ}
 use Rattle.pv_laws_answers.proofs.SoundStates.{made-by, witness-more}
-use Rattle.pv_laws_answers.proofs.WitnessOrders.{to_later-append}
+use Rattle.pv_laws_answers.proofs.WitnessOrders.{to_later-weaker}
 use Rattle.pv_laws_schedules.specs.Access.{IsFirstObserved, IsAccessLine, IsListedAccess, ListedAccessesHappen}
 use Rattle.pv_laws_classes.proofs.SeenProcesses.{themselves}
-use Rattle.pv_laws_schedules.proofs.ReachedStates.{ReachedIn, own-move, reached, rising, size, sound-at}
+use Rattle.pv_laws_schedules.proofs.ReachedStates.{ReachedIn, own-move, reached, rising, sound-at}
+use Rattle.pv_laws_schedules.proofs.Rising.{IsRising, rising-flat}
 use Rattle.pv_laws_schedules.proofs.SeenStates.{AreSound}
 
 module _ {X : Type 0} (observe : Observer X) (program_of : Bytes → Option Program) where
@@ -47,100 +48,108 @@ module _ {X : Type 0} (observe : Observer X) (program_of : Bytes → Option Prog
     pub made-in : (o : Observation X) → Among o (flat_map (observations_at observe program_of) fs) → IsMade fs o
     made-in o h = let from = flat-among (observations_at observe program_of) o fs h in made-at from.0 from.1 o from.2
 
-module _ {X : Type 0} (observe : Observer X) (key : X → Numbers) (program_of : Bytes → Option Program) (limit : ℕ) (s : State) (it : IsSearchable program_of limit s) where
+module _ {X : Type 0} (observe : Observer X) (program_of : Bytes → Option Program) (limit : ℕ) (s : State) (it : IsSearchable program_of limit s) where
   abbrev found : List Found
   found = states_found program_of limit s
 
-  abbrev all : List (Observation X)
+  abbrev pub all : List (Observation X)
   all = observations observe program_of limit s
 
   abbrev IsMadeAt : Observation X → Type 0
   IsMadeAt o = IsMade observe program_of found o
 
-  made-size : (o : Observation X) (made : IsMadeAt o) → length o.move.witness ≡ suc (size program_of limit s it made.from)
-  made-size o made = ap (λ (m : Move). length m.witness) made.is ∙ (omega (arith, length-append made.from.witness (o.move.pid ∷ [])))
+  made : (o : Observation X) → Among o all → IsMadeAt o
+  made o h = made-in observe program_of s found (sound-at program_of limit s it) o h
+
+  made-size : (o : Observation X) (own : IsMadeAt o) → length o.move.witness ≡ suc (length own.from.witness)
+  made-size o own = ap (λ (m : Move). length m.witness) own.is ∙ (omega (arith, length-append own.from.witness (o.move.pid ∷ [])))
 
   -- ---- the order of observations
 
-  abbrev NoLonger : Observation X → Observation X → Type 0
-  NoLonger o q = length o.move.witness ≤ length q.move.witness
+  abbrev pub steps_of : Observation X → ℕ
+  steps_of o = length o.move.witness
 
-  at-size : (f : Found) → Among f found → (o : Observation X) → Among o (observations_at observe program_of f) → length o.move.witness ≡ suc (length f.witness)
+  at-size : (f : Found) → Among f found → (o : Observation X) → Among o (observations_at observe program_of f) → steps_of o ≡ suc (length f.witness)
   at-size f within o h =
       let of = flat-among (λ (m : Move). map (observed m) (observe f.state m.pid m.stepped)) o (moves_of program_of f) h in
       let item = map-among (observed of.0) o (observe f.state of.0.pid of.0.stepped) of.2 in
-      let made = made-by program_of s f of.0 (sound-at program_of limit s it f within).whole of.1 in
-      ap (λ (q : Observation X). length q.move.witness) item.2 ∙ ap (λ (m : Move). length m.witness) made.2 ∙ (omega (arith, length-append f.witness (of.0.pid ∷ [])))
+      let own = made-by program_of s f of.0 (sound-at program_of limit s it f within).whole of.1 in
+      ap steps_of item.2 ∙ ap (λ (m : Move). length m.witness) own.2 ∙ (omega (arith, length-append f.witness (of.0.pid ∷ [])))
 
-  equal-order : (n : ℕ) (os : List (Observation X)) → ((o : Observation X) → Among o os → length o.move.witness ≡ n) → EachToLater NoLonger os
-  equal-order n [] h = tt
-  equal-order n (o ∷ os) h =
-      (each-from_among (NoLonger o) os (λ q k. omega (arith, h o (inl refl), h q (inr k))), equal-order n os (λ q k. h q (inr k)))
-
-  in-order : (fs : List Found) → ((f : Found) → Among f fs → Among f found) → EachToLater (λ f g. length f.witness ≤ length g.witness) fs → EachToLater NoLonger (flat_map (observations_at observe program_of) fs)
-  in-order [] sub r = tt
-  in-order (f ∷ fs) sub r =
-      to_later-append NoLonger (observations_at observe program_of f) (flat_map (observations_at observe program_of) fs)
-      (equal-order (suc (length f.witness)) (observations_at observe program_of f) (at-size f (sub f (inl refl))))
-      (in-order fs (λ g k. sub g (inr k)) r.1)
-      (λ o h q k.
-      let from = flat-among (observations_at observe program_of) q fs k in
-      let le = each-among (λ g. length f.witness ≤ length g.witness) fs r.0 from.0 from.1 in
-      omega (arith, at-size f (sub f (inl refl)) o h, at-size from.0 (sub from.0 (inr from.1)) q from.2))
-
-  order : EachToLater NoLonger all
-  order = in-order found (λ f h. h) (rising program_of limit s it)
-
-  -- ---- the first observation of each item
-
-  abbrev pub reported : List (Observation X)
-  reported = first_observations key all
-
-  shortest-by : (o : Observation X) → Among o reported → (made : IsMadeAt o) → (pids : List ℕ) (pid : ℕ) (x : X) → ReachedIn program_of limit s it (length pids) (run program_of pids s).final
-      → ((t : State) → process_at t pid ≡ None → Among x (observe t pid (step program_of t pid)) → ⊥)
-      → Among x (observe (run program_of pids s).final pid (step program_of (run program_of pids s).final pid)) → key x ≡ key o.item → length made.from.witness ≤ length pids
-  shortest-by o h made pids pid x (inr many) none has same = each-among (λ (g : Found). length g.witness ≤ length pids) found many made.from made.within
-  shortest-by o h made pids pid x (inl here) none has same = by (process_at here.0.state pid) refl
-    where
-      there : Among x (observe here.0.state pid (step program_of here.0.state pid))
-      there = subst (λ (u : State). Among x (observe u pid (step program_of u pid))) (sym here.2) has
-
-      from : (o ≡ observed (move program_of here.0 pid) x) ⊎ NoLonger o (observed (move program_of here.0 pid) x) → length made.from.witness ≤ length pids
-      from (inl e) = omega (arith, made-size o made, ap (λ (q : Observation X). length q.move.witness) e, length-append here.0.witness (pid ∷ []), here.3)
-      from (inr le) = omega (arith, made-size o made, le, length-append here.0.witness (pid ∷ []), here.3)
-
-      by : (p : Option Process) → process_at here.0.state pid ≡ p → length made.from.witness ≤ length pids
-      by None gone = absurd (none here.0.state gone there)
-      by (Some p) lives =
-          let own = among-flat (λ (m : Move). map (observed m) (observe here.0.state m.pid m.stepped)) (move program_of here.0 pid) (observed (move program_of here.0 pid) x) (moves_of program_of here.0)
-          (own-move program_of limit s it here.0 pid p lives) (among-map (observed (move program_of here.0 pid)) x (observe here.0.state pid (step program_of here.0.state pid)) there) in
-          let within = among-flat (observations_at observe program_of) here.0 (observed (move program_of here.0 pid) x) found here.1 own in
-          from (new-first (λ (q : Observation X). key q.item) NoLonger [] all order o h (observed (move program_of here.0 pid) x) within same)
+  pub order : IsRising steps_of all
+  order =
+      rising-flat (λ (f : Found). suc (length f.witness)) steps_of (observations_at observe program_of) found
+      (to_later-weaker (λ f g. length f.witness ≤ length g.witness) (λ f g. suc (length f.witness) ≤ suc (length g.witness)) found
+      (λ f g h k le. omega (arith, le)) (rising program_of limit s it))
+      at-size
 
   -- an observer of live processes alone
   abbrev pub IsOfLive : Type 0
   IsOfLive = (t : State) (pid : ℕ) (x : X) → process_at t pid ≡ None → Among x (observe t pid (step program_of t pid)) → ⊥
 
-  pub first-observed : IsOfLive → (o : Observation X) → Among o reported → IsFirstObserved observe key program_of s o
-  first-observed of_live o h =
-      let within = new-came (λ (q : Observation X). key q.item) [] all o h in
-      let made : IsMadeAt o = made-in observe program_of s found (sound-at program_of limit s it) o within in
-      let sound = sound-at program_of limit s it made.from made.within in
-      let witness : o.move.witness ≡ made.from.witness ++ o.move.pid ∷ [] = ap (λ (m : Move). m.witness) made.is in
-      let leads : (run program_of made.from.witness s).final ≡ made.from.state = sound.witness.leads in
-      let last : o.move.stepped ≡ step program_of made.from.state o.move.pid = ap (λ (m : Move). m.stepped) made.is in
-      record {
-        before = made.from.witness;
-        witness = witness;
-        steps = subst (λ (w : List ℕ). AreSteps program_of w s) (sym witness) (witness-more program_of s made.from.state made.from.witness o.move.pid sound.witness (ap is_some made.lives)).steps;
-        last = last ∙ ap (λ u. step program_of u o.move.pid) (sym leads);
-        item = subst (λ (st : Stepped). Contains (observe (run program_of made.from.witness s).final o.move.pid st) o.item) (sym last)
-            (subst (λ (u : State). Contains (observe u o.move.pid (step program_of made.from.state o.move.pid)) o.item) (sym leads)
-            (among-contains o.item (observe made.from.state o.move.pid (step program_of made.from.state o.move.pid)) made.item));
-        shortest = λ pids pid x has same.
-            shortest-by o h made pids pid x (reached program_of limit s it pids) (λ t none there. of_live t pid x none there)
-            (themselves (observe (run program_of pids s).final pid (step program_of (run program_of pids s).final pid)) x has) same;
-      }
+  -- an observation that is no longer than each observation of an item is no longer than a schedule to this item
+  pub shortest-to : IsOfLive → (o : Observation X) → Among o all → (pids : List ℕ) (pid : ℕ) (x : X)
+      → Among x (observe (run program_of pids s).final pid (step program_of (run program_of pids s).final pid))
+      → ((q : Observation X) → Among q all → q.item ≡ x → steps_of o ≤ steps_of q) → steps_of o ≤ suc (length pids)
+  shortest-to of_live o within pids pid x has first = from (reached program_of limit s it pids)
+    where
+      from : ReachedIn program_of limit s it (length pids) (run program_of pids s).final → steps_of o ≤ suc (length pids)
+      from (inr many) =
+          let own = made o within in
+          omega (arith, made-size o own, each-among (λ (g : Found). length g.witness ≤ length pids) found many own.from own.within)
+      from (inl here) = by (process_at here.0.state pid) refl
+        where
+          there : Among x (observe here.0.state pid (step program_of here.0.state pid))
+          there = subst (λ (u : State). Among x (observe u pid (step program_of u pid))) (sym here.2) has
+
+          by : (p : Option Process) → process_at here.0.state pid ≡ p → steps_of o ≤ suc (length pids)
+          by None gone = absurd (of_live here.0.state pid x gone there)
+          by (Some p) lives =
+              let m = move program_of here.0 pid in
+              let own = among-flat (λ (m : Move). map (observed m) (observe here.0.state m.pid m.stepped)) m (observed m x) (moves_of program_of here.0)
+              (own-move program_of limit s it here.0 pid p lives) (among-map (observed m) x (observe here.0.state pid (step program_of here.0.state pid)) there) in
+              let le = first (observed m x) (among-flat (observations_at observe program_of) here.0 (observed m x) found here.1 own) refl in
+              omega (arith, le, length-append here.0.witness (pid ∷ []), here.3)
+
+  -- ---- the first observation of each item
+
+  module _ (key : X → Numbers) where
+    abbrev pub reported : List (Observation X)
+    reported = first_observations key all
+
+    pub first-observed : IsOfLive → (o : Observation X) → Among o reported → IsFirstObserved observe key program_of s o
+    first-observed of_live o h =
+        let within = new-came (λ (q : Observation X). key q.item) [] all o h in
+        let own = made o within in
+        let sound = sound-at program_of limit s it own.from own.within in
+        let witness : o.move.witness ≡ own.from.witness ++ o.move.pid ∷ [] = ap (λ (m : Move). m.witness) own.is in
+        let leads : (run program_of own.from.witness s).final ≡ own.from.state = sound.witness.leads in
+        let last : o.move.stepped ≡ step program_of own.from.state o.move.pid = ap (λ (m : Move). m.stepped) own.is in
+        record {
+          before = own.from.witness;
+          witness = witness;
+          steps = subst (λ (w : List ℕ). AreSteps program_of w s) (sym witness) (witness-more program_of s own.from.state own.from.witness o.move.pid sound.witness (ap is_some own.lives)).steps;
+          last = last ∙ ap (λ u. step program_of u o.move.pid) (sym leads);
+          item = subst (λ (st : Stepped). Contains (observe (run program_of own.from.witness s).final o.move.pid st) o.item) (sym last)
+              (subst (λ (u : State). Contains (observe u o.move.pid (step program_of own.from.state o.move.pid)) o.item) (sym leads)
+              (among-contains o.item (observe own.from.state o.move.pid (step program_of own.from.state o.move.pid)) own.item));
+          shortest = λ pids pid x has same.
+              omega (
+                arith,
+                made-size o own,
+                shortest-to of_live o within pids pid x
+                    (themselves (observe (run program_of pids s).final pid (step program_of (run program_of pids s).final pid)) x has)
+                    (λ q k is. no-later q k (ap key is ∙ same)),
+              );
+        }
+      where
+        no-later : (q : Observation X) → Among q all → key q.item ≡ key o.item → steps_of o ≤ steps_of q
+        no-later q k same =
+            by (new-first (λ (q : Observation X). key q.item) (λ p q. steps_of p ≤ steps_of q) [] all order o h q k same)
+          where
+            by : (o ≡ q) ⊎ (steps_of o ≤ steps_of q) → steps_of o ≤ steps_of q
+            by (inl e) = omega (arith, ap steps_of e)
+            by (inr le) = le
 
 -- ---- observers of calls
 
@@ -193,5 +202,5 @@ accesses-happen program_of limit s it = record {
 
     listed : (o : Observation AnswerLine) → Among o (reported_accesses program_of limit s) → IsListedAccess program_of s o
     listed o h =
-        let first = first-observed (of_calls lines_of_accesses) answer_line_bytes program_of limit s it (calls-of-live lines_of_accesses program_of) o h in
+        let first = first-observed (of_calls lines_of_accesses) program_of limit s it answer_line_bytes (calls-of-live lines_of_accesses program_of) o h in
         record { first = first; access = line (run program_of first.before s).final o.move.pid o.move.stepped first.last o.item first.item }

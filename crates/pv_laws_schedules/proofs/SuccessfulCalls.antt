@@ -1,13 +1,12 @@
 -- A touch that only a call can make, if it succeeds, is made by a call that succeeds.
-use Rattle.std.proofs.Common.{◌≡◌, ◌≢◌, ◌∙◌, sym, ap, subst, refl, ℕ, pos, negsuc, true, false, length, Option, None, Some}
+use Rattle.std.proofs.Common.{◌≡◌, ◌≢◌, ◌∙◌, sym, ap, subst, refl, ℕ, negsuc, true, false, length, Option, None, Some}
 use Rattle.std.specs.FinMap.Entries.{is_sorted}
 use Rattle.std.specs.Ordering.{nat_cmp}
 use Rattle.pv_model.specs.declared.call.Call.{Call}
-use Rattle.pv_model.specs.declared.errno.Errno.{Errno}
 use Rattle.pv_model.specs.declared.outcome.Outcome.{Outcome}
 use Rattle.pv_model.specs.declared.outcome.Outcome.TheVariants.{Value, Text, Exited, Blocked}
 use Rattle.pv_model.specs.Answer.{answer_by_reply}
-use Rattle.pv_model.specs.Machine.{answer_by_attempt, at_next_line, update, effect, Attempt, done, refused, Bytes, with_result, end_process, Effect, Reply, returns, returns_bytes, ends, waits, errno_number, collect, needs, calls_for, next, missing_promise, Program, Process, State, process_at, with_process, Stepped, step, step_by, live, has_succeeded}
+use Rattle.pv_model.specs.Machine.{answer_by_attempt, at_next_line, effect, Attempt, done, refused, Bytes, with_result, end_process, Effect, Reply, returns, returns_bytes, ends, waits, errno_number, collect, needs, calls_for, next, missing_promise, Program, Process, State, process_at, with_process, Stepped, step, step_by, live, has_succeeded}
 use Rattle.pv_model.specs.Step.{step_by_call}
 use Rattle.pv_laws_states.specs.States.{IsValid}
 use Rattle.pv_laws_states.proofs.Attempts.{Leads}

@@ -1,8 +1,6 @@
 -- Each touch of a step has its access among those of the step.
-use Rattle.std.proofs.Common.{◌≡◌, ◌≢◌, ◌⊎◌, inl, inr, ⊎_elim, ◌∙◌, sym, ap, subst, refl, ℕ, ℤ, Bool, true, false, if◌then◌else◌, ◌==◌, eqb-true, List, [], ◌∷◌, ◌++◌, map, filter, filter_map, Contains, Option, None, Some, is_none, option_map, option_and_then}
+use Rattle.std.proofs.Common.{◌≡◌, ◌≢◌, ◌⊎◌, inl, inr, ⊎_elim, ◌∙◌, sym, ap, subst, refl, ℕ, ℤ, Bool, true, false, if◌then◌else◌, ◌==◌, eqb-true, List, [], ◌∷◌, ◌++◌, map, filter, filter_map, Option, None, Some, is_none, option_map, option_and_then}
 use Rattle.std.specs.Prelude.{option_to_list}
-use Rattle.std.specs.FinMap.Entries.{is_sorted}
-use Rattle.std.specs.Ordering.{nat_cmp}
 use Rattle.pv_model.specs.declared.call.Call.{Call}
 use Rattle.pv_model.specs.declared.call.Call.TheVariants as TheCall
 use Rattle.pv_model.specs.declared.open_flags.Mode.{Mode}
@@ -11,8 +9,8 @@ use Rattle.pv_model.specs.declared.outcome.Outcome.{Outcome}
 use Rattle.pv_model.specs.declared.outcome.Outcome.TheVariants.{Value}
 use Rattle.pv_model.specs.declared.place.Place.{Place}
 use Rattle.pv_model.specs.declared.promise.Promise.TheVariants.{Cpath}
-use Rattle.pv_model.specs.Machine.{at_next_line, Access, executes, changes_name, accesses, node_of_descriptor, Attempt, Bytes, end_process, Effect, Reply, returns, node_of, name_of, bytes_of, open_file, collect, needs, needs_cpath, calls_for, next, Need, missing_promise, is_file, OpenFile, Program, Process, State, writes as for_writing, process_at, step, change_file, gain_descriptor, file_bytes, descriptor_of, flags_of, places, Touches, node_at, find_entry, new_number, Tree}
-use Rattle.pv_model.specs.Answers.Access.{reads, writes, reports, opens, accesses_by_open, accesses_by_success, creates_names, if_truncated, node_opened, nodes_executed, nodes_of_places, nodes_read, nodes_reported, nodes_written, places_changed, removes_names}
+use Rattle.pv_model.specs.Machine.{at_next_line, Access, executes, changes_name, accesses, node_of_descriptor, Attempt, Bytes, end_process, Effect, node_of, name_of, bytes_of, open_file, needs, needs_cpath, calls_for, next, Need, missing_promise, is_file, OpenFile, Program, Process, State, writes as for_writing, process_at, step, change_file, gain_descriptor, file_bytes, flags_of, places, Touches, node_at, find_entry, new_number, Tree}
+use Rattle.pv_model.specs.Answers.Access.{reads, writes, reports, opens, accesses_by_open, accesses_by_success, creates_names, if_truncated, nodes_executed, nodes_of_places, nodes_read, nodes_reported, nodes_written, places_changed, removes_names}
 use Rattle.pv_model.specs.Touch.{change_entry, HasDescriptor, HasOpen}
 use Rattle.pv_laws_states.specs.States.{EncodesPrograms, IsTree, IsValid}
 use Rattle.pv_laws_states.proofs.Attempts.{Leads}

@@ -26,7 +26,7 @@ module _ (program_of : Bytes → Option Program) where
   abbrev pub programs_of : List Found → List (Observation Request × Requests)
   programs_of fs = groups program_key (requests_of fs)
 
-  abbrev calls_at : State → ℕ → List Request
+  abbrev pub calls_at : State → ℕ → List Request
   calls_at u pid = of_calls (request program_of) u pid (step program_of u pid)
 
   call-at : (u : State) (pid : ℕ) (r : Request) → Among r (calls_at u pid) → IsOfCall (request program_of) u pid (step program_of u pid) r
@@ -41,7 +41,7 @@ module _ (program_of : Bytes → Option Program) where
     pub same : shown_call shown_by.item ≡ shown_call (asks u pid p call)
     pub outcome : shown_by.move.stepped.outcome ≡ (step program_of u pid).outcome
 
-  own-call : (u : State) (pid : ℕ) (p : Process) (call : Call) → process_at u pid ≡ Some p → next p ≡ calls_for call
+  pub own-call : (u : State) (pid : ℕ) (p : Process) (call : Call) → process_at u pid ≡ Some p → next p ≡ calls_for call
       → Among (asks u pid p call) (calls_at u pid)
   own-call u pid p call live is =
       let now = step program_of u pid in

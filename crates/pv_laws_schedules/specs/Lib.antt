@@ -8,3 +8,7 @@ pub mod ReducedExposure
 pub mod ReducedPolicy
 pub mod Idle
 pub mod ReducedRuns
+pub mod ShortestWitnesses
+pub mod LeastReasons
+pub mod UnlistedRuns
+pub mod IdlePermissions

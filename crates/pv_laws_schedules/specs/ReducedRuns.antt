@@ -2,9 +2,11 @@
 use Rattle.std.specs.Prelude.{◌≡◌, true, IsTrue, List, [], ◌∷◌, ◌++◌, flat_map, codes, length, pos}
 use Rattle.pv_model.specs.declared.instruction.Instruction.TheVariants.{Set, Fork, Mkdir, Open}
 use Rattle.pv_model.specs.declared.open_flags.Mode.TheVariants.{ReadWrite}
-use Rattle.pv_model.specs.Machine.{states_found, is_complete, answer_bytes, Bytes, State}
+use Rattle.pv_model.specs.Machine.{AnswerLine, states_found, is_complete, answer_bytes, Bytes, State}
+use Rattle.pv_model_questions.specs.Exposure.{exposed_lines}
 use Rattle.pv_laws_states.specs.ExampleStates.{no_programs, state_after, flags}
-use Rattle.pv_laws_classes.specs.ReducedAnswers.{reduced_access_lines, reduced_policy_lines, reduced_exposure_lines}
+use Rattle.pv_laws_classes.specs.Reduced.{reduced_found, is_reduced_complete}
+use Rattle.pv_laws_classes.specs.ReducedAnswers.{classes_done_line, reduced_access_lines, reduced_policy_lines}
 
 -- a process has an empty file open; it forks, and both processes set a register and make the same directory
 abbrev pub file_open : State
@@ -42,12 +44,19 @@ reduced_policy_text =
     ∷ []
     )
 
+abbrev pub exposed_now : List AnswerLine
+exposed_now =
+    exposed_lines no_programs file_open.tree (is_reduced_complete no_programs file_open 30) (reduced_found no_programs file_open 30)
+    (classes_done_line no_programs 30 file_open)
+
 abbrev pub reduced_exposure_text : Bytes
 reduced_exposure_text =
     joined_lines (
     codes "    0 PROG  1, no file"
     ∷ codes "    1 BY    1 3"
     ∷ codes "    1 LEAK  \"/x\", lines 2-5, reads descriptor 0"
+    ∷ codes "    1 BY    1 3"
+    ∷ codes "    1 EDIT  \"/x\", lines 2-5, writes descriptor 0"
     ∷ codes "    0 DONE  16 classes, complete"
     ∷ []
     )
@@ -57,4 +66,4 @@ pub record ReducedTexts : Type 0 where
   pub states : length (states_found no_programs 30 file_open) ≡ 20
   pub access : answer_bytes (reduced_access_lines no_programs 30 file_open) ≡ reduced_access_text
   pub policy : answer_bytes (reduced_policy_lines no_programs 30 file_open) ≡ reduced_policy_text
-  pub exposure : answer_bytes (reduced_exposure_lines no_programs 30 file_open) ≡ reduced_exposure_text
+  pub exposure : answer_bytes exposed_now ≡ reduced_exposure_text

@@ -7,6 +7,7 @@
 //! - `access`: which process can access what, and the files that no step reads.
 //! - `exposure`: the lines of a program at which a process is not closed to a file.
 //! - `policy`: the promises and permissions that a program needs; `granted_policy`: those that its granted calls need.
+//! - `reasons`: the reasons why a process is not closed to a file.
 //! - `reduced_access`, `reduced_exposure`, `reduced_policy`: the same by the reduced search.
 //! - `reduced_runs`: worked runs of the texts by the reduced search.
 #![tactic(auto)]
@@ -16,6 +17,7 @@ pub mod compare;
 pub mod exposure;
 pub mod granted_policy;
 pub mod policy;
+pub mod reasons;
 pub mod reduced_access;
 pub mod reduced_exposure;
 pub mod reduced_policy;

@@ -1,7 +1,9 @@
 //! Laws of the promises and permissions that a program needs.
 
 ghost use Rattle.pv_laws_schedules.specs.Idle.{IdlePromisesAreIdle};
+ghost use Rattle.pv_laws_schedules.specs.IdlePermissions.{IdleLinesAreOfPermissions, IdlePermissionsAreIdle};
 ghost use Rattle.pv_laws_schedules.specs.Policy.{PromiseLinesAreOfNeeds, CallingProgramsAreListed, PolicyPromisesAreEnough, PolicyPromisesAreNeeded, ListedPermissionsAreEnough, ListedPermissionsAreNeeded, TargetLinesAreOfPermissions};
+ghost use Rattle.pv_laws_schedules.specs.ShortestWitnesses.{NeedWitnessesAreShortest, PermissionWitnessesAreShortest};
 
 /// The lines about promises of a program are those of its listed needs, each with the first call that has it.
 pub fn promise_lines_are_of_needs()
@@ -41,8 +43,32 @@ pub fn listed_permissions_are_needed()
     ensures { ListedPermissionsAreNeeded }
 {}
 
+/// The witness of a line PLDG leads to the state of a call of the program that has the need, and no shorter schedule leads to
+/// such a call.
+pub fn need_witnesses_are_shortest()
+    ensures { NeedWitnessesAreShortest }
+{}
+
+/// The witness of a line UNVL leads to the state of a call of the program that asks for the line's permissions at a target
+/// with its words, and no shorter schedule leads to a call that asks there for any of them.
+pub fn permission_witnesses_are_shortest()
+    ensures { PermissionWitnessesAreShortest }
+{}
+
 /// If a search is complete, each step of a listed program in any schedule, other than pledge, has the same lines if it is
 /// made without the promises listed as idle, and the next state differs only in promises.
 pub fn idle_promises_are_idle()
     ensures { IdlePromisesAreIdle }
+{}
+
+/// The lines IDLE about permissions of a program are those of the permissions that its calls' tables give at entries with
+/// the same words and that none of its calls uses there.
+pub fn idle_lines_are_of_permissions()
+    ensures { IdleLinesAreOfPermissions }
+{}
+
+/// If a search is complete, each step of a listed program in any schedule, other than unveil, has the same lines if it is
+/// made with a table whose entries lack permissions that are listed as idle for their words.
+pub fn idle_permissions_are_idle()
+    ensures { IdlePermissionsAreIdle }
 {}

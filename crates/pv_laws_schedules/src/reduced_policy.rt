@@ -1,6 +1,7 @@
 //! Laws of the promises and permissions that a program needs, by the reduced search.
 
 ghost use Rattle.pv_laws_schedules.specs.Idle.{IdlePromisesAreIdleReduced};
+ghost use Rattle.pv_laws_schedules.specs.IdlePermissions.{IdlePermissionsAreIdleReduced};
 ghost use Rattle.pv_laws_schedules.specs.ReducedPolicy.{CallingProgramsAreListedReduced, ListedPromisesAreEnoughReduced, ListedPromisesAreNeededReduced, ListedPermissionsAreEnoughReduced, ListedPermissionsAreNeededReduced};
 
 /// If the reduced search is complete, each program that makes a call in some schedule is listed.
@@ -36,4 +37,10 @@ pub fn listed_permissions_are_needed_reduced()
 /// if it is made without the promises listed as idle, and the next state differs only in promises.
 pub fn idle_promises_are_idle_reduced()
     ensures { IdlePromisesAreIdleReduced }
+{}
+
+/// If the reduced search is complete, each step of a listed program in any schedule, other than unveil, has the same lines
+/// if it is made with a table whose entries lack permissions that are listed as idle for their words.
+pub fn idle_permissions_are_idle_reduced()
+    ensures { IdlePermissionsAreIdleReduced }
 {}

@@ -1,18 +1,22 @@
 -- A manifest alone, a bundle with this manifest, and the image that is made of it.
-use Rattle.std.proofs.Common.{◌≡◌, ◌∙◌, ap, sym, subst, refl, inl, inr, ℕ, ◌+◌, true, false, List, [], ◌∷◌, ◌++◌, length, append_assoc, append-nil, codes, Result, Ok, Err}
+use Rattle.std.proofs.Common.{◌≡◌, ◌∙◌, ap, ap₂, sym, subst, refl, inl, inr, ℕ, ◌+◌, true, false, List, [], ◌∷◌, ◌++◌, length, append_assoc, append-nil, codes, max, Result, Ok, Err}
 use Rattle.std.proofs.lemmas.List.Concat.{flat_map-append}
 use Rattle.std.specs.List.{AllByRecursion}
 use Rattle.pv_model.specs.declared.fault.ManifestFault.{ManifestFault}
 use Rattle.pv_model.specs.declared.fault.ManifestFault.TheVariants.{Form}
-use Rattle.pv_model.specs.Machine.{Bytes, EncodesManifest, lines_of, Listed, Manifest, read_bundle, read_manifest, tree_of, with_line_end, ended, IsImageOf, and_then, bundle_started, image_started, started_on, Tree}
+use Rattle.pv_model.specs.declared.run_fault.RunFault.{RunFault}
+use Rattle.pv_model.specs.Machine.{comparison, program_of, booted, State, Bytes, EncodesManifest, lines_of, Listed, Manifest, read_bundle, read_manifest, tree_of, with_line_end, ended, IsImageOf, and_then, bundle_started, image_started, started_on, Tree}
 use Rattle.pv_model.specs.Grammar.Entries.{HasNoForm, IsFirstWithoutForm, Lists, at_end, at_schedule, entry, further, no_schedule}
 use Rattle.pv_model.specs.Grammar.Texts.{HasLines, IsLine}
 use Rattle.pv_laws_trees.proofs.MountedImages.{image-mounted}
 use Rattle.pv_laws_grammar.proofs.TextLines.{HasLines-lines_of, lines_from_relation}
 use Rattle.pv_laws_grammar.proofs.ManifestParsing.{EncodesManifest-whole, whole-IsFirstWithoutForm, whole-EncodesManifest}
 use Rattle.pv_run.specs.Making.{tree_made}
+use Rattle.pv_model.specs.RunFault.{of_boot}
+use Rattle.pv_questions.specs.Comparing.{comparison_of, machine_in}
 use Rattle.pv_questions.specs.Laws.{bundle_of}
 use Rattle.pv_questions.specs.Trees.{image_tree, manifest_tree, read_manifest_of}
+use Rattle.pv_questions.specs.declared.question.Format.TheVariants as format
 
 -- ---- a manifest alone is not a bundle
 
@@ -54,7 +58,7 @@ manifest_made bytes t made = by (read_manifest bytes) refl made
 
 -- ---- the lines of a bundle
 
-all_both : {X : Type 0} (P : X → Type 0) (xs ys : List X) → AllByRecursion P xs → AllByRecursion P ys → AllByRecursion P (xs ++ ys)
+pub all_both : {X : Type 0} (P : X → Type 0) (xs ys : List X) → AllByRecursion P xs → AllByRecursion P ys → AllByRecursion P (xs ++ ys)
 all_both P [] ys h k = k
 all_both P (x ∷ xs) ys h k = (h.0, all_both P xs ys h.1 k)
 
@@ -139,3 +143,16 @@ pub manifest_tree-bundle : (lines : List Bytes) (turns : Bytes) (t : Tree) → A
 unfolding manifest_tree read_manifest_of
 manifest_tree-bundle lines turns t are made =
     let m = manifest_made (ended lines) t made in rw (bundle_read lines turns m.manifest are m.is_read, m.makes) refl
+
+-- ---- the comparison
+
+machines : (manifest image : Bytes) (t : Tree) → tree_made manifest ≡ Ok t → IsImageOf image t → machine_in format.Image image ≡ machine_in format.Manifest manifest
+machines manifest image t made holds =
+    ap (λ (held : Result Tree RunFault). and_then (λ fault. fault) held (λ tree. and_then of_boot (booted tree) (λ s. Ok s)))
+    (image_tree-made image t holds ∙ sym (manifest_tree-made manifest t made))
+
+pub comparisons : (pairs : ℕ) (first second image other : Bytes) (t u : Tree) → tree_made first ≡ Ok t → tree_made second ≡ Ok u → IsImageOf image t → IsImageOf other u
+    → comparison_of format.Image pairs image other ≡ comparison_of format.Manifest pairs first second
+comparisons pairs first second image other t u made_first made_second holds_first holds_second =
+    ap₂ (λ (a b : Result State RunFault). and_then (λ fault. fault) a (λ s. and_then (λ fault. fault) b (λ t. Ok (comparison program_of (max 1 pairs) s t))))
+    (machines first image t made_first holds_first) (machines second other u made_second holds_second)

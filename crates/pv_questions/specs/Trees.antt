@@ -18,7 +18,8 @@ use Rattle.pv_questions.specs.declared.question.TreeQuestion.TheVariants.{Listin
 use Rattle.pv_questions.specs.declared.question.Search.{Search}
 use Rattle.pv_questions.specs.declared.question.Search.TheVariants.{Explore, Access, Exposure, Policy, Graph}
 use Rattle.pv_questions.specs.declared.stop.AskStop.{AskStop}
-use Rattle.pv_policy.specs.OfReduced.Kinds.{access_lines_by, explore_lines_by, exposure_lines_by, is_complete_by, policy_lines_by}
+use Rattle.pv_exposure.specs.Answers.{exposed_lines_by}
+use Rattle.pv_policy.specs.OfReduced.Kinds.{access_lines_by, explore_lines_by, is_complete_by, policy_lines_by}
 use Rattle.pv_questions.specs.declared.stop.AskStop.TheVariants.{Machine, File as NoFile}
 
 -- a manifest alone, if there is no line `schedule`
@@ -54,7 +55,7 @@ of_boot_fault fault = Machine (of_boot fault)
 abbrev pub search_lines : Search → ℕ → State → List AnswerLine
 search_lines (Explore kind) limit s = explore_lines_by kind limit s
 search_lines (Access kind) limit s = access_lines_by kind limit s
-search_lines (Exposure kind) limit s = exposure_lines_by kind limit s
+search_lines (Exposure kind) limit s = exposed_lines_by kind limit s
 search_lines (Policy kind granted) limit s = policy_lines_by granted kind limit s
 search_lines (Graph tree) limit s = graph_lines program_of limit tree s
 

@@ -22,8 +22,11 @@ pub enum Question<'a> {
     Reach(Option<u32>),
     /// The explained trace of the run.
     Explain {
-        /// Whether the reason is also written for each failed call that neither a promise nor a table refused.
+        /// Whether the reason is also written for each failed call that neither a promise nor a table refused, and what
+        /// each execve(2) did to the restraints of its process.
         errors: bool,
+        /// Whether a line is also written for each walk that was checked and allowed.
+        allowed: bool,
     },
     /// The demands of each program on its sandbox in the run.
     Needs {

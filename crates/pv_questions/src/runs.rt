@@ -18,7 +18,7 @@ use crate::writers::{
     report_audit, report_needs, report_reach, report_reach_of, report_reasons, report_reasons_of,
     report_state, report_steps, report_trace, report_verdict,
 };
-use pv_explain::Explainer;
+use pv_explain::{Explainer, Extra};
 use pv_model::RunFault;
 use pv_run::session_crate::{Session, pass_schedule};
 use pv_run::{Ready, ready_on_bundle, ready_on_image};
@@ -105,19 +105,19 @@ fn answer_reasons<W: Sink>(
     report_reasons_of(session.parts(), node, &found, out)
 }
 
-// Writes the explained trace of the run, with the reasons of errors if `errors`.
+// Writes the explained trace of the run, with the lines that `extra` adds.
 fn answer_steps<W: Sink>(
     alloc: Global,
-    errors: bool,
+    extra: Extra,
     session: &mut Session,
     turns: &[(u32, u32)],
     out: &mut W,
 ) -> Result<(), AskStop>
     requires { length turns.now ≤ SCHEDULE_LINES }
-    ensures { Answers W.Sink (run_answer (Question.Explain errors) (started_from session.old turns.now)) IsAnswerStop out.old out.new result }
+    ensures { Answers W.Sink (run_answer (Question.Explain extra.errors extra.allowed) (started_from session.old turns.now)) IsAnswerStop out.old out.new result }
 {
     let mut explainer = Explainer::new(alloc)?;
-    report_steps(alloc, &mut explainer, session, turns, errors, out)
+    report_steps(alloc, &mut explainer, session, turns, extra, out)
 }
 
 // Answers a question about a run.
@@ -135,7 +135,9 @@ fn answer<W: Sink>(
         Question::Trace => report_trace(alloc, session, turns, out),
         Question::State => answer_state(alloc, session, turns, out),
         Question::Reach(pid) => answer_reach(alloc, pid, session, turns, out),
-        Question::Explain { errors } => answer_steps(alloc, errors, session, turns, out),
+        Question::Explain { errors, allowed } => {
+            answer_steps(alloc, Extra { errors, allowed }, session, turns, out)
+        }
         Question::Needs { granted } => report_needs(alloc, granted, session, turns, out),
         Question::Audit(path) => answer_audit(alloc, path, session, turns, out),
         Question::Reasons(path) => answer_reasons(alloc, path, session, turns, out),

@@ -24,7 +24,7 @@ use crate::stop::AskStop;
 use pv_access::write_access;
 use pv_compare::explore::{FirstMachine, Progress, write_graph};
 use pv_compare::{Compared, write_compare};
-use pv_explain::{Explainer, explain_schedule};
+use pv_explain::{Explainer, Extra, explain_schedule};
 use pv_exposure::write_exposure;
 use pv_listing::{ListStop, write_listing};
 use pv_model::{RunFault, Verdict};
@@ -176,21 +176,21 @@ pub(crate) fn report_trace<W: Sink>(
     flush_buffer(end, out)
 }
 
-// Writes the explained steps of a schedule, with the reasons of errors if `errors`.
+// Writes the explained steps of a schedule, with the lines that `extra` adds.
 #[tactic(auto, using(pv_streams::proofs::Sinks::begins_whole))]
 pub(crate) fn report_steps<W: Sink>(
     alloc: Global,
     explainer: &mut Explainer,
     session: &mut Session,
     turns: &[(u32, u32)],
-    errors: bool,
+    extra: Extra,
     out: &mut W,
 ) -> Result<(), AskStop>
     requires lines { length turns.now ≤ SCHEDULE_LINES }
     requires fresh { explainer.old ≡ [] }
-    ensures { Reports W.Sink (answer_bytes (explained_lines errors (steps_of turns.now) session.old)) out.old out.new result }
+    ensures { Reports W.Sink (answer_bytes (explained_lines extra (steps_of turns.now) session.old)) out.old out.new result }
 {
-    let end = explain_schedule(alloc, session, explainer, turns, errors, out);
+    let end = explain_schedule(alloc, session, explainer, turns, extra, out);
     flush_buffer(end, out)
 }
 

@@ -10,23 +10,23 @@ pub returns-in_err-explain_steps-clause-written : goal.returns-in_err-explain_st
 returns-in_err-explain_steps-clause-written g c =
     let s = c.args.session.now in
     let pids = steps_of c.args.schedule.now in
-    let steps_are = ap (λ (all : Settings). answer_bytes (steps_lines c.args.errors 1 all pids s)) c.requires.fresh in
+    let steps_are = ap (λ (all : Settings). answer_bytes (steps_lines c.args.extra 1 all pids s)) c.requires.fresh in
     stopped c.from_residual.ensures.1
-    (or_as (lines-text c.args.errors pids s) (or_longer _ (or_as steps_are c.in_err-explain_steps.ensures.written)))
+    (or_as (lines-text c.args.extra pids s) (or_longer _ (or_as steps_are c.in_err-explain_steps.ensures.written)))
 
 pub returns-in_err-write_locations-clause-written : goal.returns-in_err-write_locations-clause-written
 returns-in_err-write_locations-clause-written g c =
     let s = c.args.session.now in
     let pids = steps_of c.args.schedule.now in
-    let steps_are = ap (λ (all : Settings). answer_bytes (steps_lines c.args.errors 1 all pids s)) c.requires.fresh in
+    let steps_are = ap (λ (all : Settings). answer_bytes (steps_lines c.args.extra 1 all pids s)) c.requires.fresh in
     let locations_are = ap (λ (t : State). answer_bytes (locations t)) (c.parts.ensures.value ∙ c.in_ok-explain_steps.ensures.after) in
     unwritten c.from_residual-in_err-write_locations.ensures.1
-    (writes_as (lines-text c.args.errors pids s) (then_writes (or_as steps_are c.in_ok-explain_steps.ensures.written) (writes_as locations_are c.in_err-write_locations.ensures)))
+    (writes_as (lines-text c.args.extra pids s) (then_writes (or_as steps_are c.in_ok-explain_steps.ensures.written) (writes_as locations_are c.in_err-write_locations.ensures)))
 
 pub returns-clause-written : goal.returns-clause-written
 returns-clause-written g c =
     let s = c.args.session.now in
     let pids = steps_of c.args.schedule.now in
-    let steps_are = ap (λ (all : Settings). answer_bytes (steps_lines c.args.errors 1 all pids s)) c.requires.fresh in
+    let steps_are = ap (λ (all : Settings). answer_bytes (steps_lines c.args.extra 1 all pids s)) c.requires.fresh in
     let locations_are = ap (λ (t : State). answer_bytes (locations t)) (c.parts.ensures.value ∙ c.in_ok-explain_steps.ensures.after) in
-    or_ok (writes_as (lines-text c.args.errors pids s) (then_writes (or_as steps_are c.in_ok-explain_steps.ensures.written) (writes_as locations_are c.in_ok-write_locations.ensures)))
+    or_ok (writes_as (lines-text c.args.extra pids s) (then_writes (or_as steps_are c.in_ok-explain_steps.ensures.written) (writes_as locations_are c.in_ok-write_locations.ensures)))

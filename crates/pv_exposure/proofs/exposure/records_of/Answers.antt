@@ -11,6 +11,6 @@ loop-number-preserved c =
     record {
       unchanged = c.in_ok-add_at.ensures.unchanged ∙ c.loop-number.invariant.unchanged;
       records =
-          visit-next c.args.named.now found n c.loop-number.records.items c.add_at.new.records.items within c.loop-number.invariant.records
+          visit-next c.args.first.now.tree c.args.named.now found n c.loop-number.records.items c.add_at.new.records.items within c.loop-number.invariant.records
           (λ f at. c.in_ok-add_at.ensures.added f (ap (λ (v : Visits). slice_get v.found n) c.loop-number.invariant.unchanged ∙ at));
     }

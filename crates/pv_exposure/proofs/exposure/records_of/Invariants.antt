@@ -6,5 +6,5 @@ use Rattle.pv_exposure.proofs.exposure.records_of.Given as goal
 abbrev pub invariant-loop-number : goal.invariant-loop-number
 invariant-loop-number l = record {
   unchanged : l.states ≡ l.fn.states;
-  records : l.records.items ≡ exposed_after l.named [] (flat_map located_at (take l.number l.fn.states.found));
+  records : l.records.items ≡ exposed_after l.first.tree l.named [] (flat_map located_at (take l.number l.fn.states.found));
 }

@@ -2,7 +2,8 @@ use Rattle.std.proofs.Common.{◌≡◌, ◌∙◌, ◌++◌, [], ℕ, List, ap,
 use Rattle.std.proofs.lemmas.Result.{on_ok_weaker}
 use Rattle.pv_model.specs.Machine.{AnswerLine, answer_bytes, answer_line_bytes, program_of}
 use Rattle.pv_model.specs.Answers.ProgramNames.{program_line}
-use Rattle.pv_exposure.specs.Collected.{all_recorded_lines, safe_line}
+use Rattle.pv_model_questions.specs.Exposure.{safe_line}
+use Rattle.pv_exposure.specs.Collected.{all_lines_recorded_of}
 use Rattle.pv_exposure.proofs.Texts.{three}
 use Rattle.pv_exposure.proofs.text.append_program.Goals as goal
 
@@ -13,9 +14,9 @@ returns c =
     let line = answer_line_bytes (program_line program_of t c.args.number e.program) in
     let safe_lines : List ℕ → List AnswerLine = λ fs. if c.args.complete then map (safe_line t) fs else [] in
     let name : c.append_program_line.new.out.bytes.items ≡ c.args.out.now.bytes.items ++ line = search rules in
-    let leaks : c.append_leaks.new.out.bytes.items ≡ c.append_program_line.new.out.bytes.items ++ answer_bytes (all_recorded_lines e.recorded) = search rules in
+    let kinds : c.append_kinds.new.out.bytes.items ≡ c.append_program_line.new.out.bytes.items ++ answer_bytes (all_lines_recorded_of e) = search rules in
     on_ok_weaker c.append_safe_if.result
     (λ last.
-    three c.args.out.now.bytes.items c.append_program_line.new.out.bytes.items c.append_leaks.new.out.bytes.items c.append_safe_if.new.out.bytes.items line (all_recorded_lines e.recorded) (safe_lines e.safe) name leaks
-    (last ∙ ap (λ (fs : List ℕ). c.append_leaks.new.out.bytes.items ++ answer_bytes (safe_lines fs)) c.safe.ensures))
+    three c.args.out.now.bytes.items c.append_program_line.new.out.bytes.items c.append_kinds.new.out.bytes.items c.append_safe_if.new.out.bytes.items line (all_lines_recorded_of e) (safe_lines e.safe) name kinds
+    (last ∙ ap (λ (fs : List ℕ). c.append_kinds.new.out.bytes.items ++ answer_bytes (safe_lines fs)) c.safe.ensures))
     c.append_safe_if.ensures

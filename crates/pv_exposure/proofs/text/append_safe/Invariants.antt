@@ -1,6 +1,6 @@
 use Rattle.std.proofs.Common.{◌≡◌, ◌++◌, flat_map, take}
 use Rattle.pv_model.specs.Machine.{answer_line_bytes}
-use Rattle.pv_exposure.specs.Collected.{safe_line}
+use Rattle.pv_model_questions.specs.Exposure.{safe_line}
 use Rattle.pv_exposure.proofs.text.append_safe.Given as goal
 
 abbrev pub invariant-loop-node : goal.invariant-loop-node

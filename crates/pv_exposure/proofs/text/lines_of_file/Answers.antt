@@ -5,5 +5,5 @@ use Rattle.pv_exposure.proofs.text.lines_of_file.Goals as goal
 
 pub returns : goal.returns
 returns c =
-    all-done (λ leak. map (λ k. k.line) (recorded_of_file c.args.file.now (recorded_in leak ∷ []))) c.args.leaks.now [] c.loop-leak.leak-index c.loop-leak.lines.items c.loop-leak-test.false c.loop-leak.invariant
-    ∙ lines-flat c.args.file.now c.args.leaks.now
+    all-done (λ x. map (λ k. k.line) (recorded_of_file c.args.file.now (recorded_in x ∷ []))) c.args.findings.now [] c.loop-finding.finding-index c.loop-finding.lines.items c.loop-finding-test.false c.loop-finding.invariant
+    ∙ lines-flat c.args.file.now c.args.findings.now

@@ -2,5 +2,5 @@ use Rattle.std.proofs.Common.{◌≡◌, ◌++◌, ◌∷◌, [], flat_map, map,
 use Rattle.pv_exposure.specs.Stored.{recorded_in, recorded_of_file}
 use Rattle.pv_exposure.proofs.text.lines_of_file.Given as goal
 
-abbrev pub invariant-loop-leak : goal.invariant-loop-leak
-invariant-loop-leak l = l.lines.items ≡ [] ++ flat_map (λ leak. map (λ k. k.line) (recorded_of_file l.file (recorded_in leak ∷ []))) (take l.leak-index l.leaks)
+abbrev pub invariant-loop-finding : goal.invariant-loop-finding
+invariant-loop-finding l = l.lines.items ≡ [] ++ flat_map (λ x. map (λ k. k.line) (recorded_of_file l.file (recorded_in x ∷ []))) (take l.finding-index l.findings)

@@ -1,5 +1,5 @@
-use Rattle.pv_laws_schedules.proofs.ExposureLines.{unlisted-lines}
+use Rattle.pv_laws_schedules.proofs.ExposureLines.{unlisted-closed}
 use Rattle.pv_laws_schedules.proofs.exposure.unlisted_lines_are_closed.Goals as goal
 
 pub returns : goal.returns
-returns c = unlisted-lines
+returns c = unlisted-closed

@@ -1,8 +1,9 @@
-use Rattle.std.proofs.Common.{◌∙◌, refl, sym}
+use Rattle.std.proofs.Common.{◌∙◌, [], refl, sym}
 use Rattle.std.proofs.lemmas.List.{append-nil}
 use Rattle.pv_step_lines.proofs.OfAnswers.Writing.{or_ok, writes_as, writes_both, writes_longer}
 use Rattle.pv_step_lines.specs.declared.making.MadeStep.TheVariants.{Gone, Register}
 use Rattle.pv_step_lines.proofs.Made.{left-by}
+use Rattle.pv_explain.proofs.Added.{gone-adds, inside-adds}
 use Rattle.pv_explain.proofs.Made.{step-text}
 use Rattle.pv_step_lines.proofs.Stops.{unwritten}
 use Rattle.pv_explain.proofs.explain.Explainer.explain_step.Goals as goal
@@ -13,13 +14,13 @@ pub returns-in_err-write_step_line-in-Gone-clause-written : goal.returns-in_err-
 returns-in_err-write_step_line-in-Gone-clause-written g c =
     let s = c.args.session.now in
     unwritten c.from_residual.ensures.1
-    (writes_as (step-text s c.args.pid Gone s (c.in-Gone.ensures.next, refl) c.args.errors c.args.number c.args.self.now _ refl) (writes_longer _ c.in_err-write_step_line-in-Gone.ensures))
+    (writes_as (step-text s c.args.pid Gone s (c.in-Gone.ensures.next, refl) c.args.extra c.args.number c.args.self.now _ refl [] (sym (gone-adds c.args.extra _ s c.args.pid c.in-Gone.ensures.next))) (writes_longer _ c.in_err-write_step_line-in-Gone.ensures))
 
 pub returns-in_err-write_gone_line-in-Gone-clause-written : goal.returns-in_err-write_gone_line-in-Gone-clause-written
 returns-in_err-write_gone_line-in-Gone-clause-written g c =
     let s = c.args.session.now in
     unwritten c.from_residual-in_err-write_gone_line-in-Gone.ensures.1
-    (writes_as (step-text s c.args.pid Gone s (c.in-Gone.ensures.next, refl) c.args.errors c.args.number c.args.self.now _ refl)
+    (writes_as (step-text s c.args.pid Gone s (c.in-Gone.ensures.next, refl) c.args.extra c.args.number c.args.self.now _ refl [] (sym (gone-adds c.args.extra _ s c.args.pid c.in-Gone.ensures.next)))
     (writes_both c.in_ok-write_step_line-in-Gone.ensures c.in_err-write_gone_line-in-Gone.ensures))
 
 pub returns-in_ok-write_gone_line-in-Gone-clause-after : goal.returns-in_ok-write_gone_line-in-Gone-clause-after
@@ -30,7 +31,7 @@ pub returns-in_ok-write_gone_line-in-Gone-clause-written : goal.returns-in_ok-wr
 returns-in_ok-write_gone_line-in-Gone-clause-written g c =
     let s = c.args.session.now in
     or_ok
-    (writes_as (step-text s c.args.pid Gone s (c.in-Gone.ensures.next, refl) c.args.errors c.args.number c.args.self.now _ refl)
+    (writes_as (step-text s c.args.pid Gone s (c.in-Gone.ensures.next, refl) c.args.extra c.args.number c.args.self.now _ refl [] (sym (gone-adds c.args.extra _ s c.args.pid c.in-Gone.ensures.next)))
     (writes_both c.in_ok-write_step_line-in-Gone.ensures c.in_ok-write_gone_line-in-Gone.ensures))
 
 -- ---- an instruction on registers
@@ -38,8 +39,9 @@ returns-in_ok-write_gone_line-in-Gone-clause-written g c =
 pub returns-in_err-write_step_line-in-Register-clause-written : goal.returns-in_err-write_step_line-in-Register-clause-written
 returns-in_err-write_step_line-in-Register-clause-written g c =
     let register = Register c.make_register-line.result in
+    let it = c.make_register-line.ensures in
     unwritten c.from_residual-in_err-write_step_line-in-Register.ensures.1
-    (writes_as (step-text c.args.session.now c.args.pid register c.make_register-line.new.session c.make_register-line.ensures c.args.errors c.args.number c.args.self.now _ refl)
+    (writes_as (step-text c.args.session.now c.args.pid register c.make_register-line.new.session c.make_register-line.ensures c.args.extra c.args.number c.args.self.now _ refl [] (sym (inside-adds c.args.extra _ c.args.session.now c.args.pid it.me it.then_is it.lives it.comes)))
     (writes_longer _ c.in_err-write_step_line-in-Register.ensures))
 
 pub returns-in_ok-write_step_line-in-Register-clause-after : goal.returns-in_ok-write_step_line-in-Register-clause-after
@@ -49,7 +51,8 @@ returns-in_ok-write_step_line-in-Register-clause-after g c =
 pub returns-in_ok-write_step_line-in-Register-clause-written : goal.returns-in_ok-write_step_line-in-Register-clause-written
 returns-in_ok-write_step_line-in-Register-clause-written g c =
     let register = Register c.make_register-line.result in
+    let it = c.make_register-line.ensures in
     or_ok
     (writes_as
-    (sym (append-nil _) ∙ step-text c.args.session.now c.args.pid register c.make_register-line.new.session c.make_register-line.ensures c.args.errors c.args.number c.args.self.now _ refl)
+    (sym (append-nil _) ∙ step-text c.args.session.now c.args.pid register c.make_register-line.new.session c.make_register-line.ensures c.args.extra c.args.number c.args.self.now _ refl [] (sym (inside-adds c.args.extra _ c.args.session.now c.args.pid it.me it.then_is it.lives it.comes)))
     c.in_ok-write_step_line-in-Register.ensures)

@@ -1,19 +1,28 @@
-use Rattle.std.proofs.Common.{◌≡◌, ◌∙◌, ℕ, Bool, ap, filter}
-use Rattle.pv_model.specs.Machine.{is_closed_to}
-use Rattle.pv_exposure.specs.Collected.{Exposed, exposed_more}
-use Rattle.pv_exposure.specs.Stored.{all_recorded, located_in}
+use Rattle.std.proofs.Common.{◌≡◌, ◌∙◌, ℕ, Bool, List, ap, filter}
+use Rattle.pv_model.specs.Machine.{files_of_tree}
+use Rattle.pv_exposure.specs.Collected.{Exposed}
+use Rattle.pv_exposure.specs.StateFiles.{is_safe_at}
+use Rattle.pv_exposure.specs.Stored.{located_in, with_files}
+use Rattle.pv_exposure.proofs.ProgramFiles.{files-more, files-safe}
 use Rattle.pv_exposure.proofs.programs.ProgramRecord.add.Goals as goal
-
-pub invariant_of-self : goal.invariant_of-self
-invariant_of-self c = record { same = c.self.invariant.same; keyed = c.in_err-add_files.ensures.keys }
 
 pub returns : goal.returns
 returns c = λ p at.
-    let l = located_in c.args.visit.now p in
-    let closed : ℕ → Bool = λ f. is_closed_to f l in
-    let inside : Exposed = record { program = c.self.inside.program; recorded = all_recorded c.self.inside.leaks.items; safe = c.self.inside.safe.items } in
-    let recorded = c.in_ok-add_files.ensures.leaks p at in
-    let safe = c.in_ok-safe.ensures p at ∙ ap (filter closed) c.deref.ensures.value in
-    let added : record { program = c.self.inside.program; recorded = all_recorded c.add_files.new.leaks.items; safe = c.in_ok-safe.safe.items } ≡ exposed_more inside l =
-    λ i. record { program = c.self.inside.program; recorded = recorded i; safe = safe i } in
-    added ∙ ap (λ (e : Exposed). exposed_more e l) c.self.view_is
+    let v = c.args.visit.now in
+    let s = v.parts.now in
+    let t = v.first.now.tree in
+    let l = located_in v p in
+    let fs = files_of_tree s.tree in
+    let safe : ℕ → Bool = λ f. is_safe_at f s in
+    let inside : Exposed = record {
+      program = c.self.inside.program;
+      leaks = c.self.inside.leaks;
+      peers = c.self.inside.peers;
+      edits = c.self.inside.edits;
+      reads = c.self.inside.reads;
+      safe = c.self.inside.safe.items;
+    } in
+    let now : inside ≡ with_files t l c.args.self.now fs = c.self.view_is ∙ c.in_ok-add_files.ensures p at in
+    let kept : c.in_ok-safe.safe.items ≡ filter safe c.args.self.now.safe =
+    c.in_ok-safe.ensures t s c.requires.files ∙ ap (filter safe) (c.deref-2.ensures.value ∙ ap (λ (e : Exposed). e.safe) now ∙ files-safe t l c.args.self.now fs) in
+    ap (λ (e : Exposed). record e { safe = c.in_ok-safe.safe.items }) now ∙ files-more t l c.args.self.now c.in_ok-safe.safe.items kept

@@ -1,0 +1,5 @@
+use Rattle.pv_explain.proofs.Steps.{adds-nothing-else}
+use Rattle.pv_explain.proofs.laws.adds_nothing_else.Goals as goal
+
+pub returns : goal.returns
+returns c = adds-nothing-else
