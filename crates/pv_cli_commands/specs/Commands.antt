@@ -1,12 +1,18 @@
 -- The input and output of a command.
-use Rattle.std.specs.Prelude.{◌≡◌, ◌≢◌, ⊤, codes, option_map}
+use Rattle.std.specs.Prelude.{◌≡◌, ◌≢◌, ⊤, codes, Option, None}
 use Rattle.pv_model.specs.declared.stream.Sink.{Ghosts as Writing}
 use Rattle.pv_model.specs.declared.stream.Source.{Ghosts as Reading}
+use Rattle.pv_model.specs.Machine.{Bytes}
+use Rattle.pv_questions.specs.Answering.{image_answer}
+use Rattle.pv_questions.specs.Asking.{IsImageStop}
+use Rattle.pv_questions.specs.Noting.{NotedTwo, image_notes}
+use Rattle.pv_questions.specs.declared.question.Question.{Question}
+use Rattle.pv_questions.specs.declared.question.Question.TheVariants.{Audit}
+use Rattle.pv_questions.specs.declared.question.RunQuestion.{RunQuestion}
 use Rattle.pv_cli_commands.specs.declared.command.Command.{Command}
 use Rattle.pv_cli_commands.specs.declared.command.Command.TheVariants.{RunTree, MakeImage, ListImage, RunImage, MigrateImage, ImportDirectory, ExportImage, AuditImage, WriteSource, Ask, AskTree, Compare}
 use Rattle.pv_cli_commands.specs.declared.system.HostSystem.{HostSystem}
-use Rattle.pv_cli_commands.specs.Asking.{AsksRun, AsksTree, KeepsRunErrors, KeepsTreeErrors, ReadsRunFiles, ReadsTreeFile}
-use Rattle.pv_cli_commands.specs.Auditing.{AuditsFiles}
+use Rattle.pv_cli_commands.specs.Asking.{AsksFiles, AsksRun, AsksTree, KeepsRunErrors, KeepsTreeErrors, ReadsRunFiles, ReadsTreeFile}
 use Rattle.pv_cli_commands.specs.Comparing.{ComparesInputs, ReadsCompareFiles}
 use Rattle.pv_cli_commands.specs.Exporting.{ExportsFile}
 use Rattle.pv_cli_commands.specs.Faults.{Answer}
@@ -15,9 +21,14 @@ use Rattle.pv_cli_commands.specs.Importing.{ImportsDirectory}
 use Rattle.pv_cli_commands.specs.Listing.{ListsFile}
 use Rattle.pv_cli_commands.specs.Making.{MakesFile}
 use Rattle.pv_cli_commands.specs.Migrating.{MigratesFile, sizes_of}
+use Rattle.pv_cli_commands.specs.Noted.{NotedRun}
 use Rattle.pv_cli_commands.specs.Running.{RunsFile, RunsFrom}
 use Rattle.pv_cli_commands.specs.Sources.{WritesSource, WritesSourceFile}
 use Rattle.pv_cli_commands.specs.Streams.{Disk, Host, inputs_of}
+
+-- a question about a whole run
+abbrev pub of_whole_run : Question → RunQuestion
+of_whole_run question = record { question = question; steps = None }
 
 -- the command was carried out or ended early
 abbrev pub Performs : {F R V T I O E : Type 0} → Disk F R V → Host F T → Reading I → Writing O → Writing E → Command → HostSystem F I O E → HostSystem F I O E → Answer → Type 0
@@ -34,7 +45,7 @@ Performs disk host reading writing reporting (ImportDirectory directory image ve
 Performs disk host reading writing reporting (ExportImage image directory) before after answer =
     ExportsFile disk host reporting before.files image.now directory.now before.errors after.errors answer
 Performs disk host reading writing reporting (AuditImage image schedule path) before after answer =
-    AuditsFiles disk writing before.files (inputs_of image.now schedule.now) (option_map (λ bytes. bytes.now) path) before.output after.output answer
+    AsksFiles disk writing IsImageStop (image_answer (of_whole_run (Audit path))) before.files (inputs_of image.now schedule.now) before.output after.output answer
 Performs disk host reading writing reporting (WriteSource name kind) before after answer =
     (name.now ≡ codes "-" → WritesSource reading writing reporting kind name.now before.input after.input before.output after.output before.errors after.errors answer)
     × (name.now ≢ codes "-" → WritesSourceFile disk writing reporting before.files kind name.now before.output after.output before.errors after.errors answer)
@@ -44,6 +55,13 @@ Performs disk host reading writing reporting (AskTree question tree) before afte
     AsksTree disk reading writing reporting before.files question tree before.input after.input before.output after.output before.errors after.errors answer
 Performs disk host reading writing reporting (Compare inputs pairs) before after answer =
     ComparesInputs disk reading writing before.files inputs pairs before.input after.input before.output after.output answer
+
+-- the notes are those beside the answer to a question about a run, if its inputs are known; other commands have none
+abbrev pub Notes : {F I O E : Type 0} → (F → Bytes → Option Bytes) → (I → Option Bytes) → Command → HostSystem F I O E → (old new : Bytes) → Answer → Type 0
+Notes bytes remaining (AuditImage image schedule path) before old new answer =
+    NotedTwo (bytes before.files image.now) (bytes before.files schedule.now) (image_notes (of_whole_run (Audit path))) new answer
+Notes bytes remaining (Ask question run) before old new answer = NotedRun bytes before.files question (remaining before.input) run new answer
+Notes bytes remaining command before old new answer = new ≡ old
 
 -- the command writes only to a file, or makes a directory
 abbrev pub WritesFile : Command → Type 0

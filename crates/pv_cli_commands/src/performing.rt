@@ -1,11 +1,10 @@
 //! Execution of commands.
 ghost use Rattle.std.specs.Prelude.{◌≡◌, ◌≢◌, IfErr};
-ghost use Rattle.pv_cli_commands.specs.Commands.{KeepsErrors, Performs, ReadsFiles, WritesFile};
+ghost use Rattle.pv_cli_commands.specs.Commands.{KeepsErrors, Notes, Performs, ReadsFiles, WritesFile};
 ghost use Rattle.pv_cli_commands.specs.Status.{Flushes, status_of};
 ghost use Rattle.pv_cli_commands.specs.Streams.{disk_of, host_of};
 
-use crate::asking::{ask_run, ask_tree_of};
-use crate::auditing::audit_files;
+use crate::asking::{ask_files, ask_run, ask_tree_of};
 use crate::command::Command;
 use crate::comparing::compare_inputs;
 use crate::directories::Directories;
@@ -19,7 +18,7 @@ use crate::migrating::migrate_file;
 use crate::running::{run_file, run_from};
 use crate::sources::{write_file, write_from};
 use crate::system::{Files, HostSystem};
-use pv_questions::Progress;
+use pv_questions::{Progress, Question, RunQuestion};
 use pv_streams::{Sink, Source};
 use std::alloc::Global;
 
@@ -53,6 +52,9 @@ use std::alloc::Global;
 /// - `Compare` writes whether the steps of the machines on two images, or on the trees of two bundles, differ under some
 ///   schedule.
 ///
+/// `AuditImage` and `Ask` replace `notes` by the notes beside the answer, which are lines for a person; the other commands
+/// leave it as it is.
+///
 /// Everything that was written to the standard output is flushed, unless a write to it failed. A search of states reports to `progress`.
 ///
 /// # Errors
@@ -61,9 +63,8 @@ use std::alloc::Global;
 /// a state out, or a comparison found a difference. If the input is invalid, nothing was written; in the last two cases,
 /// the whole answer was written.
 /// The variant is `Listing` for `ListImage`, `Migrating` for `MigrateImage`,
-/// `Importing` for `ImportDirectory`, `Exporting` for `ExportImage`, `Auditing` for `AuditImage`, `Source` for
-/// `WriteSource` and for a source that is not translated, `Asking` for `Ask`, `AskTree` and `Compare`, and `Run` for the
-/// others.
+/// `Importing` for `ImportDirectory`, `Exporting` for `ExportImage`, `Source` for `WriteSource` and for a source that is
+/// not translated, `Asking` for `AuditImage`, `Ask`, `AskTree` and `Compare`, and `Run` for the others.
 #[tactic(auto, using(crate::proofs::Outcomes::failed_with_status, crate::proofs::Outcomes::flushed_unwritten))]
 pub fn perform<
     F: Files + Directories + Drop,
@@ -75,9 +76,11 @@ pub fn perform<
     alloc: Global,
     command: Command<'_>,
     system: &mut HostSystem<F, I, O, E>,
+    notes: &mut Vec<u8>,
     progress: &mut P,
 ) -> Result<(), Fault>
     ensures does { Performs (disk_of F.Files F.Reader.Source F.Writer.Sink) (host_of F.entries F.target_of F.Target.made) I.Source O.Sink E.Sink command.entry system.old system.new result }
+    ensures noted { Notes F.bytes I.remaining command.entry system.old notes.old.items notes.new.items result }
     ensures flushed { Flushes O.Sink system.old.output system.new.output result }
     ensures failed { IfErr result (λ fault. status_of fault ≢ 0) }
 
@@ -122,7 +125,14 @@ pub fn perform<
             image,
             schedule,
             path,
-        } => audit_files(alloc, files, image, schedule, path, output),
+        } => {
+            let question = Question::Audit(path);
+            let question = RunQuestion {
+                question,
+                steps: None,
+            };
+            ask_files(alloc, files, question, image, schedule, notes, output)
+        }
         Command::WriteSource { source: "-", kind } => {
             write_from(alloc, kind, "-", input, output, errors)
         }
@@ -130,7 +140,7 @@ pub fn perform<
             write_file(alloc, files, kind, source, output, errors)
         }
         Command::Ask { question, run } => {
-            ask_run(alloc, files, input, question, run, output, errors)
+            ask_run(alloc, files, input, question, run, notes, output, errors)
         }
         Command::AskTree { question, tree } => {
             ask_tree_of(

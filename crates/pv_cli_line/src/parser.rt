@@ -57,7 +57,7 @@ const VERBOSE: Argument = Flag {
 const QUIET: Argument = Flag {
     name: "quiet",
     short: Some('q'),
-    help: "do not explain an error; without -q the file, the system's reason, the line and the expected form follow it",
+    help: "do not explain an error, and leave out notes; without -q the file, the system's reason, the line and the expected form follow it",
 };
 
 // The option that names a bundle, in place of an image and a schedule.

@@ -1,1 +1,3 @@
 -- Definitions of answers to questions.
+pub mod Notes
+pub mod NotesWorked

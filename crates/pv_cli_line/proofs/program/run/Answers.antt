@@ -1,4 +1,4 @@
-use Rattle.std.proofs.Common.{◌∙◌, Ok, Err, Bool, ap, refl, subst}
+use Rattle.std.proofs.Common.{◌∙◌, Ok, Err, Bool, ap, refl, subst, rules}
 use Rattle.std.specs.Prelude.{◌&&◌}
 use Rattle.pv_cli_commands.proofs.Outcomes.{flushed_by_status}
 use Rattle.pv_cli_line.specs.declared.fault.Fault.TheVariants.{Command as OfCommand, Line as OfLine}
@@ -13,16 +13,20 @@ returns-in-Ok-perform-clause-ends g c =
     let done = c.in-Ok-perform.ensures in (
       Ok c.in-Ok-perform.field-0,
       (
+        c.perform.new.system,
+        c.perform.new.notes.items,
         refl,
         record {
           command = c.in-Ok.line.command;
           asked = c.in-Ok.ensures.asked;
           does = done.does;
+          noted = search rules;
           flushed = done.flushed;
           unread = done.unread;
           silent = done.silent;
           unreported = done.unreported;
         },
+        search rules,
       ),
     )
 
@@ -33,10 +37,12 @@ returns-in-Err-perform-clause-ends g c =
       Err (OfCommand fault),
       (
         c.perform.new.system,
+        c.perform.new.notes.items,
         record {
           command = c.in-Ok.line.command;
           asked = c.in-Ok.ensures.asked;
           does = ended.does;
+          noted = search rules;
           flushed = ended.flushed;
           unread = ended.unread;
           silent = ended.silent;
