@@ -11,7 +11,7 @@ use Rattle.pv_cli_commands.specs.Comparing.{ComparesInputs, ReadsCompareFiles}
 use Rattle.pv_cli_commands.specs.Exporting.{ExportsFile}
 use Rattle.pv_cli_commands.specs.Faults.{Answer}
 use Rattle.pv_cli_commands.specs.Images.{RunsFiles}
-use Rattle.pv_cli_commands.specs.Importing.{ImportsDirectory}
+use Rattle.pv_cli_commands.specs.Importing.{ImportsBeside, ReadsSourceFile, wanted_of}
 use Rattle.pv_cli_commands.specs.Listing.{ListsFile}
 use Rattle.pv_cli_commands.specs.Making.{MakesFile}
 use Rattle.pv_cli_commands.specs.Migrating.{MigratesFile, sizes_of}
@@ -29,8 +29,8 @@ Performs disk host reading writing reporting (ListImage image) before after answ
 Performs disk host reading writing reporting (RunImage image schedule out) before after answer =
     RunsFiles disk writing before.files (inputs_of image.now schedule.now) out.now before.output after.output answer
 Performs disk host reading writing reporting (MigrateImage image out blocks inodes) before after answer = MigratesFile disk before.files image.now out.now (sizes_of blocks inodes) answer
-Performs disk host reading writing reporting (ImportDirectory directory image version skips) before after answer =
-    ImportsDirectory disk reporting version skips (host.entries before.files directory.now) image.now before.errors after.errors answer
+Performs disk host reading writing reporting (ImportDirectory directory image version skips source) before after answer =
+    ImportsBeside disk reading reporting before.files (host.entries before.files) source (wanted_of directory image version skips) before.input after.input before.errors after.errors answer
 Performs disk host reading writing reporting (ExportImage image directory) before after answer =
     ExportsFile disk host reporting before.files image.now directory.now before.errors after.errors answer
 Performs disk host reading writing reporting (AuditImage image schedule path) before after answer =
@@ -49,7 +49,7 @@ Performs disk host reading writing reporting (Compare inputs pairs) before after
 abbrev pub WritesFile : Command → Type 0
 WritesFile (MakeImage manifest image) = ⊤
 WritesFile (MigrateImage image out blocks inodes) = ⊤
-WritesFile (ImportDirectory directory image version skips) = ⊤
+WritesFile (ImportDirectory directory image version skips source) = ⊤
 WritesFile (ExportImage image directory) = ⊤
 WritesFile command = ⊥
 
@@ -57,6 +57,7 @@ WritesFile command = ⊥
 abbrev pub ReadsFiles : Command → Type 0
 ReadsFiles (RunTree name) = name.now ≢ codes "-"
 ReadsFiles (WriteSource name kind) = name.now ≢ codes "-"
+ReadsFiles (ImportDirectory directory image version skips source) = ReadsSourceFile source
 ReadsFiles (Ask question run) = ReadsRunFiles run
 ReadsFiles (AskTree question tree) = ReadsTreeFile tree
 ReadsFiles (Compare inputs pairs) = ReadsCompareFiles inputs
@@ -65,7 +66,7 @@ ReadsFiles command = ⊤
 -- the command reports nothing on the standard error itself
 abbrev pub KeepsErrors : Command → Type 0
 KeepsErrors (WriteSource name kind) = ⊥
-KeepsErrors (ImportDirectory directory image version skips) = ⊥
+KeepsErrors (ImportDirectory directory image version skips source) = ⊥
 KeepsErrors (ExportImage image directory) = ⊥
 KeepsErrors (Ask question run) = KeepsRunErrors run
 KeepsErrors (AskTree question tree) = KeepsTreeErrors tree

@@ -12,7 +12,7 @@ use crate::directories::Directories;
 use crate::exporting::export_file;
 use crate::fault::Fault;
 use crate::images::run_files;
-use crate::importing::import_directory;
+use crate::importing::{Wanted, import_directory};
 use crate::listing::list_file;
 use crate::making::make_file;
 use crate::migrating::migrate_file;
@@ -35,7 +35,8 @@ use std::alloc::Global;
 /// - `ImportDirectory` makes the image of a directory, and writes it to a file. Each entry that an image can't have or
 ///   that could not be added is reported on the standard error, in a line with its path. If there is such an entry, the
 ///   file is not written, unless entries that an image can't have are to be skipped and all reported entries are of
-///   this kind.
+///   this kind. The programs and files of a source in a file, or on the standard input for `-`, may be added: they take
+///   the place of what the directory has at their paths. The lines of the source are reported as for `WriteSource`.
 /// - `ExportImage` makes the tree of the image in a file in a directory, which is created or must be empty. The image
 ///   is read first. If an entry cannot be made, its path in the image is reported on the standard error; all entries
 ///   before it in the listing are then made.
@@ -114,7 +115,16 @@ pub fn perform<
             image,
             version,
             skips,
-        } => import_directory(alloc, files, directory, image, version, skips, errors),
+            source,
+        } => {
+            let wanted = Wanted {
+                directory,
+                image,
+                version,
+                skips,
+            };
+            import_directory(alloc, files, input, wanted, source, errors)
+        }
         Command::ExportImage { image, directory } => {
             export_file(alloc, files, image, directory, errors)
         }

@@ -476,7 +476,12 @@ fn push_input<F: Files>(
 ) -> Result<(), AllocError> {
     match cause {
         Cause::Reading => push_readings(alloc, out, files, names.first_file(), names.schedule),
-        Cause::Directory => push_directory(alloc, out, files, names.first),
+        Cause::Directory => match command {
+            Command::ImportDirectory { directory, .. } => {
+                push_directory(alloc, out, files, directory)
+            }
+            _ => Ok(()),
+        },
         Cause::Text(named) => push_text(alloc, out, files, names, named),
         Cause::Schedule(line) => match names.schedule {
             Some(name) => push_turn(alloc, out, files, name, line),

@@ -34,4 +34,4 @@ pub use question::{Format, Question, RunQuestion, Search, TreeQuestion};
 pub use runs::{ask, ask_bundle, ask_by, ask_manifest_by, ask_manifest_run};
 pub use schedules::{is_turns, text_of_turns};
 pub use stop::AskStop;
-pub use trees::{ask_manifest, ask_tree};
+pub use trees::{ask_manifest, ask_tree, read_manifest};
