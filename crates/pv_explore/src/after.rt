@@ -9,9 +9,10 @@ ghost use Rattle.pv_model.specs.Machine.{process_at};
 ghost use Rattle.pv_step_cache.specs.OfStateEncoding.Encoded.{encoded_record, numbered_encoded};
 
 use crate::position::Position;
-use crate::states::{learn_cell, learn_cells};
+use crate::states::{learn_cell, learn_cells, learn_row};
 use pv_model::StepFault;
 use pv_step_cache::Cell;
+use pv_step_cache::state_encoding::{WithoutProgram, first_len, push_number};
 use pv_step_cache::tables::Keys;
 use std::alloc::{AllocError, Global};
 
@@ -33,6 +34,83 @@ fn with_own(alloc: Global, cells: &[Cell], pid: u32, own: Cell) -> Result<Vec<Ce
     Ok(after)
 }
 
+// Returns the cell of a live process.
+fn cell_of(cells: &[Cell], pid: u32) -> Option<Cell>
+    ensures { IfSome result (IsCellOf cells.now pid) }
+{
+    for cell in cells {
+        if cell.owner == pid {
+            return Some(*cell);
+        }
+    }
+    None
+}
+
+// Returns the bytes of the second number of a row.
+fn second_number(row: &[u8]) -> &[u8] {
+    let first = first_len(row);
+    if first > row.len() {
+        return &[];
+    }
+    let rest = &row[first..];
+    let second = first_len(rest);
+    if second > rest.len() {
+        return &[];
+    }
+    &rest[..second]
+}
+
+// Stores the group of a process with the program of another group, and returns its cell.
+fn with_program_of(
+    alloc: Global,
+    parts: &mut Keys,
+    groups: &mut Keys,
+    before: &Cell,
+    pid: u32,
+    own: &WithoutProgram,
+) -> Result<Option<Cell>, StepFault> {
+    let record = parts.number(alloc, &own.record)?;
+    let buffer = parts.number(alloc, &own.buffer)?;
+    let Some(row_before) = groups.get(before.number) else {
+        return Ok(None);
+    };
+    let mut row = Vec::new(alloc);
+    push_number(&mut row, record as u64)?;
+    row.extend_from_slice(second_number(row_before))?;
+    push_number(&mut row, buffer as u64)?;
+    let number = groups.number(alloc, &row)?;
+    let outside = learn_row(alloc, parts, &own.outside)?;
+    let outside = groups.number(alloc, &outside)?;
+    Ok(Some(Cell {
+        number,
+        owner: pid,
+        outside,
+    }))
+}
+
+// Stores the group of the process that made a step, and returns its cell.
+fn own_cell(
+    alloc: Global,
+    parts: &mut Keys,
+    groups: &mut Keys,
+    cells: &[Cell],
+    pid: u32,
+    keeps_program: bool,
+    position: &Position,
+) -> Result<Cell, StepFault> {
+    if keeps_program {
+        if let Some(before) = cell_of(cells, pid) {
+            if let Some(own) = position.without_program(alloc, pid)? {
+                if let Some(cell) = with_program_of(alloc, parts, groups, &before, pid, &own)? {
+                    return Ok(cell);
+                }
+            }
+        }
+    }
+    let group = position.encoded_process(alloc, pid)?;
+    Ok(learn_cell(alloc, parts, groups, &group)?)
+}
+
 // Stores the group of the process that made a step and that alone changed, and returns the cells after the step.
 fn cells_inside(
     alloc: Global,
@@ -48,21 +126,8 @@ fn cells_inside(
     ensures groups_grew { Grew groups.old groups.new }
     ensures cells { IfOk result (λ after. AreCellsOf parts.new groups.new position.now after.items) }
 {
-    let group = position.encoded_process(alloc, pid)?;
-    let own = learn_cell(alloc, parts, groups, &group)?;
+    let own = own_cell(alloc, parts, groups, cells, pid, true, position)?;
     Ok(with_own(alloc, cells, pid, own)?)
-}
-
-// Returns the cell of a live process.
-fn cell_of(cells: &[Cell], pid: u32) -> Option<Cell>
-    ensures { IfSome result (IsCellOf cells.now pid) }
-{
-    for cell in cells {
-        if cell.owner == pid {
-            return Some(*cell);
-        }
-    }
-    None
 }
 
 // Stores the group of a process after a step of process `pid`, which is still live, and returns its cell. If it is
@@ -74,6 +139,7 @@ fn cell_beside(
     cells: &[Cell],
     pid: u32,
     inside: bool,
+    keeps_program: bool,
     position: &Position,
     other: u32,
 ) -> Result<Cell, StepFault>
@@ -88,6 +154,9 @@ fn cell_beside(
         if let Some(cell) = cell_of(cells, other) {
             return Ok(cell);
         }
+    }
+    if other == pid {
+        return own_cell(alloc, parts, groups, cells, pid, keeps_program, position);
     }
     let group = position.encoded_process(alloc, other)?;
     Ok(learn_cell(alloc, parts, groups, &group)?)
@@ -109,6 +178,7 @@ fn process_cells(
     cells: &[Cell],
     pid: u32,
     inside: bool,
+    keeps_program: bool,
     position: &Position,
 ) -> Result<Vec<Cell>, StepFault>
     requires live { IsSome (process_at position.now pid) }
@@ -121,7 +191,7 @@ fn process_cells(
     let mut after = Vec::new(alloc);
     let mut last = 0;
     while let Some(other) = position.next_process(last) {
-        let cell = cell_beside(alloc, parts, groups, cells, pid, inside, position, other)?;
+        let cell = cell_beside(alloc, parts, groups, cells, pid, inside, keeps_program, position, other)?;
         push_cell(&mut after, cell)?;
         last = other;
     }
@@ -159,6 +229,7 @@ fn cells_beside(
     cells: &[Cell],
     pid: u32,
     inside: bool,
+    keeps_program: bool,
     position: &Position,
 ) -> Result<Vec<Cell>, StepFault>
     requires live { IsSome (process_at position.now pid) }
@@ -167,7 +238,7 @@ fn cells_beside(
     ensures groups_grew { Grew groups.old groups.new }
     ensures cells { IfOk result (λ after. AreCellsOf parts.new groups.new position.now after.items) }
 {
-    let processes = process_cells(alloc, parts, groups, cells, pid, inside, position)?;
+    let processes = process_cells(alloc, parts, groups, cells, pid, inside, keeps_program, position)?;
     let counts = position.encoded_counts(alloc)?;
     let counts = learn_cell(alloc, parts, groups, &counts)?;
     let trees = position.encoded_trees(alloc)?;
@@ -190,6 +261,7 @@ pub(crate) fn cells_after(
     cells: &[Cell],
     pid: u32,
     inside: bool,
+    keeps_program: bool,
     position: &Position,
 ) -> Result<Vec<Cell>, StepFault>
     requires { cells.now ≢ [] → LeadTo parts.old groups.old cells.now pid inside position.now }
@@ -204,5 +276,5 @@ pub(crate) fn cells_after(
     if inside {
         return cells_inside(alloc, parts, groups, cells, pid, position);
     }
-    cells_beside(alloc, parts, groups, cells, pid, inside, position)
+    cells_beside(alloc, parts, groups, cells, pid, inside, keeps_program, position)
 }

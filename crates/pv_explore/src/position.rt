@@ -24,8 +24,8 @@ use crate::witness::Count;
 use pv_model::limits::LAST_PROCESS;
 use pv_model::{CallRef, StepFault};
 use pv_step_cache::state_encoding::{
-    EncodedGroup, encoded_counts, encoded_process, encoded_state, encoded_trees, push_tree,
-    state_groups,
+    EncodedGroup, WithoutProgram, encoded_counts, encoded_process, encoded_state, encoded_trees,
+    push_tree, state_groups, without_program,
 };
 use pv_step_lines::answers::{Fragment, Line, Plain};
 use pv_step_lines::calls_state::Parts;
@@ -65,6 +65,8 @@ pub struct ObservedStep {
     pub texts: Vec<Vec<u8>>,
     /// Whether the step changes at most the inside of its process, unless it kills the process.
     pub inside: bool,
+    /// Whether the step leaves the program of its process unchanged, for its call is no execve(2).
+    pub keeps_program: bool,
 }
 
 // Returns whether a call changes at most the registers, the buffer and the promises of its process.
@@ -92,6 +94,15 @@ fn stays_inside(session: &Session, pid: u32) -> bool
         Fetched::Register => true,
         Fetched::Call(call) => only_asks(call),
         Fetched::Gone => false,
+    }
+}
+
+// Returns whether the next step of a process is no execve(2).
+fn keeps_program(session: &Session, pid: u32) -> bool {
+    let mut texts = CallTexts::new();
+    match session.fetch(pid, &mut texts) {
+        Fetched::Call(CallRef::Execve(_)) => false,
+        _ => true,
     }
 }
 
@@ -262,12 +273,14 @@ impl Position {
         let Position { mut session, last } = self;
         let _ = session.parts();
         let inside = stays_inside(&session, pid);
+        let keeps_program = inside || keeps_program(&session, pid);
         let texts = observer.step(alloc, &mut session, pid)?;
         let last = last_number(session.parts(), last);
         Ok(ObservedStep {
             position: Position { session, last },
             texts,
             inside,
+            keeps_program,
         })
     }
 
@@ -307,6 +320,19 @@ impl Position {
         ensures { IfOk result (λ group. encoded_of group ≡ numbered_encoded pid (find nat_cmp pid self.now.processes)) }
     {
         Ok(encoded_process(alloc, self.session.parts().processes(), pid)?)
+    }
+
+    /// Returns the parts of a process except its program, if it is live.
+    ///
+    /// # Errors
+    ///
+    /// `NoMemory`, if there is no memory.
+    pub(crate) fn without_program(
+        &self,
+        alloc: Global,
+        pid: u32,
+    ) -> Result<Option<WithoutProgram>, StepFault> {
+        Ok(without_program(alloc, self.session.parts().processes(), pid)?)
     }
 
     /// Returns the group of the state's counts.

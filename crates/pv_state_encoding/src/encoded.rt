@@ -3,11 +3,11 @@ ghost use Rattle.std.specs.Prelude.{◌≡◌, ◌∷◌, ◌++◌, [], map, IsS
 ghost use Rattle.std.specs.FinMap.Entries.{find};
 ghost use Rattle.std.specs.Ordering.{nat_cmp};
 ghost use Rattle.pv_answers.specs.OfProcs.ProcessTable.{process_in};
-ghost use Rattle.pv_state_encoding.specs.Groups.{groups_of, parts_of};
+ghost use Rattle.pv_state_encoding.specs.Groups.{parts_of};
 ghost use Rattle.pv_state_encoding.specs.Encoded.{live_encoded, numbered_encoded, plain, encoded_all, encoded_of, encoded_record};
 
 use crate::outsides::outside_of_live;
-use crate::processes::{group_live, group_of_process};
+use crate::processes::{group_live, group_of_process, part_held, part_of_buffer};
 use pv_answers::procs::Processes;
 use std::alloc::{AllocError, Global};
 
@@ -71,23 +71,6 @@ pub(crate) fn push_plain(
     push_encoded(encoded, EncodedGroup::Plain(group))
 }
 
-/// Appends groups that belong to no live process.
-///
-/// # Errors
-///
-/// `AllocError`, if there is no memory.
-pub(crate) fn push_plains(
-    encoded: &mut Vec<EncodedGroup>,
-    groups: Vec<Vec<Vec<u8>>>,
-) -> Result<(), AllocError>
-    ensures { OnOk result (encoded_all encoded.new.items ≡ encoded_all encoded.old.items ++ map plain (groups_of groups.items)) }
-{
-    for group in groups {
-        push_plain(encoded, group)?;
-    }
-    Ok(())
-}
-
 /// Appends the groups of all processes, by process number.
 ///
 /// # Errors
@@ -107,4 +90,43 @@ pub(crate) fn push_encoded_processes(
         last = pid;
     }
     Ok(())
+}
+
+/// The parts of a live process except its program, and its outside view.
+#[derive(Drop)]
+pub struct WithoutProgram {
+    /// The part without program and buffer.
+    pub record: Vec<u8>,
+    /// The buffer.
+    pub buffer: Vec<u8>,
+    /// The outside view.
+    pub outside: Vec<Vec<u8>>,
+}
+
+/// Returns the parts of a live process except its program, and its outside view.
+///
+/// # Errors
+///
+/// `AllocError`, if there is no memory.
+pub fn without_program(
+    alloc: Global,
+    processes: &Processes,
+    pid: u32,
+) -> Result<Option<WithoutProgram>, AllocError>
+{
+    let Some(parent) = processes.parent_of(pid) else {
+        return Ok(None);
+    };
+    if !processes.live(pid) {
+        return Ok(None);
+    }
+    let owned = processes.record(pid);
+    let record = part_held(alloc, pid, owned, parent)?;
+    let buffer = part_of_buffer(alloc, owned.context.buffer())?;
+    let outside = outside_of_live(alloc, processes, pid)?;
+    Ok(Some(WithoutProgram {
+        record,
+        buffer,
+        outside,
+    }))
 }

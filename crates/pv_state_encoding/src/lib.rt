@@ -16,9 +16,9 @@ mod processes;
 mod states;
 mod trees;
 
-pub use encoded::{EncodedGroup, encoded_process};
+pub use encoded::{EncodedGroup, WithoutProgram, encoded_process, without_program};
 pub use files::push_file;
-pub use numbers::{push_bool, push_items, push_number};
+pub use numbers::{first_len, push_bool, push_items, push_number};
 pub use processes::{
     count, group_ended, part_of_program, push_promises, push_registers, push_table,
 };
@@ -26,4 +26,4 @@ pub use pv_answers as answers;
 pub use pv_answers::{calls_state, procs};
 pub use pv_image_write::tree;
 pub use states::{encoded_counts, encoded_state, encoded_trees, state_groups};
-pub use trees::{part_of_sizes, push_node_groups, push_tree};
+pub use trees::{group_of_nodes, part_of_sizes, push_tree};

@@ -140,3 +140,14 @@ pub fn push_permissions(key: &mut Vec<u8>, permissions: Perms) -> Result<(), All
     push_bool(key, permissions.x)?;
     push_bool(key, permissions.c)
 }
+
+/// Returns the number of bytes of the encoding of a number, with which bytes begin.
+pub fn first_len(bytes: &[u8]) -> usize
+    ensures { (n : ℕ) (rest : Bytes) → bytes.now ≡ packed n ++ rest → result ≡ length (packed n) }
+{
+    let mut at = 0;
+    while at < 9 && at < bytes.len() && bytes[at] >= 128 {
+        at += 1;
+    }
+    at + 1
+}

@@ -236,7 +236,7 @@ fn push_ended(key: &mut Vec<u8>, pid: u32, parent: u32, status: u32) -> Result<(
 
 // Returns the part of a live process that has neither its program nor its buffer.
 #[tactic(auto, using(crate::proofs::Adding::added_then, crate::proofs::Grouping::added_whole))]
-fn part_held(
+pub(crate) fn part_held(
     alloc: Global,
     pid: u32,
     owned: &ProcessRecord,
@@ -267,7 +267,7 @@ pub fn part_of_program(alloc: Global, program: &Program) -> Result<Vec<u8>, Allo
 
 // Returns the part of a buffer.
 #[tactic(auto, using(crate::proofs::Grouping::added_whole))]
-fn part_of_buffer(alloc: Global, buffer: &[u8]) -> Result<Vec<u8>, AllocError>
+pub(crate) fn part_of_buffer(alloc: Global, buffer: &[u8]) -> Result<Vec<u8>, AllocError>
     ensures { IfOk result (λ part. part.items ≡ packed_all (bytes_numbers buffer.now)) }
 {
     let mut part = Vec::new(alloc);

@@ -1,5 +1,5 @@
 //! Tables of byte strings in insertion order.
-ghost use Rattle.std.specs.Prelude.{◌≡◌, ◌==◌, ◌++◌, ◌∷◌, [], length, position, bytes_eq, if◌then◌else◌, IfOk, OnOk, OnErr};
+ghost use Rattle.std.specs.Prelude.{◌≡◌, ◌==◌, ◌++◌, ◌∷◌, [], length, position, bytes_eq, slice_get, if◌then◌else◌, IfOk, IfSome, OnOk, OnErr, Some};
 ghost use Rattle.std.specs.List.{list_any, position_or_len};
 
 use indexmap::{Equivalent, IndexSet};
@@ -154,6 +154,16 @@ impl Keys {
         ensures { result ≡ position (bytes_eq key.now) self.now }
     {
         self.set.get_index_of(Sought(key))
+    }
+
+    /// Returns the byte string with an index, if there is one.
+    pub fn get(&self, number: usize) -> Option<&[u8]>
+        ensures { IfSome result (λ key. slice_get self.now number ≡ Some key.now) }
+    {
+        match self.set.get_index(number) {
+            Some(key) => Some(key.bytes.as_slice()),
+            None => None,
+        }
     }
 
     /// Appends a byte string if the set does not contain it, and returns its index.
