@@ -24,7 +24,6 @@ use Rattle.pv_step_cache.proofs.KeyLists.{number-none}
 use Rattle.pv_step_cache.proofs.Keys.{groups-encoded}
 use Rattle.pv_step_cache.proofs.LiveOwners.{owners-are}
 use Rattle.pv_step_cache.proofs.Recalling.{recalled-again, steps-added, steps-more}
-use Rattle.pv_step_cache.specs.Steps.{Adds}
 use Rattle.pv_laws_states.specs.States.{IsValid}
 use Rattle.pv_step_lines.proofs.OfProcs.Loads.{slice_get-set_other, slice_get-set_same}
 use Rattle.pv_model.specs.Machine.{has_ended, Observer, Bytes, is_empty, State}
@@ -197,12 +196,6 @@ module _ (parts groups parts_now groups_now : List Bytes) (parts_grew : Grew par
   pub steps-grew : (observe : Observer Bytes) (steps : List CachedStep) → AreCachedSteps observe parts groups steps → AreCachedSteps observe parts_now groups_now steps
   steps-grew observe steps all = steps-more (number_of parts groups) (IsGroupVisited parts groups) (number_of parts_now groups_now) (IsGroupVisited parts_now groups_now) keeps-more observe steps all
 
-  -- one more step
-  pub step-visited : (observe : Observer Bytes) (t : State) (pid : ℕ) (before after : List Cell) (texts : List Bytes) (old new : List CachedStep) → IsValid t → AreCellsOf parts groups t before → AreCellsOf parts_now groups_now (stepped t pid).after after
-      → texts ≡ observe t pid (stepped t pid) → AreCachedSteps observe parts groups old → Adds old new pid before after texts → AreCachedSteps observe parts_now groups_now new
-  step-visited observe t pid before after texts old new whole there left observed all adds =
-      steps-added (number_of parts_now groups_now) (IsGroupVisited parts_now groups_now) observe (apart parts_now groups_now) t pid before after texts old new whole (cells-grew t before there) left observed (steps-grew observe old all) adds
-
   pub fine-grew : {observe : Observer Bytes} (rows : List Bytes) (cells : List (Vec Cell)) (steps : List CachedStep) → IsFine observe parts groups rows cells steps → IsFine observe parts_now groups_now rows cells steps
   fine-grew {observe} rows cells steps fine = record {
     rows_are = rows-grew parts groups parts_now groups_now parts_grew groups_grew rows fine.rows_are;
@@ -212,9 +205,6 @@ module _ (parts groups parts_now groups_now : List Bytes) (parts_grew : Grew par
   }
 
 -- other cached transitions
-pub fine-steps : {observe : Observer Bytes} (parts groups rows : List Bytes) (cells : List (Vec Cell)) (steps new : List CachedStep) → IsFine observe parts groups rows cells steps → AreCachedSteps observe parts groups new → IsFine observe parts groups rows cells new
-fine-steps parts groups rows cells steps new fine all = record { rows_are = fine.rows_are; few = fine.few; cells_are = fine.cells_are; steps_are = all }
-
 -- ---- one more row
 
 pub get-left : {X : Type 0} (xs ys : List X) (k : ℕ) → k < length xs → slice_get (xs ++ ys) k ≡ slice_get xs k
@@ -368,23 +358,17 @@ module _ {observe : Observer Bytes} (parts groups rows : List Bytes) (cells : Li
       subst (λ (all : List Bytes). IsFoundIn limit all (map (state_bytes parts_now groups_now) rows_now) (state_key after) found) keys-after
       (found-bytes parts_now groups_now rows cells steps fine-now after cs learnt limit rows_now found it)
 
-  module _ (number pid : ℕ) (texts : List Bytes) (inside : Bool) (made : IsMade observe keys number pid texts inside after) (steps_now : List CachedStep) (may : MayKeep cells number pid cs.items texts steps steps_now) where
-    left-are : AreCellsOf parts_now groups_now (stepped made.state pid).after cs.items
+  module _ (number pid : ℕ) (texts : List Bytes) (before : State) (made : IsMade observe keys number pid texts before after) (steps_now : List CachedStep) (may : MayKeep cells number pid cs.items texts steps steps_now) where
+    left-are : AreCellsOf parts_now groups_now (stepped before pid).after cs.items
     left-are = subst (λ (s : State). AreCellsOf parts_now groups_now s cs.items) made.after_is learnt
 
     pub fine-made : IsFine observe parts_now groups_now rows cells steps_now
     fine-made =
-        fine-visited parts_now groups_now rows cells steps fine-now number pid made.state cs.items texts steps_now made.whole
-        (subst (λ (all : List Bytes). HasNumber all number made.state) (sym keys-after) made.number_is) left-are made.texts_are may
+        fine-visited parts_now groups_now rows cells steps fine-now number pid before cs.items texts steps_now made.whole
+        (subst (λ (all : List Bytes). HasNumber all number before) (sym keys-after) made.number_is) left-are made.texts_are may
 
     pub fine-arrived : (rows_now : List Bytes) (cells_now : List (Vec Cell)) → ArePlaced (cells_row cs.items) cs rows rows_now cells cells_now → IsFine observe parts_now groups_now rows_now cells_now steps_now
-    fine-arrived rows_now cells_now placed = fine-placed parts_now groups_now rows cells steps_now fine-made (stepped made.state pid).after cs left-are rows_now cells_now placed
-
--- a state that was added has the last number
-pub number-new : (limit : ℕ) (old new : List Bytes) (t : State) (found : Visit) → IsFoundIn limit old new (state_key t) found → found ≡ New → HasNumber new (length old) t
-number-new limit old new t (Known number) it is = cc
-number-new limit old new t Full it is = cc
-number-new limit old new t New it is = ap (λ (keys : List Bytes). slice_get keys (length old)) it.2 ∙ get-end old (state_key t)
+    fine-arrived rows_now cells_now placed = fine-placed parts_now groups_now rows cells steps_now fine-made (stepped before pid).after cs left-are rows_now cells_now placed
 
 -- ---- live processes
 

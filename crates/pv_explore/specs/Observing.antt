@@ -1,17 +1,11 @@
 -- Texts that are observed of the steps of a search. Each text is recorded once, with the first step that has it, and is
 -- then written if it is shown.
-use Rattle.std.specs.Prelude.{◌≡◌, ℕ, Bool, false, not, ◌==◌, if◌then◌else◌, List, [], ◌∷◌, ◌++◌, length, map, flat_map, Option, None, Some}
+use Rattle.std.specs.Prelude.{◌≡◌, ℕ, Bool, false, not, ◌==◌, if◌then◌else◌, List, [], ◌∷◌, ◌++◌, length, map, flat_map}
 use Rattle.std.proofs.Common.{sym, ap, refl}
-use Rattle.pv_model.specs.Machine.{endings, is_complete, states_found, answer_line_bytes, Observation, Observer, first_observations, observations, Bytes, program_of, next, Process, State, trace_bytes}
+use Rattle.pv_model.specs.Machine.{endings, is_complete, states_found, answer_line_bytes, Observation, Observer, first_observations, observations, Bytes, program_of, State, trace_bytes}
 use Rattle.pv_model.specs.Answers.Explore.{by_line}
-use Rattle.pv_step_cache.specs.OfLawsSteps.Commuting.{is_inward}
 use Rattle.pv_laws_steps.proofs.SeenSteps.{steps-by_seen}
 use Rattle.pv_step_cache.specs.Cached.{DependsOnSeen}
-
--- whether the next step of a process changes at most the inside of that process, unless it kills the process
-abbrev pub stays_inside : Option Process → Bool
-stays_inside None = false
-stays_inside (Some p) = is_inward (next p)
 
 -- a text is written unless it is empty or a note, which begins with byte 0
 abbrev pub is_shown : Bytes → Bool

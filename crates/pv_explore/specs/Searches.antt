@@ -46,6 +46,10 @@ module _ {O : Type 0} where
   abbrev pub live_of : State → Search O → ℕ → List ℕ
   live_of s search number = live_at program_of s (witness_at (visited_of search) number)
 
+  -- a machine is in state `number`
+  abbrev pub IsMachineOf : State → Search O → ℕ → State → Type 0
+  IsMachineOf s search number machine = machine ≡ state_of s search number
+
   -- the search knows this state by its number
   abbrev pub IsAt : State → Search O → ℕ → Type 0
   IsAt s search number = HasNumber search.states number (state_of s search number)

@@ -4,7 +4,6 @@ use Rattle.std.specs.Global.{Vec}
 use Rattle.std.specs.List.{AllByRecursion, list_any}
 use Rattle.pv_explore.specs.declared.states.Visit.{Visit}
 use Rattle.pv_explore.specs.declared.states.Visit.TheVariants.{Known, Full, New}
-use Rattle.pv_explore.specs.Observing.{stays_inside}
 use Rattle.pv_explore.specs.Plan.{state_key}
 use Rattle.pv_explore.specs.Rows.{number_in, group_row, state_row, IsGroupVisited, IsRow}
 use Rattle.pv_step_cache.specs.declared.cells.Cell.{Cell}
@@ -14,7 +13,7 @@ use Rattle.pv_step_cache.specs.Cached.{AreCells, IsCachedBoth, IsStep}
 use Rattle.pv_explore.specs.declared.states.Followed.{Followed}
 use Rattle.pv_step_cache.specs.Steps.{Adds, WasCached, texts_in, texts_of}
 use Rattle.pv_laws_states.specs.States.{IsValid}
-use Rattle.pv_model.specs.Machine.{has_ended, Observer, Bytes, live_processes, State, process_at}
+use Rattle.pv_model.specs.Machine.{has_ended, Observer, Bytes, live_processes, State}
 use Rattle.pv_step_lines.specs.OfSession.Running.{stepped}
 use Rattle.pv_step_cache.specs.OfStateEncoding.Groups.{state_groups}
 use Rattle.pv_step_cache.specs.OfStateEncoding.Encoded.{Encoded, encoded}
@@ -128,15 +127,12 @@ pub record IsFollowed (observe : Observer Bytes) (limit : ℕ) (old new : List B
   pub live : has_ended (stepped t pid).after ≡ false
   pub found_is : IsFoundIn limit old new (state_key (stepped t pid).after) found
 
--- a process made a step in state `number`, with these texts and this state after it; `inside` is whether the step
--- changes at most the inside of its process, unless it kills the process
-pub record IsMade (observe : Observer Bytes) (keys : List Bytes) (number pid : ℕ) (texts : List Bytes) (inside : Bool) (after : State) : Type 0 where
-  pub state : State
-  pub whole : IsValid state
-  pub number_is : HasNumber keys number state
-  pub texts_are : texts ≡ observe state pid (stepped state pid)
-  pub inside_is : inside ≡ stays_inside (process_at state pid)
-  pub after_is : after ≡ (stepped state pid).after
+-- a process made a step in state `number`, which is `before`, with these texts and this state after it
+pub record IsMade (observe : Observer Bytes) (keys : List Bytes) (number pid : ℕ) (texts : List Bytes) (before after : State) : Type 0 where
+  pub whole : IsValid before
+  pub number_is : HasNumber keys number before
+  pub texts_are : texts ≡ observe before pid (stepped before pid)
+  pub after_is : after ≡ (stepped before pid).after
 
 -- state `number` satisfies the invariant
 abbrev pub IsValidAt : List Bytes → ℕ → Type 0

@@ -1,12 +1,11 @@
 //! The cells of the state after a step, from those of the state before it.
-ghost use Rattle.std.specs.Prelude.{◌≡◌, ◌≢◌, ◌∷◌, ◌++◌, [], true, map, IsSome, IfSome, IfOk, OnOk};
+ghost use Rattle.std.specs.Prelude.{◌≡◌, ◌≢◌, ◌∷◌, ◌++◌, [], drop, length, map, slice_get, IfSome, IfOk, OnOk, Some};
 ghost use Rattle.std.specs.FinMap.Entries.{find};
 ghost use Rattle.std.specs.Ordering.{nat_cmp};
-ghost use Rattle.pv_explore.specs.Afters.{IsCellOf, LeadTo, own_or};
+ghost use Rattle.pv_explore.specs.Afters.{IsCellOf, IsKept, LeadTo};
 ghost use Rattle.pv_explore.specs.Rows.{Grew};
 ghost use Rattle.pv_explore.specs.VisitedStates.{AreCellsIn, AreCellsOf};
-ghost use Rattle.pv_model.specs.Machine.{process_at};
-ghost use Rattle.pv_step_cache.specs.OfStateEncoding.Encoded.{encoded_record, numbered_encoded};
+ghost use Rattle.pv_step_cache.specs.OfStateEncoding.Encoded.{encoded_record, files_group, nodes_group, numbered_encoded, plain};
 
 use crate::position::Position;
 use crate::states::{learn_cell, learn_cells};
@@ -14,44 +13,6 @@ use pv_model::StepFault;
 use pv_step_cache::Cell;
 use pv_step_cache::tables::Keys;
 use std::alloc::{AllocError, Global};
-
-// Returns a cell, or another one in its place if a process owns it.
-fn own_or(cell: &Cell, pid: u32, own: Cell) -> Cell
-    ensures { result ≡ own_or pid own cell.now }
-{
-    if cell.owner == pid { own } else { *cell }
-}
-
-// Returns cells in which the cell of a process is replaced.
-fn with_own(alloc: Global, cells: &[Cell], pid: u32, own: Cell) -> Result<Vec<Cell>, AllocError>
-    ensures { IfOk result (λ after. after.items ≡ map (own_or pid own) cells.now) }
-{
-    let mut after = Vec::with_capacity(alloc, cells.len())?;
-    for cell in cells {
-        after.push(own_or(cell, pid, own))?;
-    }
-    Ok(after)
-}
-
-// Stores the group of the process that made a step and that alone changed, and returns the cells after the step.
-fn cells_inside(
-    alloc: Global,
-    parts: &mut Keys,
-    groups: &mut Keys,
-    cells: &[Cell],
-    pid: u32,
-    position: &Position,
-) -> Result<Vec<Cell>, StepFault>
-    requires live { IsSome (process_at position.now pid) }
-    requires before { LeadTo parts.old groups.old cells.now pid true position.now }
-    ensures parts_grew { Grew parts.old parts.new }
-    ensures groups_grew { Grew groups.old groups.new }
-    ensures cells { IfOk result (λ after. AreCellsOf parts.new groups.new position.now after.items) }
-{
-    let group = position.encoded_process(alloc, pid)?;
-    let own = learn_cell(alloc, parts, groups, &group)?;
-    Ok(with_own(alloc, cells, pid, own)?)
-}
 
 // Returns the cell of a live process.
 fn cell_of(cells: &[Cell], pid: u32) -> Option<Cell>
@@ -65,31 +26,45 @@ fn cell_of(cells: &[Cell], pid: u32) -> Option<Cell>
     None
 }
 
-// Stores the group of a process after a step of process `pid`, which is still live, and returns its cell. If it is
-// another live process, its cell is the one before the step.
+// Returns the cell that another process had before a step of process `pid`, if the process is live after it with the
+// same parent.
+fn kept_cell(
+    cells: &[Cell],
+    pid: u32,
+    before: &Position,
+    after: &Position,
+    other: u32,
+) -> Option<Cell>
+    ensures { IfSome result (IsKept cells.now pid other before.now after.now) }
+{
+    if other == pid || !after.is_live(other) || after.parent_of(other) != before.parent_of(other) {
+        return None;
+    }
+    cell_of(cells, other)
+}
+
+// Stores the group of a process after a step of process `pid`, and returns its cell. If it is another live process, and
+// its parent is the same, its cell is the one before the step.
 fn cell_beside(
     alloc: Global,
     parts: &mut Keys,
     groups: &mut Keys,
     cells: &[Cell],
     pid: u32,
-    inside: bool,
-    position: &Position,
+    before: &Position,
+    after: &Position,
     other: u32,
 ) -> Result<Cell, StepFault>
-    requires live { IsSome (process_at position.now pid) }
-    requires before { LeadTo parts.old groups.old cells.now pid inside position.now }
+    requires before { LeadTo parts.old groups.old cells.now pid before.now after.now }
     ensures parts_grew { Grew parts.old parts.new }
     ensures groups_grew { Grew groups.old groups.new }
-    ensures cell { IfOk result (λ cell. AreCellsIn parts.new groups.new (numbered_encoded other (find nat_cmp other position.now.processes) ∷ []) (cell ∷ [])) }
+    ensures cell { IfOk result (λ cell. AreCellsIn parts.new groups.new (numbered_encoded other (find nat_cmp other after.now.processes) ∷ []) (cell ∷ [])) }
 {
-    let _ = position.parts();
-    if other != pid && position.is_live(other) {
-        if let Some(cell) = cell_of(cells, other) {
-            return Ok(cell);
-        }
+    let _ = after.parts();
+    if let Some(cell) = kept_cell(cells, pid, before, after, other) {
+        return Ok(cell);
     }
-    let group = position.encoded_process(alloc, other)?;
+    let group = after.encoded_process(alloc, other)?;
     Ok(learn_cell(alloc, parts, groups, &group)?)
 }
 
@@ -101,84 +76,135 @@ fn push_cell(cells: &mut Vec<Cell>, cell: Cell) -> Result<(), AllocError>
     Ok(())
 }
 
-// Stores the groups of all processes after a step of process `pid`, which is still live, and returns their cells.
+// Stores the groups of all processes after a step of process `pid`, and returns their cells.
 fn process_cells(
     alloc: Global,
     parts: &mut Keys,
     groups: &mut Keys,
     cells: &[Cell],
     pid: u32,
-    inside: bool,
-    position: &Position,
+    before: &Position,
+    after: &Position,
 ) -> Result<Vec<Cell>, StepFault>
-    requires live { IsSome (process_at position.now pid) }
-    requires before { LeadTo parts.old groups.old cells.now pid inside position.now }
+    requires before { LeadTo parts.old groups.old cells.now pid before.now after.now }
     ensures parts_grew { Grew parts.old parts.new }
     ensures groups_grew { Grew groups.old groups.new }
-    ensures cells { IfOk result (λ after. AreCellsIn parts.new groups.new (map encoded_record position.now.processes) after.items) }
+    ensures cells { IfOk result (λ made. AreCellsIn parts.new groups.new (map encoded_record after.now.processes) made.items) }
 {
-    let _ = position.parts();
-    let mut after = Vec::new(alloc);
+    let _ = after.parts();
+    let mut made = Vec::new(alloc);
     let mut last = 0;
-    while let Some(other) = position.next_process(last) {
-        let cell = cell_beside(alloc, parts, groups, cells, pid, inside, position, other)?;
-        push_cell(&mut after, cell)?;
+    while let Some(other) = after.next_process(last) {
+        let cell = cell_beside(alloc, parts, groups, cells, pid, before, after, other)?;
+        push_cell(&mut made, cell)?;
         last = other;
     }
-    Ok(after)
+    Ok(made)
 }
 
-// Returns the cells of a state, given those of its counts, of its processes, and of its open files and tree.
+// Returns the cell that is `place` cells before the end of a list.
+fn cell_from_end(cells: &[Cell], place: usize) -> Option<Cell>
+    ensures { IfSome result (λ cell. slice_get cells.now (length cells.now - place) ≡ Some cell) }
+{
+    if place > cells.len() {
+        return None;
+    }
+    match cells.get(cells.len() - place) {
+        Some(cell) => Some(*cell),
+        None => None,
+    }
+}
+
+// Stores the group of the open files after a step, and returns its cell: that before the step, if they are the same.
+fn files_cell(
+    alloc: Global,
+    parts: &mut Keys,
+    groups: &mut Keys,
+    cells: &[Cell],
+    before: &Position,
+    after: &Position,
+) -> Result<Cell, StepFault>
+    requires before { AreCellsOf parts.old groups.old before.now cells.now }
+    ensures parts_grew { Grew parts.old parts.new }
+    ensures groups_grew { Grew groups.old groups.new }
+    ensures cell { IfOk result (λ cell. AreCellsIn parts.new groups.new (plain (files_group after.now) ∷ []) (cell ∷ [])) }
+{
+    if after.has_files_of(before) {
+        if let Some(cell) = cell_from_end(cells, 2) {
+            return Ok(cell);
+        }
+    }
+    let group = after.encoded_files(alloc)?;
+    Ok(learn_cell(alloc, parts, groups, &group)?)
+}
+
+// Stores the group of the nodes after a step, and returns its cell: that before the step, if they are the same.
+fn nodes_cell(
+    alloc: Global,
+    parts: &mut Keys,
+    groups: &mut Keys,
+    cells: &[Cell],
+    before: &Position,
+    after: &Position,
+) -> Result<Cell, StepFault>
+    requires before { AreCellsOf parts.old groups.old before.now cells.now }
+    ensures parts_grew { Grew parts.old parts.new }
+    ensures groups_grew { Grew groups.old groups.new }
+    ensures cell { IfOk result (λ cell. AreCellsIn parts.new groups.new (plain (nodes_group after.now) ∷ []) (cell ∷ [])) }
+{
+    if after.has_nodes_of(before) {
+        if let Some(cell) = cell_from_end(cells, 1) {
+            return Ok(cell);
+        }
+    }
+    let group = after.encoded_nodes(alloc)?;
+    Ok(learn_cell(alloc, parts, groups, &group)?)
+}
+
+// Returns the cells of a state, given those of its counts, of its processes, of its open files and of its nodes.
 fn joined(
     alloc: Global,
     counts: Cell,
     processes: &[Cell],
-    trees: &[Cell],
+    files: Cell,
+    nodes: Cell,
 ) -> Result<Vec<Cell>, AllocError>
-    ensures { IfOk result (λ cells. cells.items ≡ counts ∷ (processes.now ++ trees.now)) }
+    ensures { IfOk result (λ cells. cells.items ≡ counts ∷ (processes.now ++ files ∷ nodes ∷ [])) }
 {
-    let mut cells = Vec::with_capacity(
-        alloc,
-        processes
-            .len()
-            .saturating_add(trees.len())
-            .saturating_add(1),
-    )?;
+    let mut cells = Vec::with_capacity(alloc, processes.len().saturating_add(3))?;
     cells.push(counts)?;
     cells.extend_from_slice(processes)?;
-    cells.extend_from_slice(trees)?;
+    cells.push(files)?;
+    cells.push(nodes)?;
     Ok(cells)
 }
 
-// Stores the groups of the state after a step of process `pid`, which is still live, and returns the cells of that
-// state. The other live processes are not encoded again.
+// Stores the groups of the state after a step of process `pid` that are not those before it, and returns the cells of
+// that state.
 fn cells_beside(
     alloc: Global,
     parts: &mut Keys,
     groups: &mut Keys,
     cells: &[Cell],
     pid: u32,
-    inside: bool,
-    position: &Position,
+    before: &Position,
+    after: &Position,
 ) -> Result<Vec<Cell>, StepFault>
-    requires live { IsSome (process_at position.now pid) }
-    requires before { LeadTo parts.old groups.old cells.now pid inside position.now }
+    requires before { LeadTo parts.old groups.old cells.now pid before.now after.now }
     ensures parts_grew { Grew parts.old parts.new }
     ensures groups_grew { Grew groups.old groups.new }
-    ensures cells { IfOk result (λ after. AreCellsOf parts.new groups.new position.now after.items) }
+    ensures cells { IfOk result (λ made. AreCellsOf parts.new groups.new after.now made.items) }
 {
-    let processes = process_cells(alloc, parts, groups, cells, pid, inside, position)?;
-    let counts = position.encoded_counts(alloc)?;
+    let processes = process_cells(alloc, parts, groups, cells, pid, before, after)?;
+    let files = files_cell(alloc, parts, groups, cells, before, after)?;
+    let nodes = nodes_cell(alloc, parts, groups, cells, before, after)?;
+    let counts = after.encoded_counts(alloc)?;
     let counts = learn_cell(alloc, parts, groups, &counts)?;
-    let trees = position.encoded_trees(alloc)?;
-    let trees = learn_cells(alloc, parts, groups, &trees)?;
-    Ok(joined(alloc, counts, &processes, &trees)?)
+    Ok(joined(alloc, counts, &processes, files, nodes)?)
 }
 
 /// Stores the groups of the state after a step of a process, and returns the cells of that state. `cells` are those of
-/// the state before the step, or empty if they are not known. `inside` is whether the step changes at most the inside
-/// of its process, unless it kills the process: if so, no other group is encoded again. If the process is still live
-/// after another step, the other live processes are not encoded again.
+/// the state before the step, or empty if they are not known. Groups that are the same are not encoded again.
 ///
 /// # Errors
 ///
@@ -189,20 +215,17 @@ pub(crate) fn cells_after(
     groups: &mut Keys,
     cells: &[Cell],
     pid: u32,
-    inside: bool,
-    position: &Position,
+    before: &Position,
+    after: &Position,
 ) -> Result<Vec<Cell>, StepFault>
-    requires { cells.now ≢ [] → LeadTo parts.old groups.old cells.now pid inside position.now }
+    requires { cells.now ≢ [] → LeadTo parts.old groups.old cells.now pid before.now after.now }
     ensures parts_grew { Grew parts.old parts.new }
     ensures groups_grew { Grew groups.old groups.new }
-    ensures cells { IfOk result (λ after. AreCellsOf parts.new groups.new position.now after.items) }
+    ensures cells { IfOk result (λ made. AreCellsOf parts.new groups.new after.now made.items) }
 {
-    if cells.is_empty() || !position.is_live(pid) {
-        let encoded = position.encoded(alloc)?;
+    if cells.is_empty() {
+        let encoded = after.encoded(alloc)?;
         return Ok(learn_cells(alloc, parts, groups, &encoded)?);
     }
-    if inside {
-        return cells_inside(alloc, parts, groups, cells, pid, position);
-    }
-    cells_beside(alloc, parts, groups, cells, pid, inside, position)
+    cells_beside(alloc, parts, groups, cells, pid, before, after)
 }

@@ -260,6 +260,19 @@ impl<'a> Checkpoints<'a> {
         )
     }
 
+    /// Returns a copy of a machine, in an image of the sizes of the first one.
+    ///
+    /// # Errors
+    ///
+    /// `NoMemory`, if there is no memory.
+    pub fn copy(&mut self, alloc: Global, machine: &Position) -> Result<Position, StepFault>
+        requires { HaveSameSizes self.old.tree machine.now.tree }
+        ensures unchanged { self.new ≡ self.old }
+        ensures copy { IfOk result (λ copy. copy ≡ machine.now) }
+    {
+        copy_of(alloc, self.first, &mut self.free, machine)
+    }
+
     /// Takes a machine back, to be reused.
     pub fn release(&mut self, machine: Position)
         ensures { self.new ≡ self.old }

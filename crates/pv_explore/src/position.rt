@@ -1,5 +1,5 @@
 //! Machines at the end of a schedule.
-ghost use Rattle.std.specs.Prelude.{◌≡◌, ◌+◌, ◌++◌, ◌∷◌, [], true, codes, map, is_some, IfOk, OnOk};
+ghost use Rattle.std.specs.Prelude.{◌≡◌, ◌+◌, ◌++◌, ◌∷◌, [], true, codes, map, is_some, option_map, IfOk, OnOk};
 ghost use Rattle.pv_explore.specs.FirstMachines.{GaveNumber, one_if};
 ghost use Rattle.pv_step_lines.specs.OfProcs.ProcessTable.{number_after, process_in};
 ghost use Rattle.std.specs.FinMap.Entries.{find};
@@ -7,13 +7,11 @@ ghost use Rattle.std.specs.Ordering.{nat_cmp};
 ghost use Rattle.pv_explore.specs.Plan.{state_at, tree_key};
 ghost use Rattle.pv_explore.specs.Vertices.{step_of};
 ghost use Rattle.pv_model.specs.Answers.Graph.{leads_to_text};
-ghost use Rattle.pv_model.specs.Machine.{answer_bytes, answer_line, answer_line_bytes, has_ended, program_of, live_processes, named_tree, call_of, process_at};
+ghost use Rattle.pv_model.specs.Machine.{answer_bytes, answer_line, answer_line_bytes, has_ended, program_of, live_processes, named_tree, parent_of, process_at};
 ghost use Rattle.pv_laws_states.specs.States.{IsValid};
 ghost use Rattle.pv_step_lines.specs.OfSession.Running.{FailsBy, stepped};
 ghost use Rattle.pv_step_cache.specs.OfStateEncoding.Groups.{groups_of, state_groups};
-ghost use Rattle.pv_step_cache.specs.OfStateEncoding.Encoded.{counts_group, encoded, encoded_all, encoded_of, numbered_encoded, plain, tree_groups};
-ghost use Rattle.pv_explore.specs.Observing.{stays_inside};
-ghost use Rattle.pv_step_cache.specs.OfLawsSteps.Commuting.{only_asks};
+ghost use Rattle.pv_step_cache.specs.OfStateEncoding.Encoded.{counts_group, encoded, encoded_all, encoded_of, files_group, nodes_group, numbered_encoded, plain};
 ghost use Rattle.pv_step_cache.specs.Steps.{texts_in};
 ghost use Rattle.pv_streams.specs.Sinks.{Writes, WritesOr};
 ghost use Rattle.pv_image.specs.OfTree.Sizes.{HaveSameSizes};
@@ -22,14 +20,14 @@ use crate::observer::Observer;
 use crate::states::States;
 use crate::witness::Count;
 use pv_model::limits::LAST_PROCESS;
-use pv_model::{CallRef, StepFault};
+use pv_model::StepFault;
 use pv_step_cache::state_encoding::{
-    EncodedGroup, encoded_counts, encoded_process, encoded_state, encoded_trees, push_tree,
-    state_groups,
+    EncodedGroup, are_same_files, are_same_nodes, encoded_counts, encoded_files, encoded_nodes,
+    encoded_process, encoded_state, push_tree, state_groups,
 };
 use pv_step_lines::answers::{Fragment, Line, Plain};
 use pv_step_lines::calls_state::Parts;
-use pv_step_lines::procs::{Fetched, Processes};
+use pv_step_lines::procs::Processes;
 use pv_step_lines::script::CallTexts;
 use pv_step_lines::session::{Session, Stop};
 use pv_step_lines::{make_step, write_made};
@@ -63,36 +61,6 @@ pub struct ObservedStep {
     pub position: Position,
     /// The texts observed of the step.
     pub texts: Vec<Vec<u8>>,
-    /// Whether the step changes at most the inside of its process, unless it kills the process.
-    pub inside: bool,
-}
-
-// Returns whether a call changes at most the registers, the buffer and the promises of its process.
-fn only_asks(call: CallRef<'_>) -> bool
-    ensures { result ≡ only_asks (call_of call.entry) }
-{
-    match call {
-        CallRef::GetPid
-        | CallRef::GetPpid
-        | CallRef::Pledge(_, _)
-        | CallRef::Stat(_)
-        | CallRef::Lstat(_)
-        | CallRef::Readlink(_)
-        | CallRef::Fstat(_) => true,
-        _ => false,
-    }
-}
-
-// Returns whether the next step of a process changes at most the inside of that process, unless it kills the process.
-fn stays_inside(session: &Session, pid: u32) -> bool
-    ensures { result ≡ stays_inside (process_at session.now pid) }
-{
-    let mut texts = CallTexts::new();
-    match session.fetch(pid, &mut texts) {
-        Fetched::Register => true,
-        Fetched::Call(call) => only_asks(call),
-        Fetched::Gone => false,
-    }
 }
 
 // Returns the last process number that a state has given. `known` is that number before the last step.
@@ -257,17 +225,14 @@ impl Position {
     ) -> Result<ObservedStep, StepFault>
         ensures after { IfOk result (λ made. made.position ≡ (stepped self pid).after) }
         ensures texts { IfOk result (λ made. texts_in made.texts.items ≡ O.observe self pid (stepped self pid)) }
-        ensures inside { IfOk result (λ made. made.inside ≡ stays_inside (process_at self pid)) }
     {
         let Position { mut session, last } = self;
         let _ = session.parts();
-        let inside = stays_inside(&session, pid);
         let texts = observer.step(alloc, &mut session, pid)?;
         let last = last_number(session.parts(), last);
         Ok(ObservedStep {
             position: Position { session, last },
             texts,
-            inside,
         })
     }
 
@@ -320,15 +285,47 @@ impl Position {
         Ok(encoded_counts(alloc, self.session.parts(), self.last)?)
     }
 
-    /// Returns the groups of the state's open files and tree.
+    /// Returns the group of the state's open files and of the sizes of its tree.
     ///
     /// # Errors
     ///
     /// `NoMemory`, if there is no memory.
-    pub(crate) fn encoded_trees(&self, alloc: Global) -> Result<Vec<EncodedGroup>, StepFault>
-        ensures { IfOk result (λ groups. encoded_all groups.items ≡ map plain (tree_groups self.now)) }
+    pub(crate) fn encoded_files(&self, alloc: Global) -> Result<EncodedGroup, StepFault>
+        ensures { IfOk result (λ group. encoded_of group ≡ plain (files_group self.now)) }
     {
-        Ok(encoded_trees(alloc, self.session.parts())?)
+        Ok(encoded_files(alloc, self.session.parts())?)
+    }
+
+    /// Returns the group of the nodes of the state's tree.
+    ///
+    /// # Errors
+    ///
+    /// `NoMemory`, if there is no memory.
+    pub(crate) fn encoded_nodes(&self, alloc: Global) -> Result<EncodedGroup, StepFault>
+        ensures { IfOk result (λ group. encoded_of group ≡ plain (nodes_group self.now)) }
+    {
+        Ok(encoded_nodes(alloc, self.session.parts())?)
+    }
+
+    /// Returns true only if two states have the same open files, and trees of the same sizes.
+    pub(crate) fn has_files_of(&self, other: &Position) -> bool
+        ensures { result ≡ true → files_group self.now ≡ files_group other.now }
+    {
+        self.fits(other) && are_same_files(self.session.parts().files(), other.session.parts().files())
+    }
+
+    /// Returns true only if two states have the same tree.
+    pub(crate) fn has_nodes_of(&self, other: &Position) -> bool
+        ensures { result ≡ true → nodes_group self.now ≡ nodes_group other.now }
+    {
+        are_same_nodes(self.session.parts().tree(), other.session.parts().tree())
+    }
+
+    /// Returns the parent of a process, live or ended.
+    pub(crate) fn parent_of(&self, pid: u32) -> Option<u32>
+        ensures { result ≡ option_map parent_of (find nat_cmp pid self.now.processes) }
+    {
+        self.session.parts().processes().parent_of(pid)
     }
 
     /// Returns the number of the first process after `last`, live or ended, if there is one.

@@ -1,11 +1,10 @@
 //! The search.
-ghost use Rattle.std.specs.Prelude.{◌≡◌, ◌<◌, ◌++◌, ◌∷◌, [], true, bytes_eq, length, if◌then◌else◌, slice_get, IfOk, OnOk};
+ghost use Rattle.std.specs.Prelude.{◌≡◌, ◌<◌, ◌++◌, ◌∷◌, [], true, bytes_eq, length, if◌then◌else◌, slice_get, IfOk, IfSome, OnOk};
 ghost use Rattle.std.specs.List.{list_any};
 ghost use Rattle.pv_explore.specs.Observing.{is_shown};
 ghost use Rattle.pv_explore.specs.Plan.{added_to, endings_after, first_visited, move_bytes, new_bytes, reported_after, reported_bytes, reported_from, shown_bytes, state_key, visited_from, with_found_at};
-ghost use Rattle.pv_explore.specs.VisitedStates.{HasNumber, IsFoundIn, IsMade};
-ghost use Rattle.pv_explore.specs.declared.states.Visit.TheVariants.{New};
-ghost use Rattle.pv_explore.specs.Searches.{AreAt, endings_found, HasMoved, HasMovedAll, HasMovedFrom, IsAt, live_of, state_of, text_from, text_of_move, text_of_moves, visited_of, with_witness};
+ghost use Rattle.pv_explore.specs.VisitedStates.{HasNumber, IsMade};
+ghost use Rattle.pv_explore.specs.Searches.{AreAt, endings_found, HasMoved, HasMovedAll, HasMovedFrom, IsAt, IsMachineOf, live_of, state_of, text_from, text_of_move, text_of_moves, visited_of, with_witness};
 ghost use Rattle.pv_explore.specs.Witnesses.{longer, witness_of};
 ghost use Rattle.pv_laws_states.specs.States.{IsValid};
 ghost use Rattle.pv_model.specs.Machine.{program_of};
@@ -228,28 +227,6 @@ pub fn first_endings(alloc: Global, position: &Position) -> Result<Keys, StepFau
     Ok(endings)
 }
 
-/// Makes speculative steps with a machine if its visit added its state, as state `number`. Returns the machine, in an
-/// unspecified state.
-///
-/// # Errors
-///
-/// `NoMemory`, if there is no memory.
-pub(crate) fn go_ahead<O: Observer + Drop>(
-    alloc: Global,
-    states: &mut States<O>,
-    number: usize,
-    position: Position,
-    found: Visit,
-) -> Result<Position, StepFault>
-    requires { found ≡ New → HasNumber states.old number position }
-    ensures { OnOk result (states.new ≡ states.old) }
-{
-    match found {
-        Visit::Known(_) | Visit::Full => Ok(position),
-        Visit::New => states.go_ahead(alloc, number, position),
-    }
-}
-
 impl<O: Observer + Drop> Search<O> {
     /// Returns a search that has visited the first state only.
     ///
@@ -332,7 +309,8 @@ impl<O: Observer + Drop> Search<O> {
     }
 
     // Visits the state of a machine after a step of state `number`, and caches the transition. `texts` are the texts
-    // observed of the step. The state is added if it is new and the limit is not reached.
+    // observed of the step, and `before` is a machine in state `number`. The state is added if it is new and the limit
+    // is not reached.
     fn visit(
         &mut self,
         alloc: Global,
@@ -340,13 +318,12 @@ impl<O: Observer + Drop> Search<O> {
         number: u32,
         pid: u32,
         texts: Vec<Vec<u8>>,
-        inside: bool,
+        before: &Position,
         position: &Position,
-    ) -> Result<Visit, StepFault>
-        requires made { IsMade O.observe self.old.states number pid (texts_in texts.items) inside position.now }
+    ) -> Result<(), StepFault>
+        requires made { IsMade O.observe self.old.states number pid (texts_in texts.items) before.now position.now }
         requires found { number < length (visited_of self.old).witnesses }
-        ensures visited { OnOk result (visited_of self.new ≡ with_found_at limit (visited_of self.old) (longer (visited_of self.old).witnesses number pid) position.now) }
-        ensures found { IfOk result (IsFoundIn limit self.old.states self.new.states (state_key position.now)) }
+        ensures { OnOk result (visited_of self.new ≡ with_found_at limit (visited_of self.old) (longer (visited_of self.old).witnesses number pid) position.now) }
     {
         let found = self.states.arrive(
             alloc,
@@ -354,37 +331,33 @@ impl<O: Observer + Drop> Search<O> {
             number as usize,
             pid,
             texts,
-            inside,
+            before,
             position,
         )?;
         add_found_ending(alloc, &mut self.endings, position, found)?;
-        self.keep_witness(number, pid, found)?;
-        Ok(found)
+        self.keep_witness(number, pid, found)
     }
 
-    // Makes a step of a process with a machine in state `number`. Writes its texts if they are new, caches the transition,
-    // and visits the state after it. If that state is new, the machine makes speculative steps. Returns the machine, in an
-    // unspecified state.
+    // Makes a step of a process with a copy of a machine in state `number`. Writes its texts if they are new, caches the
+    // transition, and visits the state after it. Returns the copy, in an unspecified state.
     fn make_new_move<W: Sink>(
         &mut self,
         alloc: Global,
         limit: u32,
         number: u32,
-        from: Position,
+        from: &Position,
+        copy: Position,
         pid: u32,
         out: &mut W,
     ) -> Result<Position, Stop>
-        requires there { HasNumber self.old.states number from }
+        requires copy { copy ≡ from.now }
+        requires there { HasNumber self.old.states number from.now }
         requires found { number < length (visited_of self.old).witnesses }
-        ensures visited { OnOk result (HasMovedFrom O.observe limit from number pid self.old self.new) }
-        ensures written { WritesOr W.Sink FailsBy (text_from O.observe from number pid self.old) out.old out.new result }
+        ensures visited { OnOk result (HasMovedFrom O.observe limit from.now number pid self.old self.new) }
+        ensures written { WritesOr W.Sink FailsBy (text_from O.observe from.now number pid self.old) out.old out.new result }
     {
         let _ = from.parts();
-        let ObservedStep {
-            position,
-            texts,
-            inside,
-        } = self.states.observe(alloc, from, pid)?;
+        let ObservedStep { position, texts } = self.states.observe(alloc, copy, pid)?;
         report(
             alloc,
             &mut self.reported,
@@ -394,9 +367,8 @@ impl<O: Observer + Drop> Search<O> {
             &texts,
             out,
         )?;
-        let next = self.states.len();
-        let found = self.visit(alloc, limit, number, pid, texts, inside, &position)?;
-        Ok(go_ahead(alloc, &mut self.states, next, position, found)?)
+        self.visit(alloc, limit, number, pid, texts, from, &position)?;
+        Ok(position)
     }
 
     // Returns the machine in state `number`.
@@ -414,50 +386,78 @@ impl<O: Observer + Drop> Search<O> {
         checkpoints.position(alloc, &witness)
     }
 
-    // Makes a step of a process in state `number` with a machine. Writes its texts if they are new, caches the transition,
-    // and visits the state after it.
+    // Returns the machine in state `number`: this one, or else the end of the state's witness.
+    fn machine(
+        &self,
+        alloc: Global,
+        checkpoints: &mut Checkpoints<'_>,
+        number: u32,
+        machine: Option<Position>,
+    ) -> Result<Position, StepFault>
+        requires found { number < length (visited_of self.now).witnesses }
+        requires machine { IfSome machine (IsMachineOf checkpoints.old self.now number) }
+        ensures unchanged { checkpoints.new ≡ checkpoints.old }
+        ensures at { IfOk result (IsMachineOf checkpoints.old self.now number) }
+    {
+        match machine {
+            Some(machine) => Ok(machine),
+            None => self.position(alloc, checkpoints, number),
+        }
+    }
+
+    // Makes a step of a process in state `number` with a copy of the machine in that state. Writes its texts if they are
+    // new, caches the transition, and visits the state after it. Returns the machine in state `number`.
     fn make_uncached_move<W: Sink>(
         &mut self,
         alloc: Global,
         checkpoints: &mut Checkpoints<'_>,
         limit: u32,
         number: u32,
+        machine: Option<Position>,
         pid: u32,
         out: &mut W,
-    ) -> Result<(), Stop>
+    ) -> Result<Position, Stop>
         requires there { IsAt checkpoints.old self.old number }
         requires found { number < length (visited_of self.old).witnesses }
+        requires machine { IfSome machine (IsMachineOf checkpoints.old self.old number) }
         ensures unchanged { checkpoints.new ≡ checkpoints.old }
+        ensures machine { IfOk result (IsMachineOf checkpoints.old self.old number) }
         ensures visited { OnOk result (HasMoved O.observe limit checkpoints.old number pid self.old self.new) }
         ensures written { WritesOr W.Sink FailsBy (text_of_move O.observe limit checkpoints.old number pid self.old) out.old out.new result }
     {
-        let from = self.position(alloc, checkpoints, number)?;
-        let machine = self.make_new_move(alloc, limit, number, from, pid, out)?;
-        checkpoints.release(machine);
-        Ok(())
+        let from = self.machine(alloc, checkpoints, number, machine)?;
+        let copy = checkpoints.copy(alloc, &from)?;
+        let copy = self.make_new_move(alloc, limit, number, &from, copy, pid, out)?;
+        checkpoints.release(copy);
+        Ok(from)
     }
 
     // Takes a step of a process in state `number`, from the cache if possible. Writes its texts if they are new, and visits
-    // the state after it.
+    // the state after it. Returns the machine in state `number`, if there is one.
     fn make_move<W: Sink>(
         &mut self,
         alloc: Global,
         checkpoints: &mut Checkpoints<'_>,
         limit: u32,
         number: u32,
+        machine: Option<Position>,
         pid: u32,
         out: &mut W,
-    ) -> Result<(), Stop>
+    ) -> Result<Option<Position>, Stop>
         requires whole { IsValid checkpoints.old }
         requires there { IsAt checkpoints.old self.old number }
         requires found { number < length (visited_of self.old).witnesses }
+        requires machine { IfSome machine (IsMachineOf checkpoints.old self.old number) }
         ensures unchanged { checkpoints.new ≡ checkpoints.old }
+        ensures machine { IfOk result (λ machine. IfSome machine (IsMachineOf checkpoints.old self.old number)) }
         ensures visited { OnOk result (HasMoved O.observe limit checkpoints.old number pid self.old self.new) }
         ensures written { WritesOr W.Sink FailsBy (text_of_move O.observe limit checkpoints.old number pid self.old) out.old out.new result }
     {
         let limited = limit as usize;
         let Some(followed) = self.states.follow(alloc, limited, number as usize, pid)? else {
-            return self.make_uncached_move(alloc, checkpoints, limit, number, pid, out);
+            let machine =
+                self.make_uncached_move(alloc, checkpoints, limit, number, machine, pid, out)?;
+            return Ok(Some(machine));
         };
         let Followed { texts, found } = followed;
         report(
@@ -470,7 +470,7 @@ impl<O: Observer + Drop> Search<O> {
             out,
         )?;
         self.keep_witness(number, pid, found)?;
-        Ok(())
+        Ok(machine)
     }
 
     // Returns the live processes of state `number`.
@@ -515,8 +515,12 @@ impl<O: Observer + Drop> Search<O> {
     {
         let pids = self.live(alloc, checkpoints, number)?;
         let live = pids.as_slice();
+        let mut machine = None;
         for pid in live {
-            self.make_move(alloc, checkpoints, limit, number, *pid, out)?;
+            machine = self.make_move(alloc, checkpoints, limit, number, machine, *pid, out)?;
+        }
+        if let Some(machine) = machine {
+            checkpoints.release(machine);
         }
         Ok(())
     }

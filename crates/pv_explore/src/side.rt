@@ -13,7 +13,7 @@ use crate::checkpoints::Checkpoints;
 use crate::first_machine::FirstMachine;
 use crate::observer::Observer;
 use crate::position::{ObservedStep, Position};
-use crate::search::{first_states, go_ahead};
+use crate::search::first_states;
 use crate::states::{Followed, States, Visit};
 use pv_model::StepFault;
 use std::alloc::{AllocError, Global};
@@ -141,36 +141,33 @@ impl<'a, O: Observer + Drop> Side<'a, O> {
         }
     }
 
-    // Makes a step of a process in visited state `number` with a machine in that state. Returns the machine, in an
+    // Makes a step of a process in visited state `number` with a copy of a machine in that state. Returns the copy, in an
     // unspecified state, and the result of the step.
     fn make_step(
         &mut self,
         alloc: Global,
         limit: usize,
         number: usize,
-        from: Position,
+        from: &Position,
+        copy: Position,
         pid: u32,
     ) -> Result<(Position, SideStep), StepFault>
-        requires there { HasNumber self.old.keys number from }
+        requires copy { copy ≡ from.now }
+        requires there { HasNumber self.old.keys number from.now }
         ensures first { self.new.first ≡ self.old.first }
-        ensures texts { IfOk result (λ made. texts_in made.1.texts.value.items ≡ O.observe from pid (stepped from pid)) }
-        ensures number { IfOk result (λ made. IsNumbered limit self.old.keys self.new.keys (state_key (stepped from pid).after) made.1.number) }
+        ensures texts { IfOk result (λ made. texts_in made.1.texts.value.items ≡ O.observe from.now pid (stepped from.now pid)) }
+        ensures number { IfOk result (λ made. IsNumbered limit self.old.keys self.new.keys (state_key (stepped from.now pid).after) made.1.number) }
     {
         let _ = from.parts();
-        let ObservedStep {
-            position,
-            texts,
-            inside,
-        } = self.states.observe(alloc, from, pid)?;
+        let ObservedStep { position, texts } = self.states.observe(alloc, copy, pid)?;
         let copy = shared_copy_of(alloc, &texts)?;
         let before = self.states.len();
         let found = self
             .states
-            .arrive(alloc, limit, number, pid, texts, inside, &position)?;
-        let machine = go_ahead(alloc, &mut self.states, before, position, found)?;
+            .arrive(alloc, limit, number, pid, texts, from, &position)?;
         let number = number_of(found, before);
         Ok((
-            machine,
+            position,
             SideStep {
                 texts: copy,
                 number,
@@ -200,8 +197,10 @@ impl<'a, O: Observer + Drop> Side<'a, O> {
         let before = self.states.len();
         let Some(followed) = self.states.follow(alloc, limit, number, pid)? else {
             let from = self.checkpoints.position(alloc, witness)?;
-            let (machine, made) = self.make_step(alloc, limit, number, from, pid)?;
-            self.checkpoints.release(machine);
+            let copy = self.checkpoints.copy(alloc, &from)?;
+            let (copy, made) = self.make_step(alloc, limit, number, &from, copy, pid)?;
+            self.checkpoints.release(copy);
+            self.checkpoints.release(from);
             return Ok(made);
         };
         let Followed { texts, found } = followed;

@@ -2,17 +2,14 @@
 ghost use Rattle.std.specs.Prelude.{◌≡◌, ◌++◌, ◌∷◌, [], length, position, bytes_eq, IfOk, IfSome, OnErr, OnOk};
 ghost use Rattle.std.specs.List.{AllByRecursion};
 ghost use Rattle.pv_explore.specs.Rows.{AreOfState, Grew, IsAmong, IsGroupVisited, group_row, number_in, parts_in, state_row};
-ghost use Rattle.pv_explore.specs.VisitedStates.{AreCellsIn, AreReleased, AreLiveAt, ArePlaced, ArePushed, AreStoredAt, AreEncoded, HasNumber, IsFoundBy, IsFoundIn, IsMade, IsRecalled, IsValidAt, MayFollow, MayKeep, cells_row, number_of};
-ghost use Rattle.pv_explore.specs.Observing.{stays_inside};
+ghost use Rattle.pv_explore.specs.VisitedStates.{AreCellsIn, AreReleased, AreLiveAt, ArePlaced, ArePushed, AreStoredAt, AreEncoded, IsFoundBy, IsFoundIn, IsMade, IsRecalled, IsValidAt, MayFollow, MayKeep, cells_row, number_of};
 ghost use Rattle.pv_explore.specs.Plan.{state_key};
-ghost use Rattle.pv_model.specs.Machine.{process_at};
 ghost use Rattle.pv_step_lines.specs.OfSession.Running.{stepped};
 ghost use Rattle.pv_step_cache.specs.Steps.{texts_in};
 ghost use Rattle.pv_step_cache.specs.OfStateEncoding.Groups.{groups_of, joined};
 ghost use Rattle.pv_step_cache.specs.OfStateEncoding.Encoded.{encoded_all, encoded_of};
 
 use crate::after::cells_after;
-use crate::ahead::make_ahead;
 use crate::observer::Observer;
 use crate::position::{ObservedStep, Position};
 use pv_model::StepFault;
@@ -411,14 +408,13 @@ impl<O: Observer + Drop> States<O> {
         ensures unchanged { self.new ≡ self.old }
         ensures after { IfOk result (λ made. made.position ≡ (stepped position pid).after) }
         ensures texts { IfOk result (λ made. texts_in made.texts.items ≡ O.observe position pid (stepped position pid)) }
-        ensures inside { IfOk result (λ made. made.inside ≡ stays_inside (process_at position pid)) }
     {
         position.observe(alloc, &mut self.observer, pid)
     }
 
     /// Visits the state of a machine after a process's step in state `number`, and caches the transition. `texts` are
-    /// the texts observed of the step, and `inside` is whether it changes at most the inside of its process, unless it
-    /// kills the process. The state is appended if it is new and there are fewer than `limit` states.
+    /// the texts observed of the step, and `before` is a machine in state `number`. The state is appended if it is new
+    /// and there are fewer than `limit` states.
     ///
     /// # Errors
     ///
@@ -430,15 +426,15 @@ impl<O: Observer + Drop> States<O> {
         number: usize,
         pid: u32,
         texts: Vec<Vec<u8>>,
-        inside: bool,
-        position: &Position,
+        before: &Position,
+        after: &Position,
     ) -> Result<Visit, StepFault>
-        requires { IsMade O.observe self.old number pid (texts_in texts.items) inside position.now }
-        ensures { IfOk result (IsFoundIn limit self.old self.new (state_key position.now)) }
+        requires { IsMade O.observe self.old number pid (texts_in texts.items) before.now after.now }
+        ensures { IfOk result (IsFoundIn limit self.old self.new (state_key after.now)) }
     {
-        let before = cells_at(&self.cells, number);
+        let stored = cells_at(&self.cells, number);
         let (parts, groups) = (&mut self.parts, &mut self.groups);
-        let cells = cells_after(alloc, parts, groups, before, pid, inside, position)?;
+        let cells = cells_after(alloc, parts, groups, stored, pid, before, after)?;
         keep_made(
             alloc,
             &self.cells,
@@ -457,38 +453,6 @@ impl<O: Observer + Drop> States<O> {
         ensures { self.new ≡ self.old }
     {
         empty_cells(alloc, &mut self.cells, number);
-    }
-
-    /// Makes speculative steps with a machine in state `number` and caches their transitions, as `make_ahead` does, if
-    /// the cells of the state are stored. Returns the machine, in an unspecified state.
-    ///
-    /// # Errors
-    ///
-    /// `NoMemory`, if there is no memory.
-    pub(crate) fn go_ahead(
-        &mut self,
-        alloc: Global,
-        number: usize,
-        position: Position,
-    ) -> Result<Position, StepFault>
-        requires { HasNumber self.old number position }
-        ensures { OnOk result (self.new ≡ self.old) }
-    {
-        let Some(cells) = self.cells.get(number) else {
-            return Ok(position);
-        };
-        if cells.is_empty() {
-            return Ok(position);
-        }
-        make_ahead(
-            alloc,
-            &mut self.observer,
-            &mut self.parts,
-            &mut self.groups,
-            &mut self.steps,
-            position,
-            cells,
-        )
     }
 
     /// Takes a step of a process in state `number` from the cache, if its transition is cached and leaves some process

@@ -271,11 +271,7 @@ impl<O: Observer + Drop> ReducedSearch<O> {
         ensures written { WritesOr W.Sink FailsBy (text_of_move O.observe limit checkpoints.old number pid self.old) out.old out.new result }
     {
         let bound = bound_by(from.parts(), pid);
-        let ObservedStep {
-            position,
-            texts,
-            ..
-        } = from.observe(alloc, &mut self.observer, pid)?;
+        let ObservedStep { position, texts } = from.observe(alloc, &mut self.observer, pid)?;
         report(
             alloc,
             &mut self.reported,

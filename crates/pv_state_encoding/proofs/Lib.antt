@@ -7,6 +7,7 @@ pub mod Nodes
 pub mod Owned
 pub mod Records
 pub mod Grouping
+pub mod Same
 pub mod Apart
 pub use Rattle.pv_answers.proofs as OfAnswers
 pub use Rattle.pv_answers.proofs.OfListing

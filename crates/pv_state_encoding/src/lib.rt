@@ -13,6 +13,7 @@ mod numbers;
 mod outsides;
 mod parts;
 mod processes;
+mod same;
 mod states;
 mod trees;
 
@@ -25,5 +26,6 @@ pub use processes::{
 pub use pv_answers as answers;
 pub use pv_answers::{calls_state, procs};
 pub use pv_image_write::tree;
-pub use states::{encoded_counts, encoded_state, encoded_trees, state_groups};
-pub use trees::{part_of_sizes, push_node_groups, push_tree};
+pub use same::{are_same_files, are_same_nodes};
+pub use states::{encoded_counts, encoded_files, encoded_nodes, encoded_state, state_groups};
+pub use trees::{group_of_nodes, part_of_sizes, push_tree};

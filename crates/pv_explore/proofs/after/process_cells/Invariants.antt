@@ -9,9 +9,9 @@ abbrev pub invariant-loop-other : goal.invariant-loop-other
 invariant-loop-other l = record {
   parts_grew : Grew l.fn.parts l.parts;
   groups_grew : Grew l.fn.groups l.groups;
-  before : LeadTo l.parts l.groups l.cells l.pid l.inside l.position;
-  cells : LeavesCells l.parts l.groups l.position.processes l.last l.after.items;
+  before : LeadTo l.parts l.groups l.cells l.pid l.before l.after;
+  cells : LeavesCells l.parts l.groups l.after.processes l.last l.made.items;
 }
 
 abbrev pub decreases-loop-other : goal.decreases-loop-other
-decreases-loop-other l = length (records_after l.last l.position.processes)
+decreases-loop-other l = length (records_after l.last l.after.processes)

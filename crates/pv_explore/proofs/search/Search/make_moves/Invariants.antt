@@ -1,10 +1,10 @@
-use Rattle.std.proofs.Common.{◌≡◌, Some, drop, slice_get}
+use Rattle.std.proofs.Common.{◌≡◌, IfSome, Some, drop, slice_get}
 use Rattle.pv_step_lines.proofs.OfAnswers.Writing.{WritesBut}
 use Rattle.pv_explore.specs.VisitedStates.{HasNumber}
 use Rattle.pv_explore.specs.Plan.{visited_after_steps, state_at}
 use Rattle.pv_explore.specs.Searches.{visited_of, witness_at}
 use Rattle.pv_explore.proofs.Finding.{steps_left}
-use Rattle.pv_model.specs.Machine.{program_of}
+use Rattle.pv_model.specs.Machine.{State, program_of}
 use Rattle.pv_explore.proofs.search.Search.make_moves.Given as goal
 
 abbrev pub invariant-loop-pid : goal.invariant-loop-pid
@@ -16,4 +16,5 @@ invariant-loop-pid g l =
       at : slice_get (visited_of l.self).witnesses l.number ≡ Some witness;
       there : HasNumber l.self.states l.number (state_at program_of l.fn.checkpoints witness);
       same : l.checkpoints ≡ l.fn.checkpoints;
+      machine : IfSome l.machine (λ (machine : State). machine ≡ state_at program_of l.fn.checkpoints witness);
     }

@@ -17,8 +17,8 @@ invariant_of-self-in_err-keep_made g c =
     let by_cells = subst (λ (all : List (Vec Cell)). MayKeep all c.args.number c.args.pid c.deref-3.result.now texts steps c.keep_made.new.steps.steps.items) c.deref-2.ensures.value c.keep_made.ensures in
     let may = subst (λ (cs : List Cell). MayKeep c.self.inside.cells.items c.args.number c.args.pid cs texts steps c.keep_made.new.steps.steps.items) c.deref-3.ensures.value by_cells in
     fine-made c.self.inside.parts c.self.inside.groups c.self.inside.rows c.self.inside.cells.items steps c.self.invariant c.args.self.now c.self.view_is
-    c.cells_after.new.parts c.cells_after.new.groups c.cells_after.ensures.parts_grew c.cells_after.ensures.groups_grew c.args.position.now c.in_ok-cells.cells c.in_ok-cells.ensures.cells
-    c.args.number c.args.pid texts c.args.inside c.requires c.keep_made.new.steps.steps.items may
+    c.cells_after.new.parts c.cells_after.new.groups c.cells_after.ensures.parts_grew c.cells_after.ensures.groups_grew c.args.after.now c.in_ok-cells.cells c.in_ok-cells.ensures.cells
+    c.args.number c.args.pid texts c.args.before.now c.requires c.keep_made.new.steps.steps.items may
 
 pub invariant_of-self-in_err-found : goal.invariant_of-self-in_err-found
 invariant_of-self-in_err-found g c =
@@ -27,8 +27,8 @@ invariant_of-self-in_err-found g c =
     let by_cells = subst (λ (all : List (Vec Cell)). MayKeep all c.args.number c.args.pid c.deref-3.result.now texts steps c.keep_made.new.steps.steps.items) c.deref-2.ensures.value c.keep_made.ensures in
     let may = subst (λ (cs : List Cell). MayKeep c.self.inside.cells.items c.args.number c.args.pid cs texts steps c.keep_made.new.steps.steps.items) c.deref-3.ensures.value by_cells in
     fine-arrived c.self.inside.parts c.self.inside.groups c.self.inside.rows c.self.inside.cells.items steps c.self.invariant c.args.self.now c.self.view_is
-    c.cells_after.new.parts c.cells_after.new.groups c.cells_after.ensures.parts_grew c.cells_after.ensures.groups_grew c.args.position.now c.in_ok-cells.cells c.in_ok-cells.ensures.cells
-    c.args.number c.args.pid texts c.args.inside c.requires c.keep_made.new.steps.steps.items may c.place.new.rows c.place.new.all.items c.place.ensures.placed
+    c.cells_after.new.parts c.cells_after.new.groups c.cells_after.ensures.parts_grew c.cells_after.ensures.groups_grew c.args.after.now c.in_ok-cells.cells c.in_ok-cells.ensures.cells
+    c.args.number c.args.pid texts c.args.before.now c.requires c.keep_made.new.steps.steps.items may c.place.new.rows c.place.new.all.items c.place.ensures.placed
 
 pub invariant_of-self-2 : goal.invariant_of-self-2
 invariant_of-self-2 g c =
@@ -37,17 +37,17 @@ invariant_of-self-2 g c =
     let by_cells = subst (λ (all : List (Vec Cell)). MayKeep all c.args.number c.args.pid c.deref-3.result.now texts steps c.keep_made.new.steps.steps.items) c.deref-2.ensures.value c.keep_made.ensures in
     let may = subst (λ (cs : List Cell). MayKeep c.self.inside.cells.items c.args.number c.args.pid cs texts steps c.keep_made.new.steps.steps.items) c.deref-3.ensures.value by_cells in
     fine-arrived c.self.inside.parts c.self.inside.groups c.self.inside.rows c.self.inside.cells.items steps c.self.invariant c.args.self.now c.self.view_is
-    c.cells_after.new.parts c.cells_after.new.groups c.cells_after.ensures.parts_grew c.cells_after.ensures.groups_grew c.args.position.now c.in_ok-cells.cells c.in_ok-cells.ensures.cells
-    c.args.number c.args.pid texts c.args.inside c.requires c.keep_made.new.steps.steps.items may c.place.new.rows c.place.new.all.items c.place.ensures.placed
+    c.cells_after.new.parts c.cells_after.new.groups c.cells_after.ensures.parts_grew c.cells_after.ensures.groups_grew c.args.after.now c.in_ok-cells.cells c.in_ok-cells.ensures.cells
+    c.args.number c.args.pid texts c.args.before.now c.requires c.keep_made.new.steps.steps.items may c.place.new.rows c.place.new.all.items c.place.ensures.placed
 
 pub returns : goal.returns
 returns g c =
     found-arrived c.self.inside.parts c.self.inside.groups c.self.inside.rows c.self.inside.cells.items c.self.inside.steps.steps.items c.self.invariant c.args.self.now c.self.view_is
-    c.cells_after.new.parts c.cells_after.new.groups c.cells_after.ensures.parts_grew c.cells_after.ensures.groups_grew c.args.position.now c.in_ok-cells.cells c.in_ok-cells.ensures.cells
+    c.cells_after.new.parts c.cells_after.new.groups c.cells_after.ensures.parts_grew c.cells_after.ensures.groups_grew c.args.after.now c.in_ok-cells.cells c.in_ok-cells.ensures.cells
     c.args.limit c.place.new.rows c.in_ok-found.found c.in_ok-found.ensures.found
 
 pub cells_after-requires : goal.cells_after-requires
 cells_after-requires g c =
-    let stored = subst (λ (all : List (Vec Cell)). AreStoredAt all c.args.number c.cells_at-before.result.now) c.deref.ensures.value c.cells_at-before.ensures in
+    let stored = subst (λ (all : List (Vec Cell)). AreStoredAt all c.args.number c.cells_at-stored.result.now) c.deref.ensures.value c.cells_at-stored.ensures in
     led-to c.self.inside.parts c.self.inside.groups c.self.inside.rows c.self.inside.cells.items c.self.inside.steps.steps.items c.self.invariant c.args.self.now c.self.view_is
-    c.args.number c.args.pid (texts_in c.args.texts.items) c.args.inside c.args.position.now c.cells_at-before.result.now c.requires stored
+    c.args.number c.args.pid (texts_in c.args.texts.items) c.args.before.now c.args.after.now c.cells_at-stored.result.now c.requires stored
