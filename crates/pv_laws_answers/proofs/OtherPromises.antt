@@ -1,5 +1,5 @@
 -- Steps of processes with other promises.
-use Rattle.std.proofs.Common.{◌≡◌, ◌≢◌, ◌⊎◌, inl, inr, ⊎_elim, ℕ, zero, suc, ◌-◌, ◌^◌, ℤ, pos, negsuc, Bool, true, false, cond, if◌then◌else◌, not, ◌||◌, ◌==◌, nat_le, nat_lt, bit_and, List, [], ◌∷◌, ◌++◌, map, filter, length, slice_get, Option, None, Some, option_map, is_some, refl, ap, ap₂, sym, subst, ◌∙◌}
+use Rattle.std.proofs.Common.{◌≡◌, ◌≢◌, ◌⊎◌, inl, inr, ⊎_elim, ℕ, suc, ◌-◌, ◌^◌, pos, negsuc, Bool, true, false, cond, if◌then◌else◌, not, ◌||◌, ◌==◌, bit_and, List, [], ◌∷◌, ◌++◌, map, filter, length, slice_get, Option, None, Some, option_map, is_some, refl, ap, ap₂, sym, subst, ◌∙◌}
 use Rattle.std.specs.Prelude.{flat_map, take, Contains}
 use Rattle.std.specs.List.{list_any, AllByRecursion}
 use Rattle.std.specs.FinMap.Entries.{by_order, find, put, where_key}
@@ -9,10 +9,9 @@ use Rattle.std.specs.declared.cmp.Ordering.TheVariants.{Less, Equal, Greater}
 use Rattle.std.proofs.lemmas.Bool.{eqb-true, or_cases, or_left, or_right}
 use Rattle.pv_model.specs.declared.call.Call.{Call}
 use Rattle.pv_model.specs.declared.call.Call.TheVariants as TheCall
-use Rattle.pv_model.specs.declared.call.Start.{Start}
-use Rattle.pv_model.specs.declared.call.Start.TheVariants.{WorkingDirectory as FromHere, Descriptor as AtDescriptor}
+use Rattle.pv_model.specs.declared.call.Start.TheVariants.{Descriptor as AtDescriptor}
 use Rattle.pv_model.specs.declared.errno.Errno.{Errno}
-use Rattle.pv_model.specs.declared.errno.Errno.TheVariants.{EAGAIN, ECHILD, EFBIG, ENOSPC}
+use Rattle.pv_model.specs.declared.errno.Errno.TheVariants.{EFBIG, ENOSPC}
 use Rattle.pv_model.specs.declared.instruction.Instruction.{Instruction}
 use Rattle.pv_model.specs.declared.instruction.Instruction.TheVariants as Line
 use Rattle.pv_model.specs.declared.instruction.Operand.{Operand}
@@ -21,22 +20,19 @@ use Rattle.pv_model.specs.declared.instruction.Origin.{Origin}
 use Rattle.pv_model.specs.declared.instruction.Origin.TheVariants.{WorkingDirectory, Descriptor}
 use Rattle.pv_model.specs.declared.open_flags.Mode.{Mode}
 use Rattle.pv_model.specs.declared.open_flags.Mode.TheVariants.{Read, Write, ReadWrite}
-use Rattle.pv_model.specs.declared.open_flags.OpenFlags.{OpenFlags}
 use Rattle.pv_model.specs.declared.outcome.Cause.{Cause}
 use Rattle.pv_model.specs.declared.outcome.Outcome.{Outcome}
 use Rattle.pv_model.specs.declared.outcome.Outcome.TheVariants.{Value, Text}
 use Rattle.pv_model.specs.declared.promise.Promise.{Promise}
 use Rattle.pv_model.specs.declared.promise.Promise.TheVariants.{Rpath, Wpath}
-use Rattle.pv_model.specs.Machine.{Answered, answer, answer_by_attempt, at_next_line, with_front, update_live, update, effect, Asked, asked, asked_by, same_promise, promises_needed, Attempt, done, refused, after_walks, ◌>>=◌, ◌>>◌, give, refuse_if, Bytes, is_empty, with_content, new_open_file, with_open_file, open_at, open_node, after_write, write, list_name, link, rename, move_entry, with_result, parent_of, adopt, is_unclaimed, adopter, end_process, statuses, child, fork, children, reap, wait, unveil, Effect, Reply, returns, returns_bytes, ends, waits, answers, with_room, errno_number, among, live_processes, used_files, held_by_process, collect, needs, needs_of_mode, needs_cpath, Numbered, with_number, least_free, present, keep, Next, inside, calls_for, jump_if, perform, next_by, next, Promises, contains, Need, is_met, missing_promise, is_too_long, fits, OpenFile, Program, Process, ProcessRecord, live, ended_record, State, live_process, process_at, with_process, Stepped, step, step_of, step_by, run, Line, call_lines, moved_words, buffer_of, line, call_word, nami_word, gio_word, gave, Word, walked_paths, promise_words, unveil_words, end_words, Node, file_node, Tree, new_number, with_new_node, Walk}
+use Rattle.pv_model.specs.Machine.{Answered, answer, answer_by_attempt, at_next_line, with_front, update_live, update, effect, Asked, asked, asked_by, same_promise, promises_needed, Attempt, done, refused, after_walks, ◌>>=◌, ◌>>◌, give, refuse_if, Bytes, is_empty, with_result, parent_of, adopt, is_unclaimed, adopter, end_process, statuses, child, Effect, Reply, returns, returns_bytes, ends, waits, answers, with_room, errno_number, among, live_processes, used_files, held_by_process, collect, needs, needs_of_mode, needs_cpath, Numbered, present, keep, Next, inside, calls_for, jump_if, perform, next_by, next, Promises, contains, Need, is_met, missing_promise, is_too_long, fits, OpenFile, Program, Process, ProcessRecord, live, ended_record, State, live_process, process_at, with_process, Stepped, step, step_of, step_by, run, Line, call_lines, moved_words, buffer_of, line, call_word, nami_word, gio_word, gave, Word, walked_paths, promise_words, unveil_words, end_words, Tree, execve, pledge}
 use Rattle.pv_model.specs.Answer.{answer_by_reply}
 use Rattle.pv_model.specs.Answers.Needs.{asked_of, asked_next, asked_in, and_asked}
-use Rattle.pv_model.specs.Calls.Paths.{make}
 use Rattle.pv_model.specs.Calls.Processes.{with_parent, adopt_orphans}
 use Rattle.pv_model.specs.Program.{operand, start_of_origin}
 use Rattle.pv_model.specs.Promise.{promise_bit}
 use Rattle.pv_laws_trees.specs.Preserved.{preserved}
 use Rattle.pv_laws_states.proofs.Outcomes.{at_call}
-use Rattle.pv_laws_states.proofs.CallRests
 use Rattle.pv_laws_access.proofs.Ends.{step-is, step-gone}
 use Rattle.pv_laws_answers.specs.Begun.{record_begun, begun_with, is_plain_call, RunsPlainly, is_listed_in}
 use Rattle.pv_laws_answers.specs.ProcessImages.{is_counted_for}
@@ -45,6 +41,8 @@ use Rattle.pv_laws_answers.proofs.AskingCalls.{met-answer}
 use Rattle.pv_laws_answers.proofs.ListedNeeds.{all-in}
 use Rattle.pv_laws_answers.proofs.OtherRestraints.{next-call, needed-by, firsts-held, met-in}
 use Rattle.pv_laws_answers.proofs.RestraintLines.{unpledged, has-all, any-append, want-reported}
+use Rattle.pv_laws_states.proofs.RelatedCalls.{RespectsOwn, call-both}
+use Rattle.pv_laws_states.proofs.RespectedParts.{OthersRespect, unveil-both, others-own, others-respect}
 
 module _ (held : Option Promises) where
   abbrev pub f : Process → Process
@@ -221,27 +219,11 @@ module _ (held : Option Promises) where
   after-beside : (n : ℕ) (a b : Attempt Effect) → Beside a b → Beside (after_walks n a) (after_walks n b)
   after-beside n a b is = record { same = ap (after_walks n) is.same ∙ moved-after n a }
 
-  bind-beside : {B : Type 0} (a : Attempt B) (h k : B → Attempt Effect) → ((v : B) → Beside (h v) (k v)) → Beside (a >>= h) (a >>= k)
-  bind-beside (done walks v) h k is = after-beside walks (h v) (k v) (is v)
-  bind-beside (refused walks errno cause) h k is = record { same = refl }
-
-  then-beside : {B : Type 0} (a : Attempt B) (h k : Attempt Effect) → Beside h k → Beside (a >> h) (a >> k)
-  then-beside (done walks v) h k is = after-beside walks h k is
-  then-beside (refused walks errno cause) h k is = record { same = refl }
-
-  cond-beside : (b : Bool) (x y v w : Attempt Effect) → Beside x v → Beside y w → Beside (cond b x y) (cond b v w)
-  cond-beside true x y v w is other = is
-  cond-beside false x y v w is other = other
-
   done-beside : (n : ℕ) (r : Reply) (x y : State) → IsBeside x y → Beside (done n (x, r)) (done n (y, r))
   done-beside n r x y is = record { same = ap (λ z. done n (z, r)) is.same }
 
   refused-beside : (n : ℕ) (e : Errno) (c : Cause) → Beside (refused n e c) (refused n e c)
   refused-beside n e c = record { same = refl }
-
-  cond-state : (b : Bool) (x y v w : State) → IsBeside x v → IsBeside y w → IsBeside (cond b x y) (cond b v w)
-  cond-state true x y v w is more = is
-  cond-state false x y v w is more = more
 
   room-beside : (x y : State) (n : ℕ) → IsBeside x y → Beside (with_room x >>= (λ roomy. answers roomy n)) (with_room y >>= (λ roomy. answers roomy n))
   room-beside x y n is =
@@ -261,117 +243,46 @@ module _ (held : Option Promises) where
     abbrev u : State
     u = change s
 
-    tree-beside : (t : Tree) (fs : Numbered OpenFile) → IsBeside (record s { tree = t; files = fs }) (record u { tree = t; files = fs })
-    tree-beside t fs = record { same = refl }
-
-    own-beside : (t : Tree) (fs : Numbered OpenFile) (q : Process)
-        → IsBeside (record s { tree = t; files = fs; processes = put nat_cmp pid (live q) s.processes }) (record u { tree = t; files = fs; processes = put nat_cmp pid (live (f q)) (changed s.processes) })
+    own-beside : (t : Tree) (fs : Numbered OpenFile) (q : Process) → IsBeside (with_process (record s { tree = t; files = fs }) pid q) (with_process (record u { tree = t; files = fs }) pid (f q))
     own-beside t fs q = record { same = ap (λ ps. record s { tree = t; files = fs; processes = ps }) (put-changed pid (live q) s.processes) }
 
-    ruleset parts = (bind-beside, then-beside, cond-beside, done-beside, refused-beside, room-beside, tree-beside, own-beside, cond-state, refl)
-
-    abbrev number : ℕ
-    number = suc s.last_process
-
-    abbrev forked : State → Process → State
-    forked x p = record (with_process x number (child x pid p)) { last_process = number }
-
-    fork-beside : Beside (fork s pid me) (fork u pid (f me))
-    fork-beside =
-        subst (λ n. Beside (fork s pid me) (refuse_if EAGAIN (nat_le 32 n || nat_lt 99999 number) >> answers (forked u (f me)) number)) (sym (length-changed s.processes))
-        (then-beside (refuse_if EAGAIN (nat_le 32 (length s.processes) || nat_lt 99999 number)) (answers (forked s me) number) (answers (forked u (f me)) number)
-        (done-beside 0 (returns number) (forked s me) (forked u (f me)) (record { same = ap (λ ps. record s { processes = ps; last_process = number }) (put-changed number (live (child s pid me)) s.processes) })))
-
-    reap-beside : (ss : List (ℕ × ℕ)) → Beside (reap s pid me ss) (reap u pid (f me) ss)
-    reap-beside [] = done-beside 0 waits s u (record { same = refl })
-    reap-beside ((n, status) ∷ rs) = done-beside 0 _ _ _ (record { same = ap (λ ps. record s { processes = ps }) (where-changed (λ j. not (j == n)) s.processes) })
-
-    wait-beside : Beside (wait s pid me) (wait u pid (f me))
-    wait-beside =
+    respects : OthersRespect Beside IsBeside s (changed s.processes) pid me (f me)
+    respects =
         let kids = of-parent-changed pid s.processes in
-        subst (λ b. Beside (wait s pid me) (refuse_if ECHILD b >> reap u pid (f me) (statuses (children u pid (f me))))) (sym (ap is_empty kids ∙ empty-changed (of_parent pid s.processes)))
-        (then-beside (refuse_if ECHILD (is_empty (children s pid me))) (reap s pid me (statuses (children s pid me))) (reap u pid (f me) (statuses (children u pid (f me))))
-        (subst (λ ss. Beside (reap s pid me (statuses (children s pid me))) (reap u pid (f me) ss)) (sym (ap statuses kids ∙ statuses-changed (of_parent pid s.processes))) (reap-beside (statuses (children s pid me)))))
+        record {
+          all = record { after = after-beside; refuses = refused-beside };
+          does = done-beside;
+          same = record { directory = refl; descriptors = refl; table = refl; locked = refl; parent = refl };
+          left = λ t fs. record { same = refl };
+          count = length-changed s.processes;
+          forks = record { same = ap (λ ps. record s { processes = ps; last_process = suc s.last_process }) (put-changed (suc s.last_process) (live (child s pid me)) s.processes) };
+          childless = ap is_empty kids ∙ empty-changed (of_parent pid s.processes);
+          statuses = ap statuses kids ∙ statuses-changed (of_parent pid s.processes);
+          reaps = λ test. record { same = ap (λ ps. record s { processes = ps }) (where-changed test s.processes) };
+          enters = λ n. own-beside s.tree s.files (record me { directory = n });
+          holds = λ t fs ds. own-beside t fs (record me { descriptors = ds });
+        }
 
-    unveil-beside : (path permissions : Option Bytes) → Beside (unveil s pid me path permissions) (unveil u pid (f me) path permissions)
-    unveil-beside None None = search parts depth 20
-    unveil-beside None (Some text) = search parts depth 20
-    unveil-beside (Some path) None = search parts depth 20
-    unveil-beside (Some path) (Some text) = search parts depth 20
+    own-done : (q : Process) → Beside (answers (with_process s pid q) 0) (answers (with_process u pid (f q)) 0)
+    own-done q = done-beside 0 (returns 0) _ _ (own-beside s.tree s.files q)
 
-    written : (j : ℕ) (file : OpenFile) (count : ℕ) → IsBeside (after_write s pid me j file count) (after_write u pid (f me) j file count)
-    written j file zero = record { same = refl }
-    written j file (suc n) = record { same = refl }
+    module _ (program_of : Bytes → Option Program) (call : Call) (plain : is_plain_call call ≡ true) where
+      no-pledge : (promises execpromises : Option Bytes) → call ≡ TheCall.Pledge promises execpromises → Beside (pledge s pid me promises execpromises) (pledge u pid (f me) promises execpromises)
+      no-pledge promises execpromises is = let bad : false ≡ true = ap is_plain_call (sym is) ∙ plain in cc bad
 
-    write-beside : (d n : ℤ) → Beside (write s pid me d n) (write u pid (f me) d n)
-    write-beside d n = search (bind-beside, then-beside, room-beside, written) depth 20
+      no-execve : (path : Bytes) → call ≡ TheCall.Execve path → Beside (execve s pid me program_of path) (execve u pid (f me) program_of path)
+      no-execve path is = let bad : false ≡ true = ap is_plain_call (sym is) ∙ plain in cc bad
 
-    listed : (j : ℕ) (file : OpenFile) (o : Option Bytes) → Beside (list_name s pid me j file o) (list_name u pid (f me) j file o)
-    listed j file None = search parts depth 20
-    listed j file (Some name) = search parts depth 20
+      own : RespectsOwn (λ ws. Beside) program_of s u pid me (f me) call
+      own =
+          others-own Beside IsBeside s (changed s.processes) pid me (f me) respects program_of call no-pledge
+          (λ path permissions is. unveil-both Beside respects.all s u pid me (f me) refl refl (λ path. refl) (λ place. refl) (own-done (record me { locked = true })) (λ table. own-done (record me { table = Some table })) path permissions)
+          no-execve
 
-    opened-beside : (flags : OpenFlags) (n : ℕ) (t : Tree)
-        → Beside (after_walks 0 (CallRests.open_7 s pid me (with_open_file s pid me flags n t))) (after_walks 0 (CallRests.open_7 u pid (f me) (with_open_file u pid (f me) flags n t)))
-    opened-beside flags n t =
-        let fs = with_number s.files (least_free s.files) (new_open_file flags n) in
-        let q : Process = record me {
-          descriptors = with_number me.descriptors (least_free me.descriptors) (record { file = least_free s.files; close_on_exec = flags.close_on_exec });
-        } in
-        after-beside 0 (CallRests.open_7 s pid me (with_open_file s pid me flags n t)) (CallRests.open_7 u pid (f me) (with_open_file u pid (f me) flags n t))
-        (room-beside (with_open_file s pid me flags n t) (with_open_file u pid (f me) flags n t) (least_free me.descriptors) (own-beside t fs q))
-
-    node-beside : (flags : OpenFlags) (name : Option (ℕ × Bytes)) (node : Option ℕ) → Beside (open_node s pid me flags name node >>= CallRests.open_7 s pid me) (open_node u pid (f me) flags name node >>= CallRests.open_7 u pid (f me))
-    node-beside flags name (Some n) = opened-beside flags n (if flags.truncate then with_content s.tree n [] else s.tree)
-    node-beside flags (Some p) None = opened-beside flags (new_number s.tree) (with_new_node s.tree p.0 p.1 (file_node false []))
-    node-beside flags None None = record { same = refl }
-
-    open-beside : (start : Start) (path : Bytes) (flags : OpenFlags) → Beside (open_at s pid me start path flags) (open_at u pid (f me) start path flags)
-    open-beside start path flags = search (bind-beside, then-beside, node-beside) depth 20
-
-    make-beside : (w : Walk) (node : Node) → Beside (make s pid me w node) (make u pid (f me) w node)
-    make-beside w node = search parts depth 20
-
-    link-beside : (path new : Bytes) → Beside (link s pid me path new) (link u pid (f me) path new)
-    link-beside path new = search parts depth 30
-
-    move-beside : (n d : ℕ) (name : Bytes) (e : ℕ) (new : Bytes) (there : Option ℕ) → Beside (move_entry s pid me n d name e new there) (move_entry u pid (f me) n d name e new there)
-    move-beside n d name e new there = search (then-beside, room-beside, tree-beside) depth 20
-
-    rename-beside : (path new : Bytes) → Beside (rename s pid me path new) (rename u pid (f me) path new)
-    rename-beside path new = search (bind-beside, then-beside, cond-beside, done-beside, tree-beside, move-beside) depth 40
-
-    pub rows : (program_of : Bytes → Option Program) (call : Call) → is_plain_call call ≡ true → Beside (effect program_of s pid me call) (effect program_of u pid (f me) call)
-    unfolding effect
-    rows program_of (TheCall.Pledge promises execpromises) is = cc is
-    rows program_of (TheCall.Execve path) is = cc is
-    rows program_of (TheCall.Exit code) is = search parts depth 20
-    rows program_of TheCall.GetPid is = search parts depth 20
-    rows program_of TheCall.GetPpid is = search parts depth 20
-    rows program_of TheCall.Fork is = fork-beside
-    rows program_of TheCall.Wait is = wait-beside
-    rows program_of (TheCall.Unveil path permissions) is = unveil-beside path permissions
-    rows program_of (TheCall.Open path flags) is = open-beside FromHere path flags
-    rows program_of (TheCall.OpenAt start path flags) is = open-beside start path flags
-    rows program_of (TheCall.Close d) is = search parts depth 20
-    rows program_of (TheCall.Dup d) is = search parts depth 20
-    rows program_of (TheCall.Dup2 d e) is = search parts depth 20
-    rows program_of (TheCall.Read d n) is = search parts depth 20
-    rows program_of (TheCall.Write d n) is = write-beside d n
-    rows program_of (TheCall.Lseek d by whence) is = search parts depth 20
-    rows program_of (TheCall.Fstat d) is = search parts depth 20
-    rows program_of (TheCall.Ftruncate d n) is = search parts depth 20
-    rows program_of (TheCall.Getdents d) is = search (parts, listed) depth 20
-    rows program_of (TheCall.Fchdir d) is = search parts depth 20
-    rows program_of (TheCall.Chdir path) is = search parts depth 20
-    rows program_of (TheCall.Stat path) is = search parts depth 20
-    rows program_of (TheCall.Lstat path) is = search parts depth 20
-    rows program_of (TheCall.Readlink path) is = search parts depth 20
-    rows program_of (TheCall.Mkdir path) is = search make-beside depth 5
-    rows program_of (TheCall.Symlink text path) is = search (then-beside, make-beside) depth 20
-    rows program_of (TheCall.Link path new) is = link-beside path new
-    rows program_of (TheCall.Unlink path) is = search parts depth 20
-    rows program_of (TheCall.Rmdir path) is = search parts depth 20
-    rows program_of (TheCall.Rename path new) is = rename-beside path new
+      pub rows : Beside (effect program_of s pid me call) (effect program_of u pid (f me) call)
+      rows =
+          call-both (λ ws. Beside) program_of s u pid me (f me) call
+          (others-respect Beside IsBeside s (changed s.processes) pid me (f me) respects program_of call room-beside own (λ d n is count few. refl))
 
   -- ---- answers
 

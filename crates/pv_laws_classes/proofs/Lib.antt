@@ -1,10 +1,8 @@
 -- Lemmas on states that are equal up to a renumbering of open files.
 -- - RenumberedLists (lists of processes whose descriptors are renumbered), RenumberedFiles (open files under two
 --   numberings, and the pigeonhole principle for them), RenumberedStates (operations on related states),
---   RelatedAttempts (attempts in two states under any relation), RenumberedAttempts (attempts and answers),
---   RenumberedDescriptors (the open file of a descriptor).
--- - The effects of calls: PlainCalls (no open file), DescriptorCalls (processes and descriptors), FileCalls (contents
---   and offsets), OpenCalls (a new open file).
+--   RenumberedAttempts (attempts and answers), RenumberedDescriptors (the open file of a descriptor), RenumberedCalls
+--   (the effects of calls).
 -- - RenumberedSteps: steps and runs. CanonicalForms: the equivalence and the canonical form.
 -- - Searches, for any steps and any classes: VisitedStates (the visited states and reported steps), over
 --   `SearchInvariant` and `WitnessOrders` of `pv_laws_answers`; SearchObservations (what is observed of the steps).
@@ -19,8 +17,8 @@
 --
 -- Lemmas on states that are equal but for dead variables.
 -- - LiveLists (lists of processes that are the same but for registers and buffers), LiveStates (operations on such
---   states), LiveValues (registers and buffers that agree), LiveNext (the next step of a process), LiveAttempts,
---   LiveAnswers and LiveCounts (attempts, answers, lines), LiveCalls (the effects of calls).
+--   states), LiveValues (registers and buffers that agree), LiveNext (the next step of a process), LiveAnswers
+--   and LiveCounts (answers, lines), LiveCalls (the effects of calls).
 -- - LiveSteps: steps and runs. LiveTables and LiveExact: live variables by iteration. LiveClasses and LiveCleared: the
 --   equivalence, and states with zero in dead variables. LiveExampleRuns: examples by computation.
 --
@@ -40,13 +38,9 @@
 pub mod RenumberedLists
 pub mod RenumberedFiles
 pub mod RenumberedStates
-pub mod RelatedAttempts
 pub mod RenumberedAttempts
 pub mod RenumberedDescriptors
-pub mod PlainCalls
-pub mod DescriptorCalls
-pub mod FileCalls
-pub mod OpenCalls
+pub mod RenumberedCalls
 pub mod RenumberedSteps
 pub mod CanonicalForms
 pub mod ClassFunctions
@@ -74,7 +68,6 @@ pub mod LiveLists
 pub mod LiveValues
 pub mod LiveNext
 pub mod LiveStates
-pub mod LiveAttempts
 pub mod LiveCalls
 pub mod LiveAnswers
 pub mod LiveCounts

@@ -7,7 +7,7 @@ use Rattle.pv_model.specs.Machine.{Answered, answer_by_attempt, with_front, upda
 use Rattle.pv_model.specs.Answer.{answer_by_reply}
 use Rattle.pv_laws_states.proofs.Processes.{process_at-same}
 use Rattle.pv_laws_classes.specs.Liveness.{Live, with_values, AgreeOnLive}
-use Rattle.pv_laws_classes.proofs.RelatedAttempts.{AreBoth}
+use Rattle.pv_laws_states.proofs.RelatedAttempts.{AreBoth}
 use Rattle.pv_laws_classes.proofs.LiveCalls.{Awaits}
 use Rattle.pv_laws_classes.proofs.LiveLists.{AreLive}
 use Rattle.pv_laws_classes.proofs.LiveStates.{Related, collect-related, process-related, update-related, end-related}

@@ -13,7 +13,7 @@ use Rattle.pv_model.specs.Calls.Processes.{exit_status}
 use Rattle.pv_laws_states.specs.States.{IsValid}
 use Rattle.pv_laws_classes.specs.Liveness.{Live, IsClosedTest, IsRead, here, later, by_test, with_values, AgreeOnLive, AlikeButDead, ReadIsClosed, ClosedTestsAcceptRead, StepsIgnoreDead, RunsIgnoreDead, UnreadVariablesAlterNothing, RejectedVariablesAlterNothing}
 use Rattle.pv_laws_classes.proofs.LiveAnswers.{Agree, agree-parent, AreAnswered, attempt-both}
-use Rattle.pv_laws_classes.proofs.RelatedAttempts.{AreBoth, both-refused}
+use Rattle.pv_laws_states.proofs.RelatedAttempts.{AreBoth, both-refused}
 use Rattle.pv_laws_classes.proofs.LiveCalls.{Awaits, awaits-all, WritesAlike, calls-both}
 use Rattle.pv_laws_classes.proofs.LiveCounts.{write-count, TakesAlike, lines-alike}
 use Rattle.pv_laws_classes.proofs.LiveLists.{AreLive}

@@ -3,8 +3,8 @@ use Rattle.std.proofs.Common.{◌≡◌, ℕ, pos, negsuc, refl, sym, subst}
 use Rattle.pv_model.specs.Machine.{Answered, answer_by_attempt, with_front, update, Attempt, done, refused, ◌>>=◌, with_result, end_process, Effect, Reply, returns, returns_bytes, ends, waits, answers, with_room, errno_number, collect, Process, State}
 use Rattle.pv_model.specs.Answer.{answer_by_reply}
 use Rattle.pv_laws_classes.specs.Renumbering.{renumbered_process}
-use Rattle.pv_laws_classes.proofs.RelatedAttempts as Both
-use Rattle.pv_laws_classes.proofs.RelatedAttempts.{AreBoth}
+use Rattle.pv_laws_states.proofs.RelatedAttempts as Both
+use Rattle.pv_laws_states.proofs.RelatedAttempts.{AreBoth}
 use Rattle.pv_laws_classes.proofs.RenumberedStates.{AreRelated, collect-related, tree-related, update-related, end-related}
 
 -- ---- attempts

@@ -1,7 +1,6 @@
 -- Steps and runs from two states that are related by a renumbering of open files.
 use Rattle.std.proofs.Common.{◌≡◌, ℕ, ◌-◌, not, Bool, true, false, if◌then◌else◌, List, [], ◌∷◌, ◌++◌, slice_get, Option, None, Some, is_some, option_map, refl, ap, ap₂, sym, subst, ◌∙◌}
 use Rattle.pv_model.specs.declared.call.Call.{Call}
-use Rattle.pv_model.specs.declared.call.Call.TheVariants as TheCall
 use Rattle.pv_model.specs.declared.errno.Errno.TheVariants.{ENOSYS}
 use Rattle.pv_model.specs.declared.instruction.Instruction.{Instruction}
 use Rattle.pv_model.specs.declared.instruction.Instruction.TheVariants as Line
@@ -16,45 +15,12 @@ use Rattle.pv_laws_states.proofs.Members.{used-among}
 use Rattle.pv_laws_states.proofs.Outcomes.{at_call}
 use Rattle.pv_laws_steps.proofs.ReportedParts.{lines-reported}
 use Rattle.pv_laws_classes.specs.Renumbering.{renumbered_process, Renumbered, RenumberedStepsAnswerAlike, RenumberedRunsAnswerAlike}
-use Rattle.pv_laws_classes.proofs.RelatedAttempts.{AreBoth, both-refused}
+use Rattle.pv_laws_states.proofs.RelatedAttempts.{both-refused}
 use Rattle.pv_laws_classes.proofs.RenumberedAttempts.{AreAnswered, attempt-both}
-use Rattle.pv_laws_classes.proofs.DescriptorCalls.{is_on_descriptors, descriptor-calls}
-use Rattle.pv_laws_classes.proofs.FileCalls.{is_on_files, file-calls}
 use Rattle.pv_laws_classes.proofs.RenumberedFiles.{some-value}
 use Rattle.pv_laws_classes.proofs.RenumberedLists.{Uses, uses-of}
-use Rattle.pv_laws_classes.proofs.OpenCalls.{open-calls}
-use Rattle.pv_laws_classes.proofs.PlainCalls.{plain-calls}
 use Rattle.pv_laws_classes.proofs.RenumberedStates.{IsPresent, renumbered, Fits, AreRelated, related, by-related, process-renumbered, fits-put, with-renumbered, collect-related, end-related, process-uses}
-
--- ---- calls
-
-module _ (f : ℕ → ℕ) (gs : Numbered OpenFile) (s : State) (pid : ℕ) (me : Process) (fits : Fits f gs s) (mine : Uses (IsPresent s.files) me.descriptors) (program_of : Bytes → Option Program) where
-  abbrev Does : Call → Type 0
-  Does call = AreBoth AreRelated (effect program_of s pid me call) (effect program_of (renumbered f gs s) pid (renumbered_process f me) call)
-
-  on-descriptors : (call : Call) → is_on_descriptors call ≡ true → Does call
-  on-descriptors call is = descriptor-calls f gs s pid me fits mine program_of call is
-
-  on-files : (call : Call) → is_on_files call ≡ true → Does call
-  on-files call is = file-calls f gs s pid me fits mine program_of call is
-
-  calls-both : (call : Call) → Does call
-  calls-both TheCall.Fork = on-descriptors TheCall.Fork refl
-  calls-both TheCall.Wait = on-descriptors TheCall.Wait refl
-  calls-both (TheCall.Execve path) = on-descriptors (TheCall.Execve path) refl
-  calls-both (TheCall.Close d) = on-descriptors (TheCall.Close d) refl
-  calls-both (TheCall.Dup d) = on-descriptors (TheCall.Dup d) refl
-  calls-both (TheCall.Dup2 d e) = on-descriptors (TheCall.Dup2 d e) refl
-  calls-both (TheCall.Fstat d) = on-descriptors (TheCall.Fstat d) refl
-  calls-both (TheCall.Fchdir d) = on-descriptors (TheCall.Fchdir d) refl
-  calls-both (TheCall.Read d n) = on-files (TheCall.Read d n) refl
-  calls-both (TheCall.Write d n) = on-files (TheCall.Write d n) refl
-  calls-both (TheCall.Lseek d by whence) = on-files (TheCall.Lseek d by whence) refl
-  calls-both (TheCall.Ftruncate d n) = on-files (TheCall.Ftruncate d n) refl
-  calls-both (TheCall.Getdents d) = on-files (TheCall.Getdents d) refl
-  calls-both (TheCall.Open path flags) = open-calls f gs s pid me fits mine program_of (TheCall.Open path flags) refl
-  calls-both (TheCall.OpenAt start path flags) = open-calls f gs s pid me fits mine program_of (TheCall.OpenAt start path flags) refl
-  calls-both call = plain-calls f gs s pid me fits mine program_of call refl
+use Rattle.pv_laws_classes.proofs.RenumberedCalls.{calls-both}
 
 -- ---- the next step of a process
 

@@ -1,32 +1,28 @@
 -- Each call makes its walks, and the table refuses it only at one of them.
-use Rattle.std.proofs.Common.{◌≡◌, ℕ, zero, suc, ◌+◌, ℤ, pos, Bool, true, false, not, ◌&&◌, ◌||◌, if◌then◌else◌, nat_le, nat_lt, List, [], ◌∷◌, ◌++◌, length, ◌+ℤ◌, Option, None, Some, is_some, is_none, Result, Ok, Err, IsFalse, refl, ap, sym, subst, ◌∙◌, ◌⊎◌, inl, inr, ⊎_elim, arith}
+use Rattle.std.proofs.Common.{◌≡◌, ℕ, zero, suc, ◌+◌, pos, Bool, true, false, not, ◌&&◌, if◌then◌else◌, nat_le, nat_lt, List, [], ◌∷◌, ◌++◌, length, ◌+ℤ◌, Option, None, Some, Result, Ok, Err, IsFalse, refl, ap, sym, subst, ◌∙◌, ◌⊎◌, inl, inr, ⊎_elim, arith}
 use Rattle.std.proofs.lemmas.Bool.{ltb-false, le-leb}
 use Rattle.pv_model.specs.declared.call.Call.{Call}
 use Rattle.pv_model.specs.declared.call.Call.TheVariants as TheCall
-use Rattle.pv_model.specs.declared.call.Start.{Start}
-use Rattle.pv_model.specs.declared.call.Start.TheVariants.{WorkingDirectory, Descriptor as AtDescriptor}
-use Rattle.pv_model.specs.declared.call.Whence.{Whence}
 use Rattle.pv_model.specs.declared.errno.Errno.{Errno}
-use Rattle.pv_model.specs.declared.errno.Errno.TheVariants.{EPERM, ENOENT, EBADF, ECHILD, EAGAIN, EACCES, EEXIST, EBUSY, ENOTDIR, EISDIR, EINVAL, ENFILE, EMFILE, EFBIG, ENOSPC, ENAMETOOLONG, ENOTEMPTY, ENOEXEC, ELOOP, E2BIG}
+use Rattle.pv_model.specs.declared.errno.Errno.TheVariants.{EPERM, ENOENT, EACCES, EISDIR, EINVAL, EFBIG, ENOSPC, ENAMETOOLONG, ENOEXEC, E2BIG}
 use Rattle.pv_model.specs.declared.follow.Follow.{Follow}
 use Rattle.pv_model.specs.declared.follow.Follow.TheVariants.{Last}
 use Rattle.pv_model.specs.declared.judgement.Judgement.{Judgement}
 use Rattle.pv_model.specs.declared.judgement.Judgement.TheVariants.{Allowed, Hidden, Denied}
-use Rattle.pv_model.specs.declared.open_flags.OpenFlags.{OpenFlags}
 use Rattle.pv_model.specs.declared.outcome.Cause.TheVariants.{Unveil as ByUnveil, Locked}
 use Rattle.pv_model.specs.declared.outcome.Outcome.TheVariants.{Failed}
 use Rattle.pv_model.specs.declared.perms.Perms.{Perms}
 use Rattle.pv_model.specs.declared.place.Place.{Place}
 use Rattle.pv_model.specs.declared.promise.Promise.{Promise}
-use Rattle.pv_model.specs.Machine.{answer, answer_by_attempt, at_next_line, effect, Attempt, done, refused, after_walks, ◌>>=◌, ◌>>◌, give, refuse, refuse_if, demand, Bytes, is_empty, with_descriptor, within, next_name, open_file_for, seek_base, list_name, natural, is_past_greatest, write_end, is_link, contradicts, with_content, with_open_file, open_node, directory_of, check_start, open_at, read, write, lseek, fstat, ftruncate, getdents, fchdir, close, dup, dup2, link_text, same_node, contains_directory, is_directory_there, entries_there, ends_in_dot, move_entry, chdir, stat_at, readlink, symlink, link, unlink, rmdir, rename, executable_bytes, statuses, children, child, fork, reap, wait, execve, asked_promises, unless_refused, entries_of_table, refuse_if_locked, pledge, Effect, answers, answers_bytes, place_or_refusal, walk, judgement_or_refusal, judge, end_of, with_room, node_of, name_of, descriptor_at, open_file, status, collect, needs, least_free, covers, read_permissions, Promises, narrow_promises, is_lenient, missing_promise, is_too_long, fits, OpenFile, Program, Process, State, reads, writes, process_at, with_process, Node, directory_node, link_node, file_node, Tree, root, node_at, entries_at, is_directory, is_directory_at, new_number, with_new_node, Table, entry_for, permissions_at, with_permissions, target_of, judgement, Walked, components, is_absolute, begins_walk, follows_last, end_mark, resolve, Walk, open_walk, execve_walk, rename_walk, unveil_walk, walks_of, walk_number, is_unveil}
-use Rattle.pv_model.specs.Calls.Paths.{make}
+use Rattle.pv_model.specs.Machine.{answer, answer_by_attempt, at_next_line, effect, Attempt, done, refused, after_walks, ◌>>=◌, ◌>>◌, give, refuse, refuse_if, demand, Bytes, is_empty, within, next_name, seek_base, list_name, is_past_greatest, write_end, read, executable_bytes, statuses, asked_promises, unless_refused, entries_of_table, refuse_if_locked, pledge, Effect, answers, place_or_refusal, walk, judgement_or_refusal, judge, end_of, with_room, node_of, descriptor_at, open_file, status, collect, needs, least_free, covers, read_permissions, Promises, narrow_promises, is_lenient, missing_promise, is_too_long, fits, OpenFile, Program, Process, State, reads, writes, process_at, with_process, Tree, root, node_at, entries_at, is_directory_at, Table, entry_for, permissions_at, with_permissions, target_of, judgement, Walked, components, is_absolute, begins_walk, follows_last, end_mark, resolve, Walk, execve_walk, unveil_walk, walks_of, walk_number, is_unveil, unveil, with_number}
 use Rattle.pv_model.specs.Calls.Restraints.{add_entry}
 use Rattle.pv_model.specs.Promises.{read_promises}
-use Rattle.pv_model.specs.Walks.{chdir_walk, readlink_walk, mkdir_walk, symlink_walk, linked_walk, new_link_walk, unlink_walk, rmdir_walk, permissions_or_none}
+use Rattle.pv_model.specs.Walks.{permissions_or_none}
 use Rattle.pv_laws_states.specs.Courses.{walks_in_sequence, IsAfter, IsStoppedEarly, GoesAlong, IsRefusedAt, IsStoppedByTable, IsStoppedByLock}
 use Rattle.pv_laws_states.proofs.Outcomes.{at_call, by_answer}
 use Rattle.pv_laws_states.proofs.CallRests
 use Rattle.pv_model.specs.declared.target.Target.{Target}
+use Rattle.pv_laws_states.proofs.RelatedCalls.{AreOnSame, Respects, both-have, call-both}
 
 -- ---- attempts that the table does not refuse
 
@@ -97,52 +93,35 @@ goes-zero course m (refused walks errno cause) none is =
     go (done k v) is = (omega (arith, none, is.0), is.1)
     go (refused k e other) is = ap (λ n. refused n errno cause) (omega (arith, none)) ∙ is
 
--- the attempt before the walks
-first : {B : Type 0} (course : Attempt (Unit {0})) (a : Attempt B) (next : Attempt Effect) → IsAfter 0 a → Goes course next → Goes course (a >> next)
-first course (done walks value) next is goes = goes-zero course walks next is goes
-first course (refused walks errno cause) next is goes = inl is
-
-tested-first : (course : Attempt (Unit {0})) (e : Errno) (b : Bool) (next : Attempt Effect) → Goes course next → Goes course (refuse_if e b >> next)
-tested-first course e b next = first course (refuse_if e b) next (following-if e b)
-
 module _ (s : State) (me : Process) where
   -- a walk whose place is judged, and the attempt after it
-  walked : (w : Walk) (ws : List Walk) (next : Place → Attempt Effect) → ((place : Place) → GoesAlong (walks_in_sequence s me ws) (next place))
+  walked_where : (w : Walk) (ws : List Walk) (next : Place → Attempt Effect)
+      → ((place : Place) → end_of s me w ≡ Ok place → judgement s.tree me.table place w.needed ≡ Allowed → GoesAlong (walks_in_sequence s me ws) (next place))
       → GoesAlong (walks_in_sequence s me (w ∷ ws)) (walk s me w >>= (λ place. judge s me w place >> next place))
-  walked w ws next is = by (end_of s me w)
+  walked_where w ws next is = by (end_of s me w) refl
     where
-      judged : (place : Place) (j : Judgement) → GoesAlong (judgement_or_refusal j >> walks_in_sequence s me ws) (judgement_or_refusal j >> next place)
-      judged place Allowed = along-after 0 (walks_in_sequence s me ws) (next place) (is place)
-      judged place Hidden = refl
-      judged place (Denied k) = refl
+      judged : (place : Place) → end_of s me w ≡ Ok place → (j : Judgement) → judgement s.tree me.table place w.needed ≡ j → GoesAlong (judgement_or_refusal j >> walks_in_sequence s me ws) (judgement_or_refusal j >> next place)
+      judged place found Allowed may = along-after 0 (walks_in_sequence s me ws) (next place) (is place found may)
+      judged place found Hidden may = refl
+      judged place found (Denied k) may = refl
 
-      by : (r : Walked) → GoesAlong (place_or_refusal (if begins_walk w.path then 1 else 0) r >>= (λ place. judge s me w place >> walks_in_sequence s me ws))
+      by : (r : Walked) → end_of s me w ≡ r → GoesAlong (place_or_refusal (if begins_walk w.path then 1 else 0) r >>= (λ place. judge s me w place >> walks_in_sequence s me ws))
           (place_or_refusal (if begins_walk w.path then 1 else 0) r >>= (λ place. judge s me w place >> next place))
-      by (Ok place) = along-after (if begins_walk w.path then 1 else 0) (judge s me w place >> walks_in_sequence s me ws) (judge s me w place >> next place) (judged place (judgement s.tree me.table place w.needed))
-      by (Err e) = refl
+      by (Ok place) found = along-after (if begins_walk w.path then 1 else 0) (judge s me w place >> walks_in_sequence s me ws) (judge s me w place >> next place) (judged place found (judgement s.tree me.table place w.needed) refl)
+      by (Err e) found = refl
 
 -- ---- each call
 
 module _ (s : State) (pid : ℕ) (me : Process) where
-  abbrev Still : Attempt Effect → Type 0
-  Still a = IsAfter 0 a
+  -- the attempt goes along the walks
+  abbrev Along : List Walk → Attempt Effect → Attempt Effect → Type 0
+  Along ws a b = Goes (walks_in_sequence s me ws) a
 
-  abbrev By : List Walk → Attempt Effect → Type 0
-  By ws a = Goes (walks_in_sequence s me ws) a
+  settled : (a : Attempt Effect) → Goes (give tt) a → IsAfter 0 a
+  settled (done walks value) is = ⊎_elim (λ stopped. absurd stopped) (λ still. still) is
+  settled (refused walks errno cause) is = ⊎_elim (λ stopped. stopped) (λ still. still) is
 
-  still-fork : Still (fork s pid me)
-  still-fork =
-      let number : ℕ = suc s.last_process in
-      tested EAGAIN (nat_le 32 (length s.processes) || nat_lt 99999 number) (answers (record (with_process s number (child s pid me)) { last_process = number }) number) refl
-
-  still-reap : (ss : List (ℕ × ℕ)) → Still (reap s pid me ss)
-  still-reap [] = refl
-  still-reap ((k, status) ∷ rs) = refl
-
-  still-wait : Still (wait s pid me)
-  still-wait = tested ECHILD (is_empty (children s pid me)) (reap s pid me (statuses (children s pid me))) (still-reap (statuses (children s pid me)))
-
-  still-pledge : (promises execpromises : Option Bytes) → Still (pledge s pid me promises execpromises)
+  still-pledge : (promises execpromises : Option Bytes) → IsAfter 0 (pledge s pid me promises execpromises)
   still-pledge promises execpromises =
       following-bind (asked_promises promises) (CallRests.pledge_1 s pid me execpromises) (following-asked promises) (λ asked.
       following-bind (asked_promises execpromises) (CallRests.pledge_2 s pid me asked) (following-asked execpromises) (λ exec_asked.
@@ -150,214 +129,66 @@ module _ (s : State) (pid : ℕ) (me : Process) where
       following-bind (unless_refused (narrow_promises (is_lenient me.promises) me.execpromises exec_asked))
       (λ exec_preserved. answers (with_process s pid (record me { promises = preserved; execpromises = exec_preserved })) 0) (following-narrowed _) (λ exec_preserved. refl))))
 
-  still-directory_of : (d : ℤ) → IsAfter 0 (directory_of s pid me d)
-  still-directory_of d =
-      demanded EBADF (open_file s me d) (CallRests.directory_of_1 s pid me) (λ (file : ℕ × OpenFile).
-      tested ENOTDIR (not (is_directory_at s.tree file.1.node)) (give file.1.node) refl)
-
-  still-fchdir : (d : ℤ) → Still (fchdir s pid me d)
-  still-fchdir d = following-bind (directory_of s pid me d) (λ directory. answers (with_process s pid (record me { directory = directory })) 0) (still-directory_of d) (λ n. refl)
-
-  still-fstat : (d : ℤ) → Still (fstat s pid me d)
-  still-fstat d = demanded EBADF (open_file s me d) (λ (k, file). answers_bytes s 0 (status s.tree file.node)) (λ f. refl)
-
-  still-close : (d : ℤ) → Still (close s pid me d)
-  still-close d = following-then (demand EBADF (descriptor_at me d)) (answers (with_process s pid (record me { descriptors = Rattle.pv_model.specs.Calls.Descriptors.without_descriptor me.descriptors d })) 0) (following-demand EBADF (descriptor_at me d)) refl
-
-  still-dup : (d : ℤ) → Still (dup s pid me d)
-  still-dup d =
-      demanded EBADF (descriptor_at me d) (CallRests.dup_1 s pid me) (λ x.
-      tested EMFILE (nat_le 16 (least_free me.descriptors)) (answers (with_descriptor s pid me s x.file false) (least_free me.descriptors)) refl)
-
-  still-dup2 : (d e : ℤ) → Still (dup2 s pid me d e)
-  still-dup2 d e =
-      demanded EBADF (descriptor_at me d) (CallRests.dup2_1 s pid me d e) (λ x.
-      demanded EBADF (within 15 e) (CallRests.dup2_2 s pid me d x) (λ n. refl))
-
-  still-lseek : (d by : ℤ) (whence : Whence) → Still (lseek s pid me d by whence)
-  still-lseek d by whence =
-      demanded EBADF (open_file s me d) (CallRests.lseek_1 s pid me by whence) (λ f.
-      tested EINVAL (is_directory_at s.tree f.1.node) (CallRests.lseek_2 s pid me by whence f.0 f.1) (
-      demanded EINVAL (within 2147483647 (pos (seek_base s pid me f.1 whence) +ℤ by)) (CallRests.lseek_3 s pid me f.0 f.1) (λ offset. refl)))
-
-  still-read : (d n : ℤ) → Still (read s pid me d n)
-  still-read d n =
-      demanded EBADF (open_file_for s pid me reads d) (CallRests.read_1 s pid me n) (λ f.
-      demanded EINVAL (within 4096 n) (CallRests.read_2 s pid me f.0 f.1) (λ count.
-      tested EISDIR (is_directory_at s.tree f.1.node) (CallRests.read_3 s pid me f.0 f.1 count) refl))
-
-  still-write : (d n : ℤ) → Still (write s pid me d n)
-  still-write d n =
-      demanded EBADF (open_file_for s pid me writes d) (CallRests.write_1 s pid me n) (λ f.
-      demanded EINVAL (within 4096 n) (CallRests.write_2 s pid me f.0 f.1) (λ count.
-      tested EFBIG (is_past_greatest s.tree (write_end s pid me f.1 count)) (CallRests.write_3 s pid me f.0 f.1 count) (roomy _ count)))
-
-  still-ftruncate : (d n : ℤ) → Still (ftruncate s pid me d n)
-  still-ftruncate d n =
-      demanded EBADF (open_file s me d) (CallRests.ftruncate_1 s pid me n) (λ f.
-      tested EINVAL (not (writes f.1.mode)) (CallRests.ftruncate_2 s pid me n f.1) (
-      demanded EINVAL (natural n) (CallRests.ftruncate_3 s pid me f.1) (λ size.
-      tested EFBIG (is_past_greatest s.tree size) (CallRests.ftruncate_4 s pid me f.1 size) (roomy (CallRests.resized s pid me f.1 size) 0))))
-
-  still-getdents : (d : ℤ) → Still (getdents s pid me d)
-  still-getdents d =
-      demanded EBADF (open_file s me d) (CallRests.getdents_1 s pid me) (λ f.
-      tested EINVAL (not (is_directory_at s.tree f.1.node)) (CallRests.getdents_2 s pid me f.0 f.1) (listed f.0 f.1 (next_name f.1.listed (entries_at s.tree f.1.node))))
-    where
-      listed : (k : ℕ) (file : OpenFile) (o : Option Bytes) → Still (list_name s pid me k file o)
-      listed k file None = refl
-      listed k file (Some name) = refl
-
-  by-execve : (program_of : Bytes → Option Program) (path : Bytes) → By (execve_walk path ∷ []) (execve s pid me program_of path)
-  by-execve program_of path =
-      inr (walked s me (execve_walk path) [] (CallRests.execve_1 s pid me program_of) (λ place.
+  still-execve : (program_of : Bytes → Option Program) (place : Place) → IsAfter 0 (CallRests.execve_1 s pid me program_of place)
+  still-execve program_of place =
       demanded ENOENT (node_of place) (CallRests.execve_2 s pid me program_of) (λ n.
       demanded EACCES (executable_bytes (node_at s.tree n)) (CallRests.execve_3 s pid me program_of) (λ bytes.
-      demanded ENOEXEC (program_of bytes) (CallRests.execve_4 s pid me) (λ program. refl)))))
+      demanded ENOEXEC (program_of bytes) (CallRests.execve_4 s pid me) (λ program. refl)))
 
-  by-chdir : (path : Bytes) → By (chdir_walk path ∷ []) (chdir s pid me path)
-  by-chdir path =
-      inr (walked s me (chdir_walk path) [] (CallRests.chdir_1 s pid me) (λ place.
-      demanded ENOENT (node_of place) (CallRests.chdir_2 s pid me) (λ n.
-      tested ENOTDIR (not (is_directory_at s.tree n)) (answers (with_process s pid (record me { directory = n })) 0) refl)))
+  still-listed : (k : ℕ) (file : OpenFile) (o : Option Bytes) → IsAfter 0 (list_name s pid me k file o)
+  still-listed k file None = refl
+  still-listed k file (Some name) = refl
 
-  by-stat : (w : Walk) → By (w ∷ []) (stat_at s pid me w)
-  by-stat w =
-      inr (walked s me w [] (CallRests.stat_1 s pid me) (λ place.
-      demanded ENOENT (node_of place) (λ n. answers_bytes s 0 (status s.tree n)) (λ n. refl)))
+  module _ (program_of : Bytes → Option Program) (call : Call) (other : IsFalse (is_unveil call)) where
+    no_unveil : (path permissions : Option Bytes) → call ≡ TheCall.Unveil path permissions → Along (walks_of (TheCall.Unveil path permissions)) (unveil s pid me path permissions) (unveil s pid me path permissions)
+    no_unveil path permissions is = let bad : true ≡ false = ap is_unveil (sym is) ∙ other in cc bad
 
-  by-readlink : (path : Bytes) → By (readlink_walk path ∷ []) (readlink s pid me path)
-  by-readlink path =
-      inr (walked s me (readlink_walk path) [] (CallRests.readlink_1 s pid me) (λ place.
-      demanded ENOENT (node_of place) (CallRests.readlink_2 s pid me) (λ n.
-      demanded EINVAL (link_text (node_at s.tree n)) (λ text. answers_bytes s (length text) text) (λ text. refl))))
-
-  by-make : (w : Walk) (node : Node) → By (w ∷ []) (make s pid me w node)
-  by-make w node =
-      inr (walked s me w [] (CallRests.make_1 s pid me node) (λ place.
-      tested EEXIST (is_some (node_of place)) (CallRests.make_2 s pid me node place) (
-      demanded EEXIST (name_of place) (CallRests.make_3 s pid me node) (λ p. roomy _ 0))))
-
-  by-symlink : (text path : Bytes) → By (symlink_walk path ∷ []) (symlink s pid me text path)
-  by-symlink text path =
-      let course : Attempt (Unit {0}) = walks_in_sequence s me (symlink_walk path ∷ []) in
-      let rest : Attempt Effect = make s pid me (symlink_walk path) (link_node text) in
-      tested-first course ENOENT (is_empty text) (refuse_if ENAMETOOLONG (nat_lt 1023 (length text)) >> rest) (
-      tested-first course ENAMETOOLONG (nat_lt 1023 (length text)) rest (by-make (symlink_walk path) (link_node text)))
-
-  by-link : (path new : Bytes) → By (linked_walk path ∷ new_link_walk new ∷ []) (link s pid me path new)
-  by-link path new =
-      inr (walked s me (linked_walk path) (new_link_walk new ∷ []) (CallRests.link_1 s pid me new) (λ old_place.
-      walked s me (new_link_walk new) [] (CallRests.link_2 s pid me old_place) (λ new_place.
-      demanded ENOENT (node_of old_place) (CallRests.link_3 s pid me new_place) (λ n.
-      tested EPERM (is_directory_at s.tree n) (CallRests.link_4 s pid me new_place n) (
-      tested EEXIST (is_some (node_of new_place)) (CallRests.link_5 s pid me new_place n) (
-      demanded EEXIST (name_of new_place) (CallRests.link_6 s pid me n) (λ p. roomy _ 0)))))))
-
-  by-unlink : (path : Bytes) → By (unlink_walk path ∷ []) (unlink s pid me path)
-  by-unlink path =
-      inr (walked s me (unlink_walk path) [] (CallRests.unlink_1 s pid me) (λ place.
-      demanded ENOENT (node_of place) (CallRests.unlink_2 s pid me place) (λ n.
-      tested EPERM (is_directory_at s.tree n) (CallRests.unlink_3 s pid me place) (
-      demanded EPERM (name_of place) (CallRests.less_3 s pid me) (λ p. refl)))))
-
-  by-rmdir : (path : Bytes) → By (rmdir_walk path ∷ []) (rmdir s pid me path)
-  by-rmdir path =
-      tested-first (walks_in_sequence s me (rmdir_walk path ∷ [])) EINVAL (ends_in_dot path) (walk s me (rmdir_walk path) >>= (λ place. judge s me (rmdir_walk path) place >> CallRests.rmdir_1 s pid me place)) (
-      inr (walked s me (rmdir_walk path) [] (CallRests.rmdir_1 s pid me) (λ place.
-      demanded ENOENT (node_of place) (CallRests.rmdir_2 s pid me place) (λ n.
-      tested ENOTDIR (not (is_directory_at s.tree n)) (CallRests.rmdir_3 s pid me place n) (
-      demanded EBUSY (name_of place) (CallRests.rmdir_4 s pid me n) (λ p.
-      tested ENOTEMPTY (not (is_empty (entries_at s.tree n))) (CallRests.less_3 s pid me p) refl))))))
-
-  still-move : (n d : ℕ) (name : Bytes) (e : ℕ) (new : Bytes) (there : Option ℕ) → Still (move_entry s pid me n d name e new there)
-  still-move n d name e new there =
-      tested EINVAL (contains_directory s.tree n e) (CallRests.move_2 s pid me n d name e new there) (
-      tested EISDIR (is_directory_there s.tree there && not (is_directory_at s.tree n)) (CallRests.move_3 s pid me n d name e new there) (
-      tested ENOTDIR (is_directory_at s.tree n && is_some there && not (is_directory_there s.tree there)) (CallRests.move_4 s pid me n d name e new there) (
-      tested ENOTEMPTY (not (is_empty (entries_there s.tree there))) (CallRests.move_5 s pid me n d name e new) (roomy _ 0))))
-
-  by-rename : (path new : Bytes) → By (rename_walk path ∷ rename_walk new ∷ []) (rename s pid me path new)
-  by-rename path new =
-      tested-first (walks_in_sequence s me (rename_walk path ∷ rename_walk new ∷ [])) EINVAL (ends_in_dot path || ends_in_dot new)
-      (walk s me (rename_walk path) >>= (λ old_place. judge s me (rename_walk path) old_place >> CallRests.rename_1 s pid me new old_place)) (
-      inr (walked s me (rename_walk path) (rename_walk new ∷ []) (CallRests.rename_1 s pid me new) (λ old_place.
-      walked s me (rename_walk new) [] (CallRests.rename_2 s pid me old_place) (λ new_place.
-      demanded ENOENT (node_of old_place) (CallRests.rename_3 s pid me old_place new_place) (λ n.
-      demanded EBUSY (name_of old_place) (CallRests.rename_4 s pid me new_place n) (λ p.
-      demanded EBUSY (name_of new_place) (CallRests.rename_5 s pid me new_place n p) (λ q.
-      elim (same_node (node_of new_place) n) as (λ b. Still (if b then answers s 0 else move_entry s pid me n p.0 p.1 q.0 q.1 (node_of new_place))) [
-        | true ↦ refl
-        | false ↦ still-move n p.0 p.1 q.0 q.1 (node_of new_place)
-      ])))))))
-
-  still-open_node : (f : OpenFlags) (name : Option (ℕ × Bytes)) (node : Option ℕ) → Still (open_node s pid me f name node >>= CallRests.open_7 s pid me)
-  still-open_node f name (Some n) =
-      following-zero 0 (CallRests.open_7 s pid me (with_open_file s pid me f n (if f.truncate then with_content s.tree n [] else s.tree))) refl (roomy _ (least_free me.descriptors))
-  still-open_node f (Some p) None =
-      following-zero 0 (CallRests.open_7 s pid me (with_open_file s pid me f (new_number s.tree) (with_new_node s.tree p.0 p.1 (file_node false [])))) refl (roomy _ (least_free me.descriptors))
-  still-open_node f None None = (refl, refl)
-
-  still-start : (start : Start) (path : Bytes) → IsAfter 0 (check_start s pid me start path)
-  still-start WorkingDirectory path = refl
-  still-start (AtDescriptor d) path =
-      elim (is_absolute path) as (λ b. IsAfter 0 (if b then give (tt {0}) else directory_of s pid me d >> give (tt {0}))) [
-        | true ↦ refl
-        | false ↦ following-then (directory_of s pid me d) (give (tt {0})) (still-directory_of d) refl
-      ]
-
-  by-open : (start : Start) (path : Bytes) (f : OpenFlags) → By (open_walk start path f ∷ []) (open_at s pid me start path f)
-  by-open start path f =
-      let w : Walk = open_walk start path f in
-      let course : Attempt (Unit {0}) = walks_in_sequence s me (w ∷ []) in
-      let way : Attempt Effect = walk s me w >>= (λ place. judge s me w place >> CallRests.open_1 s pid me f place) in
-      let few_files : Attempt Effect = refuse_if ENFILE (nat_le 128 (least_free s.files)) >> way in
-      let few : Attempt Effect = refuse_if EMFILE (nat_le 16 (least_free me.descriptors)) >> few_files in
-      tested-first course EINVAL (contradicts f) (check_start s pid me start path >> few) (
-      first course (check_start s pid me start path) few (still-start start path) (
-      tested-first course EMFILE (nat_le 16 (least_free me.descriptors)) few_files (
-      tested-first course ENFILE (nat_le 128 (least_free s.files)) way (
-      inr (walked s me w [] (CallRests.open_1 s pid me f) (λ place.
-      tested EEXIST (f.create && f.exclusive && is_some (CallRests.node_there s pid me place)) (CallRests.open_2 s pid me f place) (
-      tested ENOENT (is_none (CallRests.node_there s pid me place) && not f.create) (CallRests.open_3 s pid me f place) (
-      tested ELOOP (is_link (CallRests.node_there s pid me place)) (CallRests.open_4 s pid me f place) (
-      tested ENOTDIR (f.directory && not (is_directory (CallRests.node_there s pid me place))) (CallRests.open_5 s pid me f place) (
-      tested EISDIR (is_directory (CallRests.node_there s pid me place) && writes f.mode) (CallRests.open_6 s pid me f place)
-      (still-open_node f (name_of place) (node_of place))))))))))))
+    along : Respects Along program_of s s pid me me call
+    along = record {
+      checks = record { after = λ ws a b is. goes-zero (walks_in_sequence s me ws) 0 a refl is; refuses = λ ws e c plain. inl (refl, plain) };
+      processes = record { left = λ r. inr refl; parent = refl; count = refl; last = refl; forks = inr refl; childless = refl; statuses = refl; reaps = λ n bytes. inr refl };
+      own = record {
+        enters = λ n. inr refl;
+        closes = λ d. inr refl;
+        free = refl;
+        duplicates = λ d. both-have (λ v w. (n : ℕ) → Along [] (answers (with_process s pid (record me { descriptors = with_number me.descriptors n (record { file = v.file; close_on_exec = false }) })) n)
+            (answers (with_process s pid (record me { descriptors = with_number me.descriptors n (record { file = w.file; close_on_exec = false }) })) n)) (descriptor_at me d) (λ v is n. inr refl);
+        pledges = λ promises execpromises is. inr (still-pledge promises execpromises);
+        unveils = no_unveil;
+        executes = λ path is. inr (walked_where s me (execve_walk path) [] (CallRests.execve_1 s pid me program_of) (λ place found allowed. still-execve program_of place));
+      };
+      files = record {
+        opened = λ d. both-have AreOnSame (open_file s me d) (λ v is. record { node = refl; mode = refl });
+        full = refl;
+        reads = λ d n is v w opened may count. inr (tested EISDIR (is_directory_at s.tree v.1.node) (CallRests.read_3 s pid me v.0 v.1 count) refl);
+        writes = λ d n is v w opened may count few. inr (tested EFBIG (is_past_greatest s.tree (write_end s pid me v.1 count)) (CallRests.write_3 s pid me v.0 v.1 count) (roomy _ count));
+        seeks = λ d by whence is v w opened. inr (demanded EINVAL (within 2147483647 (pos (seek_base s pid me v.1 whence) +ℤ by)) (CallRests.lseek_3 s pid me v.0 v.1) (λ offset. refl));
+        reports = λ d is v w opened. inr refl;
+        cuts = λ d n is v w opened size. inr (tested EFBIG (is_past_greatest s.tree size) (CallRests.ftruncate_4 s pid me v.1 size) (roomy _ 0));
+        lists = λ d is v w opened. inr (still-listed v.0 v.1 (next_name v.1.listed (entries_at s.tree v.1.node)));
+      };
+      tree = record {
+        nodes = λ n. inl refl;
+        contains = λ n d. refl;
+        walked = λ w g h is. inr (walked_where s me w [] g (λ place found allowed. settled (g place) (is place found allowed)));
+        walked_twice = λ v w g h is. inr (walked_where s me v (w ∷ []) (λ p. walk s me w >>= (λ q. judge s me w q >> g p q)) (λ p found allowed.
+            walked_where s me w [] (g p) (λ q later may. settled (g p q) (is p q found later))));
+        stats = λ path is place found allowed n there. inr refl;
+        lstats = λ path is place found allowed n there. inr refl;
+        unlinks = λ p. inr refl;
+      };
+      room = record {
+        makes = λ w node walks here bare place found free p named. inr (roomy _ 0);
+        links = λ path new is place found free n p named. inr (roomy _ 0);
+        moves = λ path new is old_place new_place old_found found n p q there old_named named apart. inr (roomy _ 0);
+        opens = λ start path f place opens n is. inr (roomy _ (least_free me.descriptors));
+        creates = λ start path f place opens p named is. inr (roomy _ (least_free me.descriptors));
+      };
+    }
 
 pub calls-along : (program_of : Bytes → Option Program) (s : State) (pid : ℕ) (me : Process) (call : Call) → IsFalse (is_unveil call)
     → IsStoppedEarly (effect program_of s pid me call) ⊎ GoesAlong (walks_in_sequence s me (walks_of call)) (effect program_of s pid me call)
-unfolding effect
-calls-along program_of s pid me (TheCall.Exit code) is = inr refl
-calls-along program_of s pid me TheCall.GetPid is = inr refl
-calls-along program_of s pid me TheCall.GetPpid is = inr refl
-calls-along program_of s pid me TheCall.Fork is = inr (still-fork s pid me)
-calls-along program_of s pid me TheCall.Wait is = inr (still-wait s pid me)
-calls-along program_of s pid me (TheCall.Pledge promises execpromises) is = inr (still-pledge s pid me promises execpromises)
-calls-along program_of s pid me (TheCall.Unveil path permissions) is = cc is
-calls-along program_of s pid me (TheCall.Execve path) is = by-execve s pid me program_of path
-calls-along program_of s pid me (TheCall.Open path flags) is = by-open s pid me WorkingDirectory path flags
-calls-along program_of s pid me (TheCall.OpenAt start path flags) is = by-open s pid me start path flags
-calls-along program_of s pid me (TheCall.Close d) is = inr (still-close s pid me d)
-calls-along program_of s pid me (TheCall.Dup d) is = inr (still-dup s pid me d)
-calls-along program_of s pid me (TheCall.Dup2 d e) is = inr (still-dup2 s pid me d e)
-calls-along program_of s pid me (TheCall.Read d n) is = inr (still-read s pid me d n)
-calls-along program_of s pid me (TheCall.Write d n) is = inr (still-write s pid me d n)
-calls-along program_of s pid me (TheCall.Lseek d by whence) is = inr (still-lseek s pid me d by whence)
-calls-along program_of s pid me (TheCall.Fstat d) is = inr (still-fstat s pid me d)
-calls-along program_of s pid me (TheCall.Ftruncate d n) is = inr (still-ftruncate s pid me d n)
-calls-along program_of s pid me (TheCall.Getdents d) is = inr (still-getdents s pid me d)
-calls-along program_of s pid me (TheCall.Fchdir d) is = inr (still-fchdir s pid me d)
-calls-along program_of s pid me (TheCall.Chdir path) is = by-chdir s pid me path
-calls-along program_of s pid me (TheCall.Stat path) is = by-stat s pid me (Rattle.pv_model.specs.Walks.stat_walk path)
-calls-along program_of s pid me (TheCall.Lstat path) is = by-stat s pid me (Rattle.pv_model.specs.Walks.lstat_walk path)
-calls-along program_of s pid me (TheCall.Readlink path) is = by-readlink s pid me path
-calls-along program_of s pid me (TheCall.Mkdir path) is = by-make s pid me (mkdir_walk path) (directory_node [])
-calls-along program_of s pid me (TheCall.Symlink text path) is = by-symlink s pid me text path
-calls-along program_of s pid me (TheCall.Link path new) is = by-link s pid me path new
-calls-along program_of s pid me (TheCall.Unlink path) is = by-unlink s pid me path
-calls-along program_of s pid me (TheCall.Rmdir path) is = by-rmdir s pid me path
-calls-along program_of s pid me (TheCall.Rename path new) is = by-rename s pid me path new
+calls-along program_of s pid me call other = call-both (Along s pid me) program_of s s pid me me call (along s pid me program_of call other)
 
 -- ---- the place where a call is refused
 

@@ -5,6 +5,8 @@
 --   directories), CallRests (the rest of each call after each check), CallWalks (walks and refusals).
 -- - Validity: ValidStates, ProcessInsides, ChangedStates, GrownTrees; call by call ByProcess, ByTable, ByFile, ByTree,
 --   ByOpen; and BySteps (steps, runs, the first state).
+-- - Calls in two states: RelatedAttempts (attempts under any relation), RelatedCalls (a call respects a relation if its
+--   parts do), RespectedParts (parts of calls that respect a relation; two states with other processes).
 -- - Noninterference of lines: OtherInsides (process lists that differ in registers and buffers), OtherInsidesCalls
 --   (each call on both).
 -- - ExampleStates: processes of worked runs.
@@ -32,3 +34,6 @@ pub mod CallRests
 pub mod CallWalks
 pub mod OtherInsidesCalls
 pub mod LongLengths
+pub mod RelatedAttempts
+pub mod RelatedCalls
+pub mod RespectedParts

@@ -1,14 +1,14 @@
 -- The lines of a step do not depend on the registers and the buffer of another process.
-use Rattle.std.proofs.Common.{◌≡◌, ℕ, suc, ◌+◌, Bool, true, false, cond, not, List, [], ◌∷◌, ◌++◌, map, length, Some, refl, ap, ap₂, sym, subst, ◌∙◌}
+use Rattle.std.proofs.Common.{◌≡◌, ℕ, suc, Bool, true, false, cond, List, [], ◌∷◌, ◌++◌, map, length, Some, refl, ap, ap₂, sym, subst, ◌∙◌}
 use Rattle.std.specs.Ordering.{nat_cmp, eq_by_cmp}
-use Rattle.std.specs.FinMap.Entries.{by_order, find, put}
+use Rattle.std.specs.FinMap.Entries.{by_order, find, put, where_key}
 use Rattle.std.specs.Cmp.{unsigned_ties}
 use Rattle.std.specs.declared.cmp.Ordering.TheVariants.{Less, Equal, Greater}
 use Rattle.std.proofs.lemmas.Bool.{eqb-true}
-use Rattle.pv_model.specs.declared.errno.Errno.TheVariants.{EFBIG, ENOSPC}
-use Rattle.pv_model.specs.Machine.{Attempt, done, refused, after_walks, ◌>>=◌, ◌>>◌, give, refuse_if, parent_of, Effect, answers, with_room, among, used_files, held_by_process, collect, present, keep, fits, is_too_long, Process, ProcessRecord, live, ended_record, State, process_at}
+use Rattle.pv_model.specs.Machine.{parent_of, among, used_files, held_by_process, collect, present, keep, Process, ProcessRecord, live, ended_record, State, process_at, live_process}
 use Rattle.pv_laws_states.specs.Steps.{IsSameOutside, AreAlikeBut}
 use Rattle.pv_laws_states.proofs.Members.{all_of}
+use Rattle.pv_laws_trees.specs.Preserved.{preserved}
 
 -- ---- similar lists of processes
 
@@ -34,17 +34,30 @@ module _ (pid : ℕ) where
   alike-self (live p) = refl
   alike-self (ended_record above status) = (refl, refl)
 
-  pub alike-put : (r : ProcessRecord) (xs ys : List (ℕ × ProcessRecord)) → AreAlikeBut pid xs ys → AreAlikeBut pid (put nat_cmp pid r xs) (put nat_cmp pid r ys)
-  alike-put r [] [] is = (refl, alike-self r, λ _. refl, tt)
-  alike-put r [] (y ∷ ys) is = absurd is
-  alike-put r (x ∷ xs) [] is = absurd is
-  alike-put r (x ∷ xs) (y ∷ ys) is =
-      subst (λ o. AreAlikeBut pid (by_order o ((pid, r) ∷ x ∷ xs) ((x.0, r) ∷ xs) (x ∷ put nat_cmp pid r xs)) (by_order (nat_cmp pid y.0) ((pid, r) ∷ y ∷ ys) ((y.0, r) ∷ ys) (y ∷ put nat_cmp pid r ys)))
-      (ap (nat_cmp pid) (sym is.0))
-      (elim (nat_cmp pid y.0) as (λ o. AreAlikeBut pid (by_order o ((pid, r) ∷ x ∷ xs) ((x.0, r) ∷ xs) (x ∷ put nat_cmp pid r xs)) (by_order o ((pid, r) ∷ y ∷ ys) ((y.0, r) ∷ ys) (y ∷ put nat_cmp pid r ys))) [
+  -- the same record is stored in both
+  pub alike-put : (k : ℕ) (r : ProcessRecord) (xs ys : List (ℕ × ProcessRecord)) → AreAlikeBut pid xs ys → AreAlikeBut pid (put nat_cmp k r xs) (put nat_cmp k r ys)
+  alike-put k r [] [] is = (refl, alike-self r, λ _. refl, tt)
+  alike-put k r [] (y ∷ ys) is = absurd is
+  alike-put k r (x ∷ xs) [] is = absurd is
+  alike-put k r (x ∷ xs) (y ∷ ys) is =
+      subst (λ o. AreAlikeBut pid (by_order o ((k, r) ∷ x ∷ xs) ((x.0, r) ∷ xs) (x ∷ put nat_cmp k r xs)) (by_order (nat_cmp k y.0) ((k, r) ∷ y ∷ ys) ((y.0, r) ∷ ys) (y ∷ put nat_cmp k r ys)))
+      (ap (nat_cmp k) (sym is.0))
+      (elim (nat_cmp k y.0) as (λ o. AreAlikeBut pid (by_order o ((k, r) ∷ x ∷ xs) ((x.0, r) ∷ xs) (x ∷ put nat_cmp k r xs)) (by_order o ((k, r) ∷ y ∷ ys) ((y.0, r) ∷ ys) (y ∷ put nat_cmp k r ys))) [
         | Less ↦ (refl, alike-self r, λ _. refl, is)
         | Equal ↦ (is.0, alike-self r, λ _. refl, is.3)
-        | Greater ↦ (is.0, is.1, is.2, alike-put r xs ys is.3)
+        | Greater ↦ (is.0, is.1, is.2, alike-put k r xs ys is.3)
+      ])
+
+  -- the same records are removed from both
+  pub alike-where : (test : ℕ → Bool) (xs ys : List (ℕ × ProcessRecord)) → AreAlikeBut pid xs ys → AreAlikeBut pid (where_key nat_cmp test xs) (where_key nat_cmp test ys)
+  alike-where test [] [] is = tt
+  alike-where test [] (y ∷ ys) is = absurd is
+  alike-where test (x ∷ xs) [] is = absurd is
+  alike-where test (x ∷ xs) (y ∷ ys) is =
+      subst (λ b. AreAlikeBut pid (cond b (x ∷ where_key nat_cmp test xs) (where_key nat_cmp test xs)) (cond (test y.0) (y ∷ where_key nat_cmp test ys) (where_key nat_cmp test ys))) (ap test (sym is.0))
+      (elim (test y.0) as (λ b. AreAlikeBut pid (cond b (x ∷ where_key nat_cmp test xs) (where_key nat_cmp test xs)) (cond b (y ∷ where_key nat_cmp test ys) (where_key nat_cmp test ys))) [
+        | true ↦ (is.0, is.1, is.2, alike-where test xs ys is.3)
+        | false ↦ alike-where test xs ys is.3
       ])
 
   alike-held : (g : Process → List ℕ) → ((p q : Process) → p ≡ record q { registers = p.registers; buffer = p.buffer } → g p ≡ g q)
@@ -63,42 +76,26 @@ module _ (pid : ℕ) where
   alike-parent (ended_record above status) (live q) is = absurd is
   alike-parent (ended_record above status) (ended_record parent code) is = is.0
 
--- ---- similar attempts
+-- ---- similar states
 
-abbrev pub Alike : ℕ → Attempt Effect → Attempt Effect → Type 0
-Alike pid (done w (x, r)) (done v (y, q)) = (w ≡ v) × (r ≡ q) × (process_at x pid ≡ process_at y pid)
-Alike pid (refused w e c) (refused v f d) = (w ≡ v) × (e ≡ f) × (c ≡ d)
-Alike pid _ _ = ⊥
+-- y is x with other registers and buffers of the other processes
+pub record AreSimilar (pid : ℕ) (x y : State) : Type 0 where
+  pub processes : List (ℕ × ProcessRecord)
+  pub same : y ≡ record x { processes = processes }
+  pub alike : AreAlikeBut pid processes x.processes
 
 module _ (pid : ℕ) where
-  pub alike-after : (n : ℕ) (a b : Attempt Effect) → Alike pid a b → Alike pid (after_walks n a) (after_walks n b)
-  alike-after n (done w (x, r)) (done v (y, q)) is = (ap (λ k. n + k) is.0, is.1, is.2)
-  alike-after n (done w (x, r)) (refused v f d) is = absurd is
-  alike-after n (refused w e c) (done v (y, q)) is = absurd is
-  alike-after n (refused w e c) (refused v f d) is = (ap (λ k. n + k) is.0, is.1, is.2)
-
-  pub alike-bind : {B : Type 0} (a : Attempt B) (k h : B → Attempt Effect) → ((v : B) → Alike pid (k v) (h v)) → Alike pid (a >>= k) (a >>= h)
-  alike-bind (done w v) k h is = alike-after w (k v) (h v) (is v)
-  alike-bind (refused w e c) k h is = (refl, refl, refl)
-
-  pub alike-then : {B : Type 0} (a : Attempt B) (k h : Attempt Effect) → Alike pid k h → Alike pid (a >> k) (a >> h)
-  alike-then (done w v) k h is = alike-after w k h is
-  alike-then (refused w e c) k h is = (refl, refl, refl)
-
-  pub alike-room : (x y : State) (n : ℕ) → (collect x).tree ≡ (collect y).tree → process_at x pid ≡ process_at y pid → Alike pid (with_room x >>= (λ roomy. answers roomy n)) (with_room y >>= (λ roomy. answers roomy n))
-  alike-room x y n tree at =
-      subst (λ t. Alike pid ((refuse_if EFBIG (is_too_long t) >> (refuse_if ENOSPC (not (fits t)) >> give x)) >>= (λ roomy. answers roomy n)) (with_room y >>= (λ roomy. answers roomy n))) (sym tree)
-      (by (is_too_long (collect y).tree) (fits (collect y).tree))
-    where
-      by : (long fit : Bool) → Alike pid ((refuse_if EFBIG long >> (refuse_if ENOSPC (not fit) >> give x)) >>= (λ roomy. answers roomy n)) ((refuse_if EFBIG long >> (refuse_if ENOSPC (not fit) >> give y)) >>= (λ roomy. answers roomy n))
-      by true fit = (refl, refl, refl)
-      by false true = (refl, refl, at)
-      by false false = (refl, refl, refl)
-
   -- similar processes leave the same tree
   pub alike-tree : (x : State) (ps : List (ℕ × ProcessRecord)) → AreAlikeBut pid ps x.processes → (collect (record x { processes = ps })).tree ≡ (collect x).tree
   unfolding collect
   alike-tree x ps is =
-      ap₂ (λ (hs us : List ℕ). Rattle.pv_laws_trees.specs.Preserved.preserved x.tree (hs ++ map (λ f. f.node) (present (keep (among us) x.files))))
+      ap₂ (λ (hs us : List ℕ). preserved x.tree (hs ++ map (λ f. f.node) (present (keep (among us) x.files))))
       (alike-held pid held_by_process (λ p q same. ap held_by_process same) ps x.processes is)
       (alike-held pid used_files (λ p q same. ap used_files same) ps x.processes is)
+
+  pub similar-tree : (x y : State) → AreSimilar pid x y → (collect y).tree ≡ (collect x).tree
+  similar-tree x y is = ap (λ (z : State). (collect z).tree) is.same ∙ alike-tree x is.processes is.alike
+
+  -- the process is the same in both
+  pub similar-process : (x y : State) → AreSimilar pid x y → process_at y pid ≡ process_at x pid
+  similar-process x y is = ap (λ z. process_at z pid) is.same ∙ ap live_process (alike-find pid is.processes x.processes is.alike)

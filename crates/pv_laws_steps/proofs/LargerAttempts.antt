@@ -1,5 +1,5 @@
 -- Attempts in a larger image, which correspond to those in the smaller one unless these reach a limit.
-use Rattle.std.proofs.Common.{◌≡◌, ℕ, suc, ◌*◌, ◌-◌, ◌≤◌, Bool, true, false, cond, not, List, ◌∷◌, ◌++◌, length, refl, ap, sym, subst, ◌∙◌, ◌⊎◌, inl, inr, ⊎_elim}
+use Rattle.std.proofs.Common.{◌≡◌, ℕ, suc, ◌*◌, ◌-◌, ◌≤◌, Bool, true, false, not, List, ◌∷◌, ◌++◌, length, refl, ap, sym, subst, ◌∙◌, ◌⊎◌, inl, inr, ⊎_elim}
 use Rattle.pv_model.specs.declared.errno.Errno.{Errno}
 use Rattle.pv_model.specs.declared.errno.Errno.TheVariants.{EFBIG, ENOSPC}
 use Rattle.pv_model.specs.declared.place.Place.{Place}
@@ -43,13 +43,6 @@ module _ (blocks inodes : ℕ) where
   pub follows-bind : {B : Type 0} (a b : Attempt B) → b ≡ a → (k h : B → Attempt Effect) → ((v : B) → Follows (k v) (h v)) → Follows (a >>= k) (b >>= h)
   follows-bind a b same k h is = subst (λ c. Follows (a >>= k) (c >>= h)) (sym same) (by_bind a k h is)
 
-  by_then : {B : Type 0} (a : Attempt B) (k h : Attempt Effect) → Follows k h → Follows (a >> k) (a >> h)
-  by_then (done walks v) k h is = follows-after walks k h is
-  by_then (refused walks e c) k h is = inr refl
-
-  pub follows-then : {B : Type 0} (a b : Attempt B) → b ≡ a → (k h : Attempt Effect) → Follows k h → Follows (a >> k) (b >> h)
-  follows-then a b same k h is = subst (λ c. Follows (a >> k) (c >> h)) (sym same) (by_then a k h is)
-
   -- a check of a limit that fails in the larger image only if it fails in the smaller one
   pub follows-limit : (e : Errno) → is_limit e ≡ true → (b c : Bool) → (b ≡ false → c ≡ false) → (k h : Attempt Effect) → Follows k h → Follows (refuse_if e b >> k) (refuse_if e c >> h)
   follows-limit e limit true c short k h is = inl limit
@@ -61,10 +54,6 @@ module _ (blocks inodes : ℕ) where
       ⊎_elim
       (λ long. subst (λ (w : Walked). Follows (place_or_refusal n w >>= k) (place_or_refusal n q >>= h)) (sym long) (inl refl))
       (λ same. follows-bind (place_or_refusal n r) (place_or_refusal n q) (ap (place_or_refusal n) same) k h is) alike
-
-  pub follows-cond : (b : Bool) (x y v w : Attempt Effect) → Follows x v → Follows y w → Follows (cond b x y) (cond b v w)
-  follows-cond true x y v w is more = is
-  follows-cond false x y v w is more = more
 
   -- ---- collection
 

@@ -1,6 +1,6 @@
 -- Each call, in two states that differ inside another process: calls that check for room, by the properties of the tree
 -- that they check.
-use Rattle.std.proofs.Common.{◌≡◌, ◌≢◌, ℕ, zero, suc, ◌≤◌, ℤ, Bool, true, false, cond, not, ◌&&◌, ◌||◌, if◌then◌else◌, nat_le, nat_lt, ◌+◌, [], length, take, drop, Option, None, Some, is_some, is_none, Result, Ok, Err, refl, ap, ap₂, sym, subst, ◌∙◌, inl, inr, ◌⊎◌, ⊎_elim, arith}
+use Rattle.std.proofs.Common.{◌≡◌, ◌≢◌, ℕ, zero, suc, ◌≤◌, Bool, true, false, cond, if◌then◌else◌, ◌+◌, [], length, take, drop, Option, None, Some, is_some, Ok, refl, ap, ap₂, sym, subst, ◌∙◌, inl, inr, ◌⊎◌, ⊎_elim, arith, List, ◌∷◌}
 use Rattle.std.specs.FinMap.Entries.{find, put, is_sorted, length-put}
 use Rattle.std.proofs.lemmas.Bool.{and_parts, cases_eq, eq-eqb, or_right}
 use Rattle.std.proofs.lemmas.Cmp.{nat_list_cmp_total}
@@ -8,17 +8,10 @@ use Rattle.pv_model.specs.declared.call.Call.{Call}
 use Rattle.pv_model.specs.declared.call.Call.TheVariants as TheCall
 use Rattle.pv_model.specs.declared.call.Start.{Start}
 use Rattle.pv_model.specs.declared.call.Start.TheVariants.{WorkingDirectory}
-use Rattle.pv_model.specs.declared.errno.Errno.{Errno}
-use Rattle.pv_model.specs.declared.errno.Errno.TheVariants.{EFBIG, EPERM, EBADF, ENOENT, EBUSY, EEXIST, ENOTDIR, EISDIR, EINVAL, ENAMETOOLONG, ENOTEMPTY, ENFILE, EMFILE, ELOOP}
-use Rattle.pv_model.specs.declared.follow.Follow.{Follow}
-use Rattle.pv_model.specs.declared.follow.Follow.TheVariants.{Last, Keep, KeepTrimmed}
-use Rattle.pv_model.specs.declared.limits.TheConstants.{BUFFER, DESCRIPTORS, LINK_TEXT, OPEN_FILES}
+use Rattle.pv_model.specs.declared.follow.Follow.TheVariants.{Keep}
 use Rattle.pv_model.specs.declared.open_flags.OpenFlags.{OpenFlags}
-use Rattle.pv_model.specs.declared.outcome.Cause.TheVariants.{Plain}
-use Rattle.pv_model.specs.declared.perms.Perms.{Perms}
 use Rattle.pv_model.specs.declared.place.Place.{Place}
-use Rattle.pv_model.specs.Machine.{effect, Attempt, done, refused, ◌>>=◌, ◌>>◌, refuse_if, demand, Bytes, is_empty, with_descriptor, is_link, contradicts, within, natural, with_content, is_past_greatest, new_open_file, open_file_for, write_place, write_end, open_node, open_at, check_start, write, ftruncate, same_node, contains_directory, is_directory_there, entries_there, ends_in_dot, link, move_entry, rename, Effect, returns, answers, place_or_refusal, walk_from, judge_for, with_room, node_of, name_of, open_file, start_directory, bytes_of, overwrite, resize, among, permissions_of_open, Numbered, at_number, with_number, least_free, permission_r, permission_c, entry_length, is_file, OpenFile, Program, Process, State, writes, process_at, Entries, Node, directory_node, file_node, link_node, Tree, node_at, entries_of, entries_at, is_directory, is_directory_at, find_entry, named_numbers, new_number, with_new_node, with_entry, without_entry, resolve, follow_of, from_here}
-use Rattle.pv_model.specs.Calls.Paths.{make}
+use Rattle.pv_model.specs.Machine.{effect, Attempt, ◌>>=◌, Bytes, with_descriptor, with_content, new_open_file, write_place, same_node, Effect, answers, with_room, node_of, name_of, start_directory, bytes_of, overwrite, among, Numbered, at_number, with_number, least_free, entry_length, is_file, OpenFile, Program, Process, State, process_at, Entries, Node, directory_node, file_node, link_node, Tree, node_at, entries_of, entries_at, is_directory, is_directory_at, find_entry, named_numbers, new_number, with_new_node, with_entry, without_entry, resolve, follow_of, end_of, Walk, walks_of, open_walk, rename_walk, with_process}
 use Rattle.pv_laws_trees.specs.Room.{IsNoLonger, IsNoLarger}
 use Rattle.pv_laws_trees.proofs.Changes.{node_at-same, node_at-other, directory-below, entries-good, shape-without_entry, found-with, with_entry-stays, without_entry-stays, cases_name}
 use Rattle.pv_laws_trees.proofs.Entries.{by_name, report}
@@ -29,7 +22,7 @@ use Rattle.pv_laws_trees.proofs.Trees.{IsOrdered, ordered, among-entry, entry-am
 use Rattle.pv_laws_trees.proofs.Generic.{not-there}
 use Rattle.pv_laws_states.specs.States.{is_text, is_call, IsValid}
 use Rattle.pv_laws_states.proofs.Attempts.{Leads}
-use Rattle.pv_laws_states.proofs.ByFile.{open_file_for-at}
+use Rattle.pv_laws_states.proofs.ByFile.{open_file-at}
 use Rattle.pv_laws_states.proofs.ByTree.{FineName, named-place, place-there, fine-place}
 use Rattle.pv_laws_states.proofs.GrownTrees.{carries-entries}
 use Rattle.pv_laws_states.proofs.CallRests
@@ -38,8 +31,13 @@ use Rattle.pv_laws_states.proofs.WalkStarts.{StartsWell, leads-start}
 use Rattle.pv_laws_access.proofs.ChangedTrees.{entries-content}
 use Rattle.pv_laws_steps.specs.Beside.{with_change}
 use Rattle.pv_laws_steps.proofs.ChangedPairs.{IsBeside, Beside}
-use Rattle.pv_laws_steps.proofs.BesideCalls.{changes, asks_room, CallsAlong, calls-along, CallsLeave, leave-along}
-use Rattle.pv_laws_steps.proofs.ChangedProcess.{KeepsParent}
+use Rattle.pv_laws_steps.proofs.BesideCalls.{changes, CallsLeave, own-beside, leave-beside}
+use Rattle.pv_laws_steps.proofs.ChangedProcess.{KeepsParent, changed}
+use Rattle.pv_laws_states.proofs.RespectedParts.{OthersRespect, others-processes, others-files, others-tree, same-own}
+use Rattle.pv_laws_states.proofs.RelatedCalls.{OpensAt, RespectsRoom, call-both}
+use Rattle.pv_laws_states.proofs.RelatedAttempts.{kept-by-checks, all-then}
+use Rattle.std.specs.List.{AllByRecursion}
+use Rattle.pv_model.specs.Walks.{new_link_walk}
 
 -- ---- an entry for another node needs no more room
 
@@ -108,39 +106,30 @@ pub record RoomsKnown (k : ℕ) (f : Process → Process) (s : State) (pid : ℕ
 pub directory-there : (t : Tree) (n : ℕ) → is_directory_at t n ≡ true → is_some (node_at t n) ≡ true
 directory-there t n is = file_or_directory (node_at t n) (or_right (is_file (node_at t n)) (is_directory_at t n) is)
 
-module _ (k : ℕ) (f : Process → Process) (s : State) (pid : ℕ) (me : Process) (whole : IsValid s) (at : process_at s pid ≡ Some me) (R : Attempt Effect → Attempt Effect → Type 0) (S : State → State → Type 0)
-    (along : CallsAlong k f s pid me R S) (rooms : RoomsKnown k f s pid me R) where
+-- the paths of the walks of a call are texts
+text-walked : (call : Call) → is_call call ≡ true → AllByRecursion (λ (w : Walk). is_text w.path ≡ true) (walks_of call)
+text-walked (TheCall.Unveil None permissions) good = tt
+text-walked (TheCall.Unveil (Some path) None) good = tt
+text-walked (TheCall.Unveil (Some path) (Some text)) good = ((and_parts (is_text path) (is_text text) good).0, tt)
+text-walked (TheCall.Execve path) good = (good, tt)
+text-walked (TheCall.Open path flags) good = (good, tt)
+text-walked (TheCall.OpenAt start path flags) good = ((and_parts _ (is_text path) good).1, tt)
+text-walked (TheCall.Chdir path) good = (good, tt)
+text-walked (TheCall.Stat path) good = (good, tt)
+text-walked (TheCall.Lstat path) good = (good, tt)
+text-walked (TheCall.Readlink path) good = (good, tt)
+text-walked (TheCall.Mkdir path) good = (good, tt)
+text-walked (TheCall.Symlink text path) good = ((and_parts (is_text text) (is_text path) good).1, tt)
+text-walked (TheCall.Link path new) good = let both = and_parts (is_text path) (is_text new) good in (both.0, (both.1, tt))
+text-walked (TheCall.Unlink path) good = (good, tt)
+text-walked (TheCall.Rmdir path) good = (good, tt)
+text-walked (TheCall.Rename path new) good = let both = and_parts (is_text path) (is_text new) good in (both.0, (both.1, tt))
+text-walked call good = tt
+
+module _ (k : ℕ) (f : Process → Process) (s : State) (pid : ℕ) (me : Process) (whole : IsValid s) (at : process_at s pid ≡ Some me) (A : Attempt Effect → Attempt Effect → Type 0) (S : State → State → Type 0)
+    (o : OthersRespect A S s (changed k f s.processes) pid me me) (puts : (q : Process) → S (with_process s pid q) (with_process (with_change s k f) pid q)) (rooms : RoomsKnown k f s pid me A) where
   abbrev u : State
   u = with_change s k f
-
-  -- ---- properties after the parts of a system call
-
-  bound-known : {B : Type 0} (Q : B → Type 0) (a : Attempt B) (g h : B → Attempt Effect) → Leads Q a → ((v : B) → Q v → R (g v) (h v)) → R (a >>= g) (a >>= h)
-  bound-known Q (done w v) g h leads is = along.walked w (g v) (h v) (is v leads)
-  bound-known Q (refused w e c) g h leads is = along.refuses w e c
-
-  following-known : {B : Type 0} (Q : Type 0) (a : Attempt B) (g h : Attempt Effect) → Leads (λ _. Q) a → (Q → R g h) → R (a >> g) (a >> h)
-  following-known Q (done w v) g h leads is = along.walked w g h (is leads)
-  following-known Q (refused w e c) g h leads is = along.refuses w e c
-
-  tested : (e : Errno) (b : Bool) (g h : Attempt Effect) → (b ≡ false → R g h) → R (refuse_if e b >> g) (refuse_if e b >> h)
-  tested e true g h is = along.refuses 0 e Plain
-  tested e false g h is = along.walked 0 g h (is refl)
-
-  demanded : {B : Type 0} (e : Errno) (o : Option B) (g h : B → Attempt Effect) → ((v : B) → o ≡ Some v → R (g v) (h v)) → R (demand e o >>= g) (demand e o >>= h)
-  demanded e None g h is = along.refuses 0 e Plain
-  demanded e (Some v) g h is = along.walked 0 (g v) (h v) (is v refl)
-
-  judged : (start : ℕ) (follow : Follow) (path : Bytes) (needed : Perms) (g h : Place → Attempt Effect) → ((place : Place) → resolve s.tree follow start path ≡ Ok place → R (g place) (h place))
-      → R (walk_from s start follow path >>= (λ place. judge_for s me place needed >> g place)) (walk_from u start follow path >>= (λ place. judge_for u me place needed >> h place))
-  judged start follow path needed g h is =
-      bound-known (λ place. resolve s.tree follow start path ≡ Ok place) (walk_from s start follow path) (λ place. judge_for s me place needed >> g place) (λ place. judge_for u me place needed >> h place)
-      (by _ (resolve s.tree follow start path) refl)
-      (λ place found. along.following (judge_for s me place needed) (g place) (h place) (is place found))
-    where
-      by : (n : ℕ) (r : Result Place Errno) → resolve s.tree follow start path ≡ r → Leads (λ place. resolve s.tree follow start path ≡ Ok place) (place_or_refusal n r)
-      by n (Ok place) found = found
-      by n (Err e) found = tt
 
   -- ---- extended trees
 
@@ -206,28 +195,6 @@ module _ (k : ℕ) (f : Process → Process) (s : State) (pid : ℕ) (me : Proce
   free-name : (place : Place) (p : ℕ × Bytes) → IsFinePlace s.tree place → name_of place ≡ Some p → node_of place ≡ None → FineName s.tree p None
   free-name place p fine named free = subst (FineName s.tree p) free (named-place s.tree place p fine named)
 
-  -- ---- a new node or another name
-
-  make-known : (follow : Follow) (node : Node) (path : Bytes) → is_text path ≡ true → entries_of (Some node) ≡ [] → R (make s pid me (from_here follow path permission_c) node) (make u pid me (from_here follow path permission_c) node)
-  make-known follow node path text bare =
-      judged me.directory follow path permission_c (CallRests.make_1 s pid me node) (CallRests.make_1 u pid me node) (λ place found.
-      tested EEXIST (is_some (node_of place)) (CallRests.make_2 s pid me node place) (CallRests.make_2 u pid me node place) (λ free.
-      demanded EEXIST (name_of place) (CallRests.make_3 s pid me node) (CallRests.make_3 u pid me node) (λ p named.
-      let fine = free-name place p (fine-place s pid me whole at follow path place text found) named (not-there (node_of place) free) in
-      rooms.room (with_new_node s.tree p.0 p.1 node) s.files 0 (goes-on (with_new_node s.tree p.0 p.1 node) (names-new p fine node bare)))))
-
-  link-known : (path new : Bytes) → is_text new ≡ true → R (link s pid me path new) (link u pid me path new)
-  link-known path new text =
-      judged me.directory Last path permission_r (CallRests.link_1 s pid me new) (CallRests.link_1 u pid me new) (λ old_place old_found.
-      judged me.directory Keep new permission_c (CallRests.link_2 s pid me old_place) (CallRests.link_2 u pid me old_place) (λ new_place new_found.
-      demanded ENOENT (node_of old_place) (CallRests.link_3 s pid me new_place) (CallRests.link_3 u pid me new_place) (λ n is.
-      tested EPERM (is_directory_at s.tree n) (CallRests.link_4 s pid me new_place n) (CallRests.link_4 u pid me new_place n) (λ plain.
-      tested EEXIST (is_some (node_of new_place)) (CallRests.link_5 s pid me new_place n) (CallRests.link_5 u pid me new_place n) (λ free.
-      demanded EEXIST (name_of new_place) (CallRests.link_6 s pid me n) (CallRests.link_6 u pid me n) (λ p named.
-      let fine = free-name new_place p (fine-place s pid me whole at Keep new new_place text new_found) named (not-there (node_of new_place) free) in
-      rooms.room (with_entry s.tree p.0 p.1 n) s.files 0
-      (goes-on (with_entry s.tree p.0 p.1 n) (λ e q x has. entry-among (with_entry s.tree p.0 p.1 n) e q x (entry-stays s.tree p.0 p.1 fine.directory fine.found n e q x has)))))))))
-
   -- ---- a rename
 
   module _ (n : ℕ) (p q : ℕ × Bytes) (from : FineName s.tree p (Some n)) where
@@ -270,40 +237,13 @@ module _ (k : ℕ) (f : Process → Process) (s : State) (pid : ℕ) (me : Proce
         no_larger-along s.tree between renamed
         (no_larger-replaced between q.0 q.1 n m (between-directory q.0 into.directory) (entries-good between q.0 good.each_node).0 has) less
 
-    moved-by : (there : Option ℕ) → FineName s.tree q there → same_node there n ≡ false → R (CallRests.move_5 s pid me n p.0 p.1 q.0 q.1) (CallRests.move_5 u pid me n p.0 p.1 q.0 q.1)
+    moved-by : (there : Option ℕ) → FineName s.tree q there → same_node there n ≡ false → A (CallRests.move_5 s pid me n p.0 p.1 q.0 q.1) (CallRests.move_5 u pid me n p.0 p.1 q.0 q.1)
     moved-by None into other = rooms.room renamed s.files 0 (goes-on renamed (names-moved into))
     moved-by (Some m) into other = rooms.smaller renamed 0 (smaller-moved m into (λ same. let is = eq-eqb m n same in cc (sym is ∙ other)))
 
-    move-known : (there : Option ℕ) → FineName s.tree q there → same_node there n ≡ false
-        → R (move_entry s pid me n p.0 p.1 q.0 q.1 there) (move_entry u pid me n p.0 p.1 q.0 q.1 there)
-    move-known there into other =
-        along.following (refuse_if EINVAL (contains_directory s.tree n q.0)) (CallRests.move_2 s pid me n p.0 p.1 q.0 q.1 there) (CallRests.move_2 u pid me n p.0 p.1 q.0 q.1 there)
-        (along.following (refuse_if EISDIR (is_directory_there s.tree there && not (is_directory_at s.tree n))) (CallRests.move_3 s pid me n p.0 p.1 q.0 q.1 there) (CallRests.move_3 u pid me n p.0 p.1 q.0 q.1 there)
-        (along.following (refuse_if ENOTDIR (is_directory_at s.tree n && is_some there && not (is_directory_there s.tree there))) (CallRests.move_4 s pid me n p.0 p.1 q.0 q.1 there) (CallRests.move_4 u pid me n p.0 p.1 q.0 q.1 there)
-        (along.following (refuse_if ENOTEMPTY (not (is_empty (entries_there s.tree there)))) (CallRests.move_5 s pid me n p.0 p.1 q.0 q.1) (CallRests.move_5 u pid me n p.0 p.1 q.0 q.1)
-        (moved-by there into other))))
-
-  rename-known : (path new : Bytes) → is_text path ≡ true → is_text new ≡ true → R (rename s pid me path new) (rename u pid me path new)
-  rename-known path new text texts =
-      along.following (refuse_if EINVAL (ends_in_dot path || ends_in_dot new)) _ _ (
-      judged me.directory Keep path permission_c (CallRests.rename_1 s pid me new) (CallRests.rename_1 u pid me new) (λ old_place old_found.
-      judged me.directory Keep new permission_c (CallRests.rename_2 s pid me old_place) (CallRests.rename_2 u pid me old_place) (λ new_place new_found.
-      demanded ENOENT (node_of old_place) (CallRests.rename_3 s pid me old_place new_place) (CallRests.rename_3 u pid me old_place new_place) (λ n is.
-      demanded EBUSY (name_of old_place) (CallRests.rename_4 s pid me new_place n) (CallRests.rename_4 u pid me new_place n) (λ p old_named.
-      demanded EBUSY (name_of new_place) (CallRests.rename_5 s pid me new_place n p) (CallRests.rename_5 u pid me new_place n p) (λ q new_named.
-      by n p q (node_of new_place)
-      (subst (FineName s.tree p) is (named-place s.tree old_place p (fine-place s pid me whole at Keep path old_place text old_found) old_named))
-      (named-place s.tree new_place q (fine-place s pid me whole at Keep new new_place texts new_found) new_named)
-      (same_node (node_of new_place) n) refl))))))
-    where
-      by : (n : ℕ) (p q : ℕ × Bytes) (there : Option ℕ) → FineName s.tree p (Some n) → FineName s.tree q there → (b : Bool) → same_node there n ≡ b
-          → R (if b then answers s 0 else move_entry s pid me n p.0 p.1 q.0 q.1 there) (if b then answers u 0 else move_entry u pid me n p.0 p.1 q.0 q.1 there)
-      by n p q there from into true is = along.does 0 (returns 0) s u (along.left s.tree s.files)
-      by n p q there from into false is = move-known n p q from there into is
-
   -- ---- bytes
 
-  written-known : (m : ℕ) (file : OpenFile) (count : ℕ) → at_number s.files m ≡ Some file → R (CallRests.write_3 s pid me m file count) (CallRests.write_3 u pid me m file count)
+  written-known : (m : ℕ) (file : OpenFile) (count : ℕ) → at_number s.files m ≡ Some file → A (CallRests.write_3 s pid me m file count) (CallRests.write_3 u pid me m file count)
   written-known m file zero is = rooms.room s.tree s.files 0 (goes-on s.tree names-same)
   written-known m file (suc n) is =
       let bytes : Bytes = take (suc n) me.buffer in
@@ -314,68 +254,74 @@ module _ (k : ℕ) (f : Process → Process) (s : State) (pid : ℕ) (me : Proce
       (goes-with t (names-content file.node _) m new (omega (arith, at_number-below s.files m file is))
       (λ old there. let both : Some file ≡ Some old = sym is ∙ there in let same : file ≡ old = cc both in ap (λ (o : OpenFile). o.node) same) (inl (file-there m file is)))
 
-  write-known : (d n : ℤ) → R (write s pid me d n) (write u pid me d n)
-  write-known d n =
-      demanded EBADF (open_file_for s pid me writes d) (CallRests.write_1 s pid me n) (CallRests.write_1 u pid me n) (λ (m, file) is.
-      demanded EINVAL (within BUFFER n) (CallRests.write_2 s pid me m file) (CallRests.write_2 u pid me m file) (λ count low.
-      along.following (refuse_if EFBIG (is_past_greatest s.tree (write_end s pid me file count))) (CallRests.write_3 s pid me m file count) (CallRests.write_3 u pid me m file count)
-      (written-known m file count (open_file_for-at s pid me writes d m file is).0)))
+  -- ---- the parts of a call
 
-  cut-known : (d n : ℤ) → R (ftruncate s pid me d n) (ftruncate u pid me d n)
-  cut-known d n =
-      demanded EBADF (open_file s me d) (CallRests.ftruncate_1 s pid me n) (CallRests.ftruncate_1 u pid me n) (λ (m, file) is.
-      along.following (refuse_if EINVAL (not (writes file.mode))) (CallRests.ftruncate_2 s pid me n file) (CallRests.ftruncate_2 u pid me n file) (
-      demanded EINVAL (natural n) (CallRests.ftruncate_3 s pid me file) (CallRests.ftruncate_3 u pid me file) (λ size counted.
-      along.following (refuse_if EFBIG (is_past_greatest s.tree size)) (CallRests.ftruncate_4 s pid me file size) (CallRests.ftruncate_4 u pid me file size)
-      (rooms.room (with_content s.tree file.node (resize (bytes_of (node_at s.tree file.node)) size)) s.files 0 (goes-on _ (names-content file.node _))))))
+  module _ (program_of : Bytes → Option Program) (call : Call) (good : is_call call ≡ true) where
+    abbrev B : List Walk → Attempt Effect → Attempt Effect → Type 0
+    B ws = A
 
-  -- ---- open
+    text-of : (w : Walk) → walks_of call ≡ w ∷ [] → is_text w.path ≡ true
+    text-of w walks = let all : AllByRecursion (λ (w : Walk). is_text w.path ≡ true) (w ∷ []) = subst (AllByRecursion (λ (w : Walk). is_text w.path ≡ true)) walks (text-walked call good) in all.0
 
-  node-known : (g : OpenFlags) (place : Place) → IsFinePlace s.tree place → (name : Option (ℕ × Bytes)) (node : Option ℕ) → name_of place ≡ name → node_of place ≡ node
-      → R (open_node s pid me g name node >>= CallRests.open_7 s pid me) (open_node u pid me g name node >>= CallRests.open_7 u pid me)
-  node-known g place fine name (Some n) named is =
-      let t : Tree = if g.truncate then with_content s.tree n [] else s.tree in
-      along.walked 0 _ _
-      (rooms.opened t (with_number s.files (least_free s.files) (new_open_file g n)) (least_free s.files) g.close_on_exec (least_free me.descriptors)
-      (goes-opened t (names-cut n g.truncate) (new_open_file g n) (inl (place-there s.tree whole.tree place n fine is))))
-  node-known g place fine (Some p) None named is =
-      let new : Node = file_node false [] in
-      let free = free-name place p fine named is in
-      along.walked 0 _ _
-      (rooms.opened (with_new_node s.tree p.0 p.1 new) (with_number s.files (least_free s.files) (new_open_file g (new_number s.tree))) (least_free s.files) g.close_on_exec (least_free me.descriptors)
-      (goes-opened (with_new_node s.tree p.0 p.1 new) (names-new p free new refl) (new_open_file g (new_number s.tree)) (inr (named-newly p free new refl))))
-  node-known g place fine None None named is = along.refuses 0 ENOENT Plain
+    good-as : (c : Call) → call ≡ c → is_call c ≡ true
+    good-as c is = subst (λ c. is_call c ≡ true) is good
 
-  open-known : (start : Start) (path : Bytes) (g : OpenFlags) → is_text path ≡ true → R (open_at s pid me start path g) (open_at u pid me start path g)
-  open-known start path g text =
-      let from : ℕ = start_directory s me start path in
-      along.following (refuse_if EINVAL (contradicts g)) (check_start s pid me start path >> CallRests.open_a s pid me path g from) (check_start u pid me start path >> CallRests.open_a u pid me path g from)
-      (following-known (StartsWell s pid me from) (check_start s pid me start path) (CallRests.open_a s pid me path g from) (CallRests.open_a u pid me path g from) (leads-start s pid me start path) (λ well.
-      along.following (refuse_if EMFILE (nat_le DESCRIPTORS (least_free me.descriptors))) (CallRests.open_b s pid me path g from) (CallRests.open_b u pid me path g from)
-      (along.following (refuse_if ENFILE (nat_le OPEN_FILES (least_free s.files))) (CallRests.open_c s pid me path g from) (CallRests.open_c u pid me path g from)
-      (judged from (follow_of g) path (permissions_of_open g) (CallRests.open_1 s pid me g) (CallRests.open_1 u pid me g) (λ place found.
-      along.following (refuse_if EEXIST (g.create && g.exclusive && is_some (CallRests.node_there s pid me place))) (CallRests.open_2 s pid me g place) (CallRests.open_2 u pid me g place)
-      (along.following (refuse_if ENOENT (is_none (CallRests.node_there s pid me place) && not g.create)) (CallRests.open_3 s pid me g place) (CallRests.open_3 u pid me g place)
-      (along.following (refuse_if ELOOP (is_link (CallRests.node_there s pid me place))) (CallRests.open_4 s pid me g place) (CallRests.open_4 u pid me g place)
-      (along.following (refuse_if ENOTDIR (g.directory && not (is_directory (CallRests.node_there s pid me place)))) (CallRests.open_5 s pid me g place) (CallRests.open_5 u pid me g place)
-      (along.following (refuse_if EISDIR (is_directory (CallRests.node_there s pid me place) && writes g.mode)) (CallRests.open_6 s pid me g place) (CallRests.open_6 u pid me g place)
-      (node-known g place (resolve-fine s.tree whole.tree (follow_of g) from path place (well (my-placed s pid me whole at).directory) text found) (name_of place) (node_of place) refl refl))))))))))
+    made : (w : Walk) (node : Node) → walks_of call ≡ w ∷ [] → w.start ≡ WorkingDirectory → entries_of (Some node) ≡ [] → (place : Place) → end_of s me w ≡ Ok place → is_some (node_of place) ≡ false
+        → (p : ℕ × Bytes) → name_of place ≡ Some p → A (CallRests.make_3 s pid me node p) (CallRests.make_3 u pid me node p)
+    made w node walks here bare place found free p named =
+        let from : resolve s.tree w.follow me.directory w.path ≡ Ok place = ap (λ x. resolve s.tree w.follow (start_directory s me x w.path) w.path) (sym here) ∙ found in
+        let fine = free-name place p (fine-place s pid me whole at w.follow w.path place (text-of w walks) from) named (not-there (node_of place) free) in
+        rooms.room (with_new_node s.tree p.0 p.1 node) s.files 0 (goes-on (with_new_node s.tree p.0 p.1 node) (names-new p fine node bare))
 
-  -- each call that checks for room
-  rooms-known : (program_of : Bytes → Option Program) (call : Call) → is_call call ≡ true → asks_room call ≡ true → R (effect program_of s pid me call) (effect program_of u pid me call)
-  unfolding effect
-  rooms-known program_of (TheCall.Open path flags) good is = open-known WorkingDirectory path flags good
-  rooms-known program_of (TheCall.OpenAt start path flags) good is = open-known start path flags (and_parts _ (is_text path) good).1
-  rooms-known program_of (TheCall.Write d n) good is = write-known d n
-  rooms-known program_of (TheCall.Ftruncate d n) good is = cut-known d n
-  rooms-known program_of (TheCall.Mkdir path) good is = make-known KeepTrimmed (directory_node []) path good refl
-  rooms-known program_of (TheCall.Symlink text path) good is =
-      along.following (refuse_if ENOENT (is_empty text)) _ _
-      (along.following (refuse_if ENAMETOOLONG (nat_lt LINK_TEXT (length text))) (make s pid me (from_here Keep path permission_c) (link_node text)) (make u pid me (from_here Keep path permission_c) (link_node text))
-      (make-known Keep (link_node text) path (and_parts (is_text text) (is_text path) good).1 refl))
-  rooms-known program_of (TheCall.Link path new) good is = link-known path new (and_parts (is_text path) (is_text new) good).1
-  rooms-known program_of (TheCall.Rename path new) good is = let both = and_parts (is_text path) (is_text new) good in rename-known path new both.0 both.1
-  rooms-known program_of call good is = cc is
+    linked : (path new : Bytes) → call ≡ TheCall.Link path new → (place : Place) → end_of s me (new_link_walk new) ≡ Ok place → is_some (node_of place) ≡ false → (n : ℕ) (p : ℕ × Bytes) → name_of place ≡ Some p
+        → A (CallRests.link_6 s pid me n p) (CallRests.link_6 u pid me n p)
+    linked path new is place found free n p named =
+        let text = (and_parts (is_text path) (is_text new) (good-as (TheCall.Link path new) is)).1 in
+        let fine = free-name place p (fine-place s pid me whole at Keep new place text found) named (not-there (node_of place) free) in
+        rooms.room (with_entry s.tree p.0 p.1 n) s.files 0
+        (goes-on (with_entry s.tree p.0 p.1 n) (λ e q x has. entry-among (with_entry s.tree p.0 p.1 n) e q x (entry-stays s.tree p.0 p.1 fine.directory fine.found n e q x has)))
+
+    moved : (path new : Bytes) → call ≡ TheCall.Rename path new → (old_place new_place : Place) → end_of s me (rename_walk path) ≡ Ok old_place → end_of s me (rename_walk new) ≡ Ok new_place
+        → (n : ℕ) (p q : ℕ × Bytes) → node_of old_place ≡ Some n → name_of old_place ≡ Some p → name_of new_place ≡ Some q → same_node (node_of new_place) n ≡ false
+        → A (CallRests.move_5 s pid me n p.0 p.1 q.0 q.1) (CallRests.move_5 u pid me n p.0 p.1 q.0 q.1)
+    moved path new is old_place new_place old_found found n p q there old_named named other =
+        let both = and_parts (is_text path) (is_text new) (good-as (TheCall.Rename path new) is) in
+        moved-by n p q (subst (FineName s.tree p) there (named-place s.tree old_place p (fine-place s pid me whole at Keep path old_place both.0 old_found) old_named))
+        (node_of new_place) (named-place s.tree new_place q (fine-place s pid me whole at Keep new new_place both.1 found) named) other
+
+    fine-open : (start : Start) (path : Bytes) (g : OpenFlags) (place : Place) → OpensAt B program_of s u pid me me call start path g place → IsFinePlace s.tree place
+    fine-open start path g place it =
+        let well : StartsWell s pid me (start_directory s me start path) = subst (Leads (λ _. StartsWell s pid me (start_directory s me start path))) it.begun (leads-start s pid me start path) in
+        resolve-fine s.tree whole.tree (follow_of g) (start_directory s me start path) path place (well (my-placed s pid me whole at).directory) (text-of (open_walk start path g) it.walks) it.found
+
+    room : RespectsRoom B program_of s u pid me me call
+    room = record {
+      makes = made;
+      links = linked;
+      moves = moved;
+      opens = λ start path g place it n is.
+          let t : Tree = if g.truncate then with_content s.tree n [] else s.tree in
+          rooms.opened t (with_number s.files (least_free s.files) (new_open_file g n)) (least_free s.files) g.close_on_exec (least_free me.descriptors)
+          (goes-opened t (names-cut n g.truncate) (new_open_file g n) (inl (place-there s.tree whole.tree place n (fine-open start path g place it) is)));
+      creates = λ start path g place it p named is.
+          let new : Node = file_node false [] in
+          let free = free-name place p (fine-open start path g place it) named is in
+          rooms.opened (with_new_node s.tree p.0 p.1 new) (with_number s.files (least_free s.files) (new_open_file g (new_number s.tree))) (least_free s.files) g.close_on_exec (least_free me.descriptors)
+          (goes-opened (with_new_node s.tree p.0 p.1 new) (names-new p free new refl) (new_open_file g (new_number s.tree)) (inr (named-newly p free new refl)));
+    }
+
+    pub call-known : A (effect program_of s pid me call) (effect program_of u pid me call)
+    call-known =
+        call-both B program_of s u pid me me call (record {
+          checks = kept-by-checks A o.all;
+          processes = others-processes A S s (changed k f s.processes) pid me me o program_of call;
+          own = same-own A S s (changed k f s.processes) pid me o puts program_of call;
+          files = others-files A S s (changed k f s.processes) pid me me o program_of call
+              (λ d n is m file here may count few. all-then A o.all _ _ refl (CallRests.write_3 s pid me m file count) (CallRests.write_3 u pid me m file count) (written-known m file count (open_file-at s me d m file here)))
+              (λ d n is m file here size. all-then A o.all _ _ refl (CallRests.ftruncate_4 s pid me file size) (CallRests.ftruncate_4 u pid me file size) (rooms.room _ s.files 0 (goes-on _ (names-content file.node _))));
+          tree = others-tree A S s (changed k f s.processes) pid me me o program_of call;
+          room = room;
+        })
 
 -- the change applies after a call, and its check for room has the same result
 pub record CallsFit (k : ℕ) (f : Process → Process) (s : State) (pid : ℕ) (me : Process) (Fit : State → Type 0) : Type 0 where
@@ -387,6 +333,5 @@ pub calls-fit : (k : ℕ) (f : Process → Process) → KeepsParent f → (s : S
     → (Fit : State → Type 0) → CallsFit k f s pid me Fit → (program_of : Bytes → Option Program) (call : Call) → is_call call ≡ true
     → Beside (changes k f) Fit (effect program_of s pid me call) (effect program_of (with_change s k f) pid me call)
 calls-fit k f keeps s pid me whole at other next_other Fit fits program_of call good =
-    let along = leave-along k f s pid me other next_other Fit fits.leave in
-    calls-along k f keeps s pid me (Beside (changes k f) Fit) (IsBeside (changes k f) Fit) along program_of call
-    (rooms-known k f s pid me whole at (Beside (changes k f) Fit) (IsBeside (changes k f) Fit) along fits.rooms program_of call good)
+    call-known k f s pid me whole at (Beside (changes k f) Fit) (IsBeside (changes k f) Fit) (leave-beside k f keeps s pid me other next_other Fit fits.leave)
+    (own-beside k f keeps s pid me other next_other Fit fits.leave) fits.rooms program_of call good
