@@ -50,10 +50,7 @@ first-is s t keys endings reported witnesses complete first added witness none e
 
 -- ---- a step
 
--- a text that is not shown, and one that is
-pub shown-none : (pid : ℕ) (witness : List ℕ) (text : Bytes) → is_shown text ≡ false → [] ≡ shown_bytes pid witness text
-shown-none pid witness text is = ap (λ b. if b then move_bytes pid witness text else []) (sym is)
-
+-- a text that is shown
 pub shown-some : (pid : ℕ) (witness : List ℕ) (text : Bytes) → is_shown text ≡ true → move_bytes pid witness text ≡ shown_bytes pid witness text
 shown-some pid witness text is = ap (λ b. if b then move_bytes pid witness text else []) (sym is)
 

@@ -48,12 +48,6 @@ witness-reported (Known number) witness visited reported = refl
 witness-reported Full witness visited reported = refl
 witness-reported New witness visited reported = refl
 
--- the states do not depend on the witnesses
-pub witness-keys : (found : Visit) (witness : List ℕ) (visited : Visited) → (with_witness found witness visited).keys ≡ visited.keys
-witness-keys (Known number) witness visited = refl
-witness-keys Full witness visited = refl
-witness-keys New witness visited = refl
-
 pub visited-followed : (observe : Observer Bytes) (limit : ℕ) (visited after : Visited) (witness : List ℕ) (pid : ℕ) (t : State) (texts : List Bytes) (keys reported : List Bytes) (found : Visit) → IsFollowed observe limit visited.keys keys t pid texts found → reported ≡ reported_after visited.reported texts
     → after ≡ with_witness found witness (record visited { keys = keys; reported = reported }) → after ≡ visited_after limit visited (move_of witness pid t) (observe t pid (stepped t pid))
 visited-followed observe limit visited after witness pid t texts keys reported found it reported_is after_is =

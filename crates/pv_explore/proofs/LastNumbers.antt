@@ -1,5 +1,5 @@
 -- The last process number given, and the live processes.
-use Rattle.std.proofs.Common.{◌≡◌, inl, inr, ⊎_elim, ◌∙◌, sym, ap, subst, ℕ, suc, ◌+◌, ◌≤◌, true, false, pos, negsuc, Option, None, Some, is_some, IsSome, refl, add-one, arith}
+use Rattle.std.proofs.Common.{◌≡◌, inl, inr, ⊎_elim, ◌∙◌, sym, ap, subst, ℕ, suc, ◌+◌, true, false, pos, negsuc, Option, None, Some, is_some, IsSome, refl, add-one}
 use Rattle.std.specs.FinMap.Entries.{find}
 use Rattle.std.specs.Ordering.{nat_cmp}
 use Rattle.std.proofs.lemmas.Bool.{cases_eq}
@@ -98,8 +98,3 @@ number-next s known whole (inr more) is = add-one known ∙ sym more.0
 pub number-same : (s : State) (known : ℕ) → GaveNumber s known → is_some (process_at s (known + 1)) ≡ false → known ≡ s.last_process
 number-same s known (inl same) is = sym same
 number-same s known (inr more) is = let there : is_some (process_at s (known + 1)) ≡ true = ap (λ n. is_some (process_at s n)) (add-one known) ∙ more.1 in cc
-
--- no number exceeds the maximum
-pub number-most : (s : State) (known most : ℕ) → GaveNumber s known → s.last_process ≤ most → most ≤ known → known ≡ s.last_process
-number-most s known most (inl same) low high = sym same
-number-most s known most (inr more) low high = let is = more.0 in absurd (omega arith)

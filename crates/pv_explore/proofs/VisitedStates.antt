@@ -1,9 +1,8 @@
 -- The data stored with visited states: it stays right when more is stored, and gives the steps of states.
-use Rattle.std.proofs.Common.{◌≡◌, ◌≢◌, ◌∙◌, sym, ap, ap₂, subst, ℕ, zero, suc, ◌+◌, ◌<◌, ◌⊎◌, inl, inr, Bool, true, false, ◌||◌, ◌==◌, cond, not, nat_lt, vec_len, set, List, [], ◌∷◌, ◌++◌, get_or, length, map, take, bytes_eq, slice_get, Option, None, Some, option_map, refl, arith, ⊎_elim}
+use Rattle.std.proofs.Common.{◌≡◌, ◌≢◌, ◌∙◌, sym, ap, ap₂, subst, ℕ, zero, suc, ◌+◌, ◌<◌, ◌⊎◌, inl, inr, Bool, true, false, ◌||◌, ◌==◌, cond, not, nat_lt, vec_len, List, [], ◌∷◌, ◌++◌, get_or, length, map, take, bytes_eq, slice_get, Option, None, Some, option_map, refl, arith, ⊎_elim}
 use Rattle.std.specs.Global.{Vec}
 use Rattle.std.specs.Prelude.{Result, Ok, Err, OnOk, OnErr, position}
-use Rattle.std.proofs.lemmas.List.{length-map, length-set}
-use Rattle.std.proofs.lemmas.Bool.{eqb-false, eqb-true}
+use Rattle.std.proofs.lemmas.List.{length-map}
 use Rattle.std.proofs.lemmas.Bool.Decides.{nat_tests}
 use Rattle.pv_explore.specs.declared.states.Visit.{Visit}
 use Rattle.pv_explore.specs.declared.states.Visit.TheVariants.{Known, Full, New}
@@ -24,9 +23,7 @@ use Rattle.pv_step_cache.proofs.KeyLists.{number-none}
 use Rattle.pv_step_cache.proofs.Keys.{groups-encoded}
 use Rattle.pv_step_cache.proofs.LiveOwners.{owners-are}
 use Rattle.pv_step_cache.proofs.Recalling.{recalled-again, steps-added, steps-more}
-use Rattle.pv_step_cache.specs.Steps.{Adds}
 use Rattle.pv_laws_states.specs.States.{IsValid}
-use Rattle.pv_step_lines.proofs.OfProcs.Loads.{slice_get-set_other, slice_get-set_same}
 use Rattle.pv_model.specs.Machine.{has_ended, Observer, Bytes, is_empty, State}
 use Rattle.pv_step_cache.proofs.OfLawsAnswers.StateDecoding.{same-state_numbers}
 use Rattle.pv_step_lines.specs.OfSession.Running.{stepped}
@@ -197,12 +194,6 @@ module _ (parts groups parts_now groups_now : List Bytes) (parts_grew : Grew par
   pub steps-grew : (observe : Observer Bytes) (steps : List CachedStep) → AreCachedSteps observe parts groups steps → AreCachedSteps observe parts_now groups_now steps
   steps-grew observe steps all = steps-more (number_of parts groups) (IsGroupVisited parts groups) (number_of parts_now groups_now) (IsGroupVisited parts_now groups_now) keeps-more observe steps all
 
-  -- one more step
-  pub step-visited : (observe : Observer Bytes) (t : State) (pid : ℕ) (before after : List Cell) (texts : List Bytes) (old new : List CachedStep) → IsValid t → AreCellsOf parts groups t before → AreCellsOf parts_now groups_now (stepped t pid).after after
-      → texts ≡ observe t pid (stepped t pid) → AreCachedSteps observe parts groups old → Adds old new pid before after texts → AreCachedSteps observe parts_now groups_now new
-  step-visited observe t pid before after texts old new whole there left observed all adds =
-      steps-added (number_of parts_now groups_now) (IsGroupVisited parts_now groups_now) observe (apart parts_now groups_now) t pid before after texts old new whole (cells-grew t before there) left observed (steps-grew observe old all) adds
-
   pub fine-grew : {observe : Observer Bytes} (rows : List Bytes) (cells : List (Vec Cell)) (steps : List CachedStep) → IsFine observe parts groups rows cells steps → IsFine observe parts_now groups_now rows cells steps
   fine-grew {observe} rows cells steps fine = record {
     rows_are = rows-grew parts groups parts_now groups_now parts_grew groups_grew rows fine.rows_are;
@@ -210,10 +201,6 @@ module _ (parts groups parts_now groups_now : List Bytes) (parts_grew : Grew par
     cells_are = λ k cs row at there. ⊎_elim inl (λ it. inr (cells-at-grew row cs.items it)) (fine.cells_are k cs row at there);
     steps_are = steps-grew observe steps fine.steps_are;
   }
-
--- other cached transitions
-pub fine-steps : {observe : Observer Bytes} (parts groups rows : List Bytes) (cells : List (Vec Cell)) (steps new : List CachedStep) → IsFine observe parts groups rows cells steps → AreCachedSteps observe parts groups new → IsFine observe parts groups rows cells new
-fine-steps parts groups rows cells steps new fine all = record { rows_are = fine.rows_are; few = fine.few; cells_are = fine.cells_are; steps_are = all }
 
 -- ---- one more row
 
@@ -246,20 +233,6 @@ get-end [] x = refl
 get-end (z ∷ xs) x = get-end xs x
 
 -- released cells
-pub let-go : (old new : List (Vec Cell)) (number : ℕ) (v : Vec Cell) → number < length old → new ≡ set old number v → v.items ≡ [] → AreReleased old new
-let-go old new number v within is none = record { long = ap length is ∙ length-set old number v; each = λ k cs at. each k cs (ap (λ (all : List (Vec Cell)). slice_get all k) (sym is) ∙ at) }
-  where
-    each : (k : ℕ) (cs : Vec Cell) → slice_get (set old number v) k ≡ Some cs → (cs.items ≡ []) ⊎ (slice_get old k ≡ Some cs)
-    each k cs at = by (k == number) refl
-      where
-        by : (b : Bool) → (k == number) ≡ b → (cs.items ≡ []) ⊎ (slice_get old k ≡ Some cs)
-        by true same =
-            let here : slice_get (set old number v) number ≡ Some cs = ap (slice_get (set old number v)) (sym (eqb-true k number same)) ∙ at in
-            let one : Some v ≡ Some cs = sym (slice_get-set_same old number v within) ∙ here in
-            let v_is : v ≡ cs = cc in
-            inl (ap (λ (c : Vec Cell). c.items) (sym v_is) ∙ none)
-        by false other = inr (sym (slice_get-set_other old number k v (eqb-false k number other)) ∙ at)
-
 pub fine-unreference : {observe : Observer Bytes} (parts groups rows : List Bytes) (cells new : List (Vec Cell)) (steps : List CachedStep) → IsFine observe parts groups rows cells steps → AreReleased cells new → IsFine observe parts groups rows new steps
 fine-unreference parts groups rows cells new steps fine it = record {
   rows_are = fine.rows_are;
@@ -379,12 +352,6 @@ module _ {observe : Observer Bytes} (parts groups rows : List Bytes) (cells : Li
 
     pub fine-arrived : (rows_now : List Bytes) (cells_now : List (Vec Cell)) → ArePlaced (cells_row cs.items) cs rows rows_now cells cells_now → IsFine observe parts_now groups_now rows_now cells_now steps_now
     fine-arrived rows_now cells_now placed = fine-placed parts_now groups_now rows cells steps_now fine-made (stepped made.state pid).after cs left-are rows_now cells_now placed
-
--- a state that was added has the last number
-pub number-new : (limit : ℕ) (old new : List Bytes) (t : State) (found : Visit) → IsFoundIn limit old new (state_key t) found → found ≡ New → HasNumber new (length old) t
-number-new limit old new t (Known number) it is = cc
-number-new limit old new t Full it is = cc
-number-new limit old new t New it is = ap (λ (keys : List Bytes). slice_get keys (length old)) it.2 ∙ get-end old (state_key t)
 
 -- ---- live processes
 

@@ -2,19 +2,18 @@
 //!
 //! `first_machine` has a machine before its first step, which can be rebuilt; `position` has a machine at the end of a
 //! schedule, and `checkpoints` keeps machines along the schedule that was followed last. `search` visits the states:
-//! `states` stores each as a row of indices into tables of its parts, and `witnesses` stores the schedule that
-//! leads to each. A step whose transition is in the cache is not made. Any other step is made on a copy of a checkpoint,
-//! and if it leads to a new state, `ahead` lets the copy make a few more steps to fill the cache.
+//! `states` stores each as a row of indices into tables of its parts, and `witnesses` stores the schedule that leads to
+//! each. A step whose transition is in the cache is not made. Any other step is made on a copy of a checkpoint.
 //!
 //! `observer` has the trait of what is observed of the steps, and `searched` the search with an observer: each text
 //! observed is written with a witness. `explore` observes the trace lines of each step, and `graph` writes each state
-//! with its transitions. `visited` gives the visited states one at a time, and `side` the states of one machine for a search of
-//! pairs. `witness` writes a schedule, `numbers` sorts numbers, `unheard` is a sink that discards, and `progress` is the trait for progress reports. `specs/Plan` specifies the search, and `proofs/Planned` proves that it visits the states and writes
-//! the texts of the definitions.
+//! with its transitions. `visited` gives the visited states one at a time, and `side` the states of one machine for a
+//! search of pairs. `witness` writes a schedule, `numbers` sorts numbers, `unheard` is a sink that discards, and
+//! `progress` is the trait for progress reports. `specs/Plan` specifies the search, and `proofs/Planned` proves that it
+//! visits the states and writes the texts of the definitions.
 #![tactic(auto)]
 
 mod after;
-mod ahead;
 mod checkpoints;
 mod explore;
 mod first_machine;

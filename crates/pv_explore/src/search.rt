@@ -3,8 +3,7 @@ ghost use Rattle.std.specs.Prelude.{◌≡◌, ◌<◌, ◌++◌, ◌∷◌, [],
 ghost use Rattle.std.specs.List.{list_any};
 ghost use Rattle.pv_explore.specs.Observing.{is_shown};
 ghost use Rattle.pv_explore.specs.Plan.{added_to, endings_after, first_visited, move_bytes, new_bytes, reported_after, reported_bytes, reported_from, shown_bytes, state_key, visited_from, with_found_at};
-ghost use Rattle.pv_explore.specs.VisitedStates.{HasNumber, IsFoundIn, IsMade};
-ghost use Rattle.pv_explore.specs.declared.states.Visit.TheVariants.{New};
+ghost use Rattle.pv_explore.specs.VisitedStates.{HasNumber, IsMade};
 ghost use Rattle.pv_explore.specs.Searches.{AreAt, endings_found, HasMoved, HasMovedAll, HasMovedFrom, IsAt, live_of, state_of, text_from, text_of_move, text_of_moves, visited_of, with_witness};
 ghost use Rattle.pv_explore.specs.Witnesses.{longer, witness_of};
 ghost use Rattle.pv_laws_states.specs.States.{IsValid};
@@ -228,28 +227,6 @@ pub fn first_endings(alloc: Global, position: &Position) -> Result<Keys, StepFau
     Ok(endings)
 }
 
-/// Makes speculative steps with a machine if its visit added its state, as state `number`. Returns the machine, in an
-/// unspecified state.
-///
-/// # Errors
-///
-/// `NoMemory`, if there is no memory.
-pub(crate) fn go_ahead<O: Observer + Drop>(
-    alloc: Global,
-    states: &mut States<O>,
-    number: usize,
-    position: Position,
-    found: Visit,
-) -> Result<Position, StepFault>
-    requires { found ≡ New → HasNumber states.old number position }
-    ensures { OnOk result (states.new ≡ states.old) }
-{
-    match found {
-        Visit::Known(_) | Visit::Full => Ok(position),
-        Visit::New => states.go_ahead(alloc, number, position),
-    }
-}
-
 impl<O: Observer + Drop> Search<O> {
     /// Returns a search that has visited the first state only.
     ///
@@ -342,11 +319,10 @@ impl<O: Observer + Drop> Search<O> {
         texts: Vec<Vec<u8>>,
         inside: bool,
         position: &Position,
-    ) -> Result<Visit, StepFault>
+    ) -> Result<(), StepFault>
         requires made { IsMade O.observe self.old.states number pid (texts_in texts.items) inside position.now }
         requires found { number < length (visited_of self.old).witnesses }
-        ensures visited { OnOk result (visited_of self.new ≡ with_found_at limit (visited_of self.old) (longer (visited_of self.old).witnesses number pid) position.now) }
-        ensures found { IfOk result (IsFoundIn limit self.old.states self.new.states (state_key position.now)) }
+        ensures { OnOk result (visited_of self.new ≡ with_found_at limit (visited_of self.old) (longer (visited_of self.old).witnesses number pid) position.now) }
     {
         let found = self.states.arrive(
             alloc,
@@ -358,13 +334,11 @@ impl<O: Observer + Drop> Search<O> {
             position,
         )?;
         add_found_ending(alloc, &mut self.endings, position, found)?;
-        self.keep_witness(number, pid, found)?;
-        Ok(found)
+        self.keep_witness(number, pid, found)
     }
 
     // Makes a step of a process with a machine in state `number`. Writes its texts if they are new, caches the transition,
-    // and visits the state after it. If that state is new, the machine makes speculative steps. Returns the machine, in an
-    // unspecified state.
+    // and visits the state after it. Returns the machine, in an unspecified state.
     fn make_new_move<W: Sink>(
         &mut self,
         alloc: Global,
@@ -394,9 +368,8 @@ impl<O: Observer + Drop> Search<O> {
             &texts,
             out,
         )?;
-        let next = self.states.len();
-        let found = self.visit(alloc, limit, number, pid, texts, inside, &position)?;
-        Ok(go_ahead(alloc, &mut self.states, next, position, found)?)
+        self.visit(alloc, limit, number, pid, texts, inside, &position)?;
+        Ok(position)
     }
 
     // Returns the machine in state `number`.

@@ -13,7 +13,7 @@ use crate::checkpoints::Checkpoints;
 use crate::first_machine::FirstMachine;
 use crate::observer::Observer;
 use crate::position::{ObservedStep, Position};
-use crate::search::{first_states, go_ahead};
+use crate::search::first_states;
 use crate::states::{Followed, States, Visit};
 use pv_model::StepFault;
 use std::alloc::{AllocError, Global};
@@ -167,10 +167,9 @@ impl<'a, O: Observer + Drop> Side<'a, O> {
         let found = self
             .states
             .arrive(alloc, limit, number, pid, texts, inside, &position)?;
-        let machine = go_ahead(alloc, &mut self.states, before, position, found)?;
         let number = number_of(found, before);
         Ok((
-            machine,
+            position,
             SideStep {
                 texts: copy,
                 number,

@@ -2,7 +2,7 @@
 ghost use Rattle.std.specs.Prelude.{◌≡◌, ◌++◌, ◌∷◌, [], length, position, bytes_eq, IfOk, IfSome, OnErr, OnOk};
 ghost use Rattle.std.specs.List.{AllByRecursion};
 ghost use Rattle.pv_explore.specs.Rows.{AreOfState, Grew, IsAmong, IsGroupVisited, group_row, number_in, parts_in, state_row};
-ghost use Rattle.pv_explore.specs.VisitedStates.{AreCellsIn, AreReleased, AreLiveAt, ArePlaced, ArePushed, AreStoredAt, AreEncoded, HasNumber, IsFoundBy, IsFoundIn, IsMade, IsRecalled, IsValidAt, MayFollow, MayKeep, cells_row, number_of};
+ghost use Rattle.pv_explore.specs.VisitedStates.{AreCellsIn, AreReleased, AreLiveAt, ArePlaced, ArePushed, AreStoredAt, AreEncoded, IsFoundBy, IsFoundIn, IsMade, IsRecalled, IsValidAt, MayFollow, MayKeep, cells_row, number_of};
 ghost use Rattle.pv_explore.specs.Observing.{stays_inside};
 ghost use Rattle.pv_explore.specs.Plan.{state_key};
 ghost use Rattle.pv_model.specs.Machine.{process_at};
@@ -12,7 +12,6 @@ ghost use Rattle.pv_step_cache.specs.OfStateEncoding.Groups.{groups_of, joined};
 ghost use Rattle.pv_step_cache.specs.OfStateEncoding.Encoded.{encoded_all, encoded_of};
 
 use crate::after::cells_after;
-use crate::ahead::make_ahead;
 use crate::observer::Observer;
 use crate::position::{ObservedStep, Position};
 use pv_model::StepFault;
@@ -457,38 +456,6 @@ impl<O: Observer + Drop> States<O> {
         ensures { self.new ≡ self.old }
     {
         empty_cells(alloc, &mut self.cells, number);
-    }
-
-    /// Makes speculative steps with a machine in state `number` and caches their transitions, as `make_ahead` does, if
-    /// the cells of the state are stored. Returns the machine, in an unspecified state.
-    ///
-    /// # Errors
-    ///
-    /// `NoMemory`, if there is no memory.
-    pub(crate) fn go_ahead(
-        &mut self,
-        alloc: Global,
-        number: usize,
-        position: Position,
-    ) -> Result<Position, StepFault>
-        requires { HasNumber self.old number position }
-        ensures { OnOk result (self.new ≡ self.old) }
-    {
-        let Some(cells) = self.cells.get(number) else {
-            return Ok(position);
-        };
-        if cells.is_empty() {
-            return Ok(position);
-        }
-        make_ahead(
-            alloc,
-            &mut self.observer,
-            &mut self.parts,
-            &mut self.groups,
-            &mut self.steps,
-            position,
-            cells,
-        )
     }
 
     /// Takes a step of a process in state `number` from the cache, if its transition is cached and leaves some process

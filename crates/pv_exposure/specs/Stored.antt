@@ -4,7 +4,7 @@ use Rattle.pv_model.specs.Machine.{Found, Located, first_of, Bytes, Process, pro
 use Rattle.pv_model_questions.specs.declared.finding_kind.FindingKind.{FindingKind}
 use Rattle.pv_model_questions.specs.declared.finding_kind.FindingKind.TheVariants.{Leak, Peer, Edit, Read}
 use Rattle.pv_model_questions.specs.Exposure.{files_read, finding_by, reason_by}
-use Rattle.pv_session.specs.Running.{stepped}
+use Rattle.pv_reduced.specs.OfSession.Running.{stepped}
 use Rattle.pv_exposure.specs.Collected.{Exposed, Recorded, recorded_of, with_all}
 use Rattle.pv_exposure.specs.StateFiles.{AreFilesOf}
 use Rattle.pv_exposure.specs.declared.findings.StoredFinding.{StoredFinding}

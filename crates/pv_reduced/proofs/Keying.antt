@@ -1,11 +1,10 @@
 -- The encoding of the representative of a state, part by part.
 use Rattle.std.proofs.Common.{◌≡◌, ◌≢◌, ◌∙◌, sym, ap, ap₂, subst, ℕ, ℤ, pos, zero, suc, ◌+◌, ◌-◌, ◌<◌, ◌≤◌, ◌⊎◌, inl, inr, min, Bool, true, false, if◌then◌else◌, List, [], ◌∷◌, ◌++◌, length, length-append, map, flat_map, take, get_or, set, replicate, append_assoc, append-nil, Option, None, Some, option_map, is_some, nat_lt, arith, refl}
-use Rattle.std.specs.Global.{Vec}
 use Rattle.std.specs.FinMap.Entries.{find}
 use Rattle.std.specs.Ordering.{nat_cmp}
 use Rattle.std.proofs.lemmas.Bool.{cases_lt, ltb-false, ltb-true}
 use Rattle.std.proofs.lemmas.Grind.{flat_map-append}
-use Rattle.std.proofs.lemmas.List.{ext_get_or, get_or-set_other, get_or-set_same, length-map, length-replicate, length-set, map-append, take-replicate, take_all}
+use Rattle.std.proofs.lemmas.List.{ext_get_or, get_or-set_other, get_or-set_same, length-map, length-replicate, length-set, take-replicate, take_all}
 use Rattle.pv_state_encoding.proofs.OfAnswers.Following.{IsNextRecord, Recorded, all-after, none-after, records_after}
 use Rattle.pv_files.specs.Descriptors.{is_marked}
 use Rattle.pv_laws_classes.specs.Canonical.{canonical, index_in, no_file, references}
@@ -19,10 +18,10 @@ use Rattle.pv_state_encoding.specs.OfProcs.Parts.{record_of}
 use Rattle.pv_state_encoding.specs.OfProcs.ProcessTable.{IsProcessTable, ProcessTable, ended_process, number_after}
 use Rattle.pv_state_encoding.specs.OfProcs.declared.record.ProcessRecord.{ProcessRecord as Owned}
 use Rattle.pv_reduced.specs.declared.liveness.LiveLine.{LiveLine}
-use Rattle.pv_reduced.specs.Keys.{files_in, files_of_processes, groups_of_nodes, held_under, parts_under, reduced_parts, with_references}
+use Rattle.pv_reduced.specs.Keys.{files_in, files_of_processes, held_under, parts_under, reduced_parts, with_references}
 use Rattle.pv_reduced.specs.Live.{live_line}
 use Rattle.pv_reduced.proofs.Ordering.{order-is}
-use Rattle.pv_state_encoding.specs.Groups.{counts_part, ended_parts, files_part, groups_of, numbered_parts, parts_of, record_parts, state_groups, tree_part}
+use Rattle.pv_state_encoding.specs.Groups.{counts_part, ended_parts, files_part, node_parts, numbered_parts, record_parts, state_groups, tree_part}
 use Rattle.pv_state_encoding.specs.Packed.{IsAdded, packed, packed_all}
 use Rattle.pv_state_encoding.proofs.Adding.{added_both, added_small, added_then, packed-append}
 use Rattle.pv_state_encoding.proofs.Grouping.{added_whole}
@@ -262,46 +261,38 @@ added_files fs order many rest a b c d none rest_is many_is first second third =
 abbrev flattened : List (List Bytes) → List Bytes
 flattened gs = flat_map (λ g. g) gs
 
-pub nodes_next : (groups : List (Vec (Vec ℕ))) (group : Vec (Vec ℕ)) (old now new : List Bytes) → now ≡ old ++ flattened (groups_of groups) → new ≡ now ++ parts_of group → new ≡ old ++ flattened (groups_of (groups ++ group ∷ []))
-nodes_next groups group old now new so_far added =
-    added
-    ∙ ap (λ (xs : List Bytes). xs ++ parts_of group) so_far
-    ∙ append_assoc old (flattened (groups_of groups)) (parts_of group)
-    ∙ ap (λ (xs : List Bytes). old ++ xs)
-    (sym (ap flattened (map-append parts_of groups (group ∷ [])) ∙ flat_map-append (λ g. g) (groups_of groups) (parts_of group ∷ []) ∙ ap (λ (xs : List Bytes). flattened (groups_of groups) ++ xs) (append-nil (parts_of group))))
-
 records-flattened : (f : ℕ → ℕ) (rs : List Recorded) → flattened (map record_parts (renumbered_processes f (map (λ (r : Recorded). (r.0, cleared_record is_live_below r.1)) rs))) ≡ all_under f rs
 records-flattened f [] = refl
 records-flattened f ((pid, r) ∷ rs) = ap (λ (xs : List Bytes). parts_under f pid (Some r) ++ xs) (records-flattened f rs)
 
 parts-are : (bound : ℕ) (s : State) → reduced_parts bound s
-    ≡ packed_all (bound ∷ []) ∷ counts_part s.last_process (length s.processes) ∷ (all_under (index_in (references (cleared is_live_below s))) s.processes ++ files_part (files_in s.files (references (cleared is_live_below s))) ∷ tree_part s.tree ∷ flattened (groups_of_nodes s.tree))
+    ≡ packed_all (bound ∷ []) ∷ counts_part s.last_process (length s.processes) ∷ (all_under (index_in (references (cleared is_live_below s))) s.processes ++ files_part (files_in s.files (references (cleared is_live_below s))) ∷ tree_part s.tree ∷ node_parts [] s.tree.nodes)
 unfolding canonical representative state_groups
 parts-are bound s =
     let order : List ℕ = references (cleared is_live_below s) in
     let records : List Recorded = map (λ (r : Recorded). (r.0, cleared_record is_live_below r.1)) s.processes in
     let renumbered : List Recorded = renumbered_processes (index_in order) records in
-    let rest : List (List Bytes) = (files_part (files_in s.files order) ∷ tree_part s.tree ∷ []) ∷ groups_of_nodes s.tree in
+    let rest : List (List Bytes) = (files_part (files_in s.files order) ∷ tree_part s.tree ∷ []) ∷ node_parts [] s.tree.nodes ∷ [] in
     let count : length renumbered ≡ length s.processes =
     length-map records (λ (r : Recorded). (r.0, renumbered_record (index_in order) r.1)) ∙ length-map s.processes (λ (r : Recorded). (r.0, cleared_record is_live_below r.1)) in
     ap₂ (λ (n : ℕ) (xs : List Bytes). packed_all (bound ∷ []) ∷ counts_part s.last_process n ∷ xs) count
-    (flat_map-append (λ g. g) (map record_parts renumbered) rest ∙ ap (λ (xs : List Bytes). xs ++ flattened rest) (records-flattened (index_in order) s.processes))
+    (flat_map-append (λ g. g) (map record_parts renumbered) rest ∙ ap (λ (xs : List Bytes). xs ++ flattened rest) (records-flattened (index_in order) s.processes)
+    ∙ ap (λ (xs : List Bytes). all_under (index_in order) s.processes ++ files_part (files_in s.files order) ∷ tree_part s.tree ∷ xs) (append-nil (node_parts [] s.tree.nodes)))
 
-pub all_parts : (bound : ℕ) (s : State) (ps qs rs : ProcessTable) (files : Numbered OpenFile) (tree other : Tree) (order : List ℕ) (start one two three four five six : List Bytes) (bound_part counts opened sizes : Bytes) → start ≡ [] → one ≡ start ++ bound_part ∷ [] → two ≡ one ++ counts ∷ []
-    → three ≡ two ++ all_under (index_in order) rs.processes → four ≡ three ++ opened ∷ [] → five ≡ four ++ sizes ∷ [] → six ≡ five ++ flattened (groups_of_nodes other) → bound_part ≡ packed_all (bound ∷ []) → counts ≡ counts_part qs.last_process (length qs.processes)
-    → opened ≡ files_part (files_in files order) → sizes ≡ tree_part tree → order ≡ with_references [] (files_of_processes ps.processes) → ps ≡ processes_of s → qs ≡ processes_of s → rs ≡ processes_of s → files ≡ s.files → tree ≡ s.tree → other ≡ s.tree → six ≡ reduced_parts bound s
-all_parts bound s ps qs rs files tree other order start one two three four five six bound_part counts opened sizes none first second third fourth fifth sixth bound_is counts_are opened_is sizes_are order_is ps_is qs_is rs_are files_are tree_is other_is =
+pub all_parts : (bound : ℕ) (s : State) (ps qs rs : ProcessTable) (files : Numbered OpenFile) (tree other : Tree) (order : List ℕ) (start one two three four five six : List Bytes) (bound_part counts opened sizes : Bytes) (nodes : List Bytes) → start ≡ [] → one ≡ start ++ bound_part ∷ [] → two ≡ one ++ counts ∷ []
+    → three ≡ two ++ all_under (index_in order) rs.processes → four ≡ three ++ opened ∷ [] → five ≡ four ++ sizes ∷ [] → six ≡ five ++ nodes → bound_part ≡ packed_all (bound ∷ []) → counts ≡ counts_part qs.last_process (length qs.processes)
+    → opened ≡ files_part (files_in files order) → sizes ≡ tree_part tree → nodes ≡ node_parts [] other.nodes → order ≡ with_references [] (files_of_processes ps.processes) → ps ≡ processes_of s → qs ≡ processes_of s → rs ≡ processes_of s → files ≡ s.files → tree ≡ s.tree → other ≡ s.tree → six ≡ reduced_parts bound s
+all_parts bound s ps qs rs files tree other order start one two three four five six bound_part counts opened sizes nodes none first second third fourth fifth sixth bound_is counts_are opened_is sizes_are nodes_are order_is ps_is qs_is rs_are files_are tree_is other_is =
     let real : List ℕ = references (cleared is_live_below s) in
     let in_order : order ≡ real = order_is ∙ ap (λ (t : ProcessTable). with_references [] (files_of_processes t.processes)) ps_is ∙ order-is s in
     let records : List Bytes = all_under (index_in order) rs.processes in
-    let nodes : List Bytes = flattened (groups_of_nodes other) in
     let counts_here : counts ≡ counts_part s.last_process (length s.processes) = counts_are ∙ ap (λ (t : ProcessTable). counts_part t.last_process (length t.processes)) qs_is in
     let records_here : records ≡ all_under (index_in real) s.processes = ap₂ (λ (ns : List ℕ) (t : ProcessTable). all_under (index_in ns) t.processes) in_order rs_are in
     let opened_here : opened ≡ files_part (files_in s.files real) = opened_is ∙ ap₂ (λ (fs : Numbered OpenFile) (ns : List ℕ). files_part (files_in fs ns)) files_are in_order in
     let sizes_here : sizes ≡ tree_part s.tree = sizes_are ∙ ap tree_part tree_is in
-    let nodes_here : nodes ≡ flattened (groups_of_nodes s.tree) = ap (λ (t : Tree). flattened (groups_of_nodes t)) other_is in
+    let nodes_here : nodes ≡ node_parts [] s.tree.nodes = nodes_are ∙ ap (λ (t : Tree). node_parts [] t.nodes) other_is in
     let here : bound_part ∷ counts ∷ (records ++ opened ∷ sizes ∷ nodes)
-    ≡ packed_all (bound ∷ []) ∷ counts_part s.last_process (length s.processes) ∷ (all_under (index_in real) s.processes ++ files_part (files_in s.files real) ∷ tree_part s.tree ∷ flattened (groups_of_nodes s.tree)) =
+    ≡ packed_all (bound ∷ []) ∷ counts_part s.last_process (length s.processes) ∷ (all_under (index_in real) s.processes ++ files_part (files_in s.files real) ∷ tree_part s.tree ∷ node_parts [] s.tree.nodes) =
     λ i. bound_is i ∷ counts_here i ∷ (records_here i ++ opened_here i ∷ sizes_here i ∷ nodes_here i) in
     sixth
     ∙ ap (λ (xs : List Bytes). xs ++ nodes) (fifth ∙ ap (λ (xs : List Bytes). xs ++ sizes ∷ []) (fourth ∙ ap (λ (xs : List Bytes). xs ++ opened ∷ [])

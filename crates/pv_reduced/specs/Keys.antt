@@ -1,13 +1,12 @@
 -- The encoding of the representative of a state.
-use Rattle.std.specs.Prelude.{ℕ, ℤ, ◌-◌, if◌then◌else◌, List, [], ◌∷◌, ◌++◌, length, map, flat_map, drop, replicate, bytes_eq, Bool, true, false, ◌&&◌, Option, None, Some}
+use Rattle.std.specs.Prelude.{ℕ, ℤ, ◌-◌, if◌then◌else◌, List, [], ◌∷◌, ◌++◌, length, map, flat_map, replicate, bytes_eq, Bool, true, false, ◌&&◌, Option, None, Some}
 use Rattle.pv_model.specs.declared.limits.TheConstants.{OPEN_FILES}
-use Rattle.pv_model.specs.Machine.{Numbers, bool_numbers, descriptor_numbers, entry_numbers, integer_numbers, list_numbers, number_numbers, option_numbers, Bytes, among, live_processes, used_files, Numbered, at_number, present, Descriptor, OpenFile, Process, ProcessRecord, State, Tree}
+use Rattle.pv_model.specs.Machine.{Numbers, bool_numbers, descriptor_numbers, entry_numbers, integer_numbers, list_numbers, number_numbers, option_numbers, Bytes, among, live_processes, used_files, Numbered, at_number, present, Descriptor, OpenFile, Process, ProcessRecord, State}
 use Rattle.pv_laws_classes.specs.Canonical.{no_file}
 use Rattle.pv_laws_classes.specs.Liveness.{cleared_record, is_live_below}
 use Rattle.pv_laws_classes.specs.Reduced.{representative}
 use Rattle.pv_laws_classes.specs.Renumbering.{renumbered_descriptors, renumbered_record}
 use Rattle.pv_state_encoding.specs.OfProcs.declared.record.ProcessRecord.{ProcessRecord as Owned}
-use Rattle.pv_state_encoding.specs.Encoded.{tree_groups}
 use Rattle.pv_state_encoding.specs.Groups.{numbered_parts, state_groups}
 use Rattle.pv_state_encoding.specs.Packed.{packed_all}
 
@@ -43,10 +42,6 @@ files_of_live (Some p) = used_files p
 -- the open files in an order, in a table of 128
 abbrev pub files_in : Numbered OpenFile → List ℕ → Numbered OpenFile
 files_in files order = map (at_number files) order ++ replicate (OPEN_FILES - length order) no_file
-
--- the groups of the nodes of a tree, which are those of a state after the group of its open files
-abbrev pub groups_of_nodes : Tree → List (List Bytes)
-groups_of_nodes t = drop 1 (tree_groups (record { tree = t; files = []; processes = []; last_process = 0 }))
 
 -- a record with zero in dead variables, and with other numbers of open files
 abbrev pub reduced_record : (ℕ → ℕ) → ProcessRecord → ProcessRecord

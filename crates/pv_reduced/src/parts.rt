@@ -9,7 +9,7 @@ ghost use Rattle.pv_laws_classes.specs.Renumbering.{renumbered_descriptors};
 ghost use Rattle.pv_model.specs.declared.limits.TheConstants.{OPEN_FILES};
 ghost use Rattle.pv_model.specs.Machine.{bytes_numbers, descriptor_numbers, file_numbers, list_numbers, option_numbers, at_number, Program as Instructions};
 ghost use Rattle.pv_state_encoding.specs.OfProcs.ProcessTable.{process_in};
-ghost use Rattle.pv_reduced.specs.Keys.{files_in, groups_of_nodes, held_under, location_under, parts_under, promised_under, reduced_parts};
+ghost use Rattle.pv_reduced.specs.Keys.{files_in, held_under, location_under, parts_under, promised_under, reduced_parts};
 ghost use Rattle.pv_reduced.specs.Live.{live_line};
 ghost use Rattle.pv_state_encoding.specs.Groups.{counts_part, files_part, parts_of};
 ghost use Rattle.pv_state_encoding.specs.Packed.{IsAdded, packed_all};
@@ -21,10 +21,9 @@ use pv_files::{Descriptors, OpenFiles};
 use pv_model::limits::{BUFFER, DESCRIPTORS, OPEN_FILES, REGISTERS};
 use pv_state_encoding::calls_state::Parts;
 use pv_state_encoding::procs::{ProcessRecord, Processes};
-use pv_state_encoding::tree::Tree;
 use pv_state_encoding::{
-    count, group_ended, part_of_program, part_of_sizes, push_bool, push_file, push_items,
-    push_node_groups, push_number, push_promises, push_registers, push_table,
+    count, group_ended, group_of_nodes, part_of_program, part_of_sizes, push_bool, push_file,
+    push_items, push_number, push_promises, push_registers, push_table,
 };
 use std::alloc::{AllocError, Global};
 
@@ -340,19 +339,6 @@ fn part_of_counts(alloc: Global, processes: &Processes) -> Result<Vec<u8>, Alloc
     Ok(part)
 }
 
-// Appends the parts of a tree's nodes.
-#[tactic(auto, using(crate::proofs::Keying::nodes_next))]
-fn push_nodes(alloc: Global, parts: &mut Vec<Vec<u8>>, tree: &Tree) -> Result<(), AllocError>
-    ensures { OnOk result (parts_of parts.new ≡ parts_of parts.old ++ flat_map (λ group. group) (groups_of_nodes tree.now.tree)) }
-{
-    let mut groups = Vec::new(alloc);
-    push_node_groups(alloc, &mut groups, tree)?;
-    for group in groups {
-        push_parts(parts, group)?;
-    }
-    Ok(())
-}
-
 /// Returns the process number that must make the next step, or 0, and the encoding of the representative of a state, as
 /// parts. A program, a buffer or a node is a part of its own, because many states share it.
 ///
@@ -375,6 +361,6 @@ pub(crate) fn reduced_parts(
     push_processes(alloc, &mut parts, tables, processes, &order)?;
     push_part(&mut parts, part_of_files(alloc, state.files(), &order)?)?;
     push_part(&mut parts, part_of_sizes(alloc, state.tree())?)?;
-    push_nodes(alloc, &mut parts, state.tree())?;
+    push_parts(&mut parts, group_of_nodes(alloc, state.tree())?)?;
     Ok(parts)
 }

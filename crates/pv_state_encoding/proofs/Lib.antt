@@ -1,6 +1,6 @@
 -- Lemmas about the encoding: Adding (numbers in sequence), Numbering (finite maps and optional values), Nodes (entries
--- and nodes), Owned (a process's record, part by part), Records (processes in sequence), Grouping (groups of nodes; the
--- groups are the encoding of the state), Apart (the encoding is injective).
+-- and nodes), Owned (a process's record, part by part), Records (processes in sequence), Grouping (nodes, part by part;
+-- the groups are the encoding of the state), Apart (the encoding is injective).
 pub mod Adding
 pub mod Numbering
 pub mod Nodes

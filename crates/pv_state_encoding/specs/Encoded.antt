@@ -4,8 +4,7 @@ use Rattle.pv_model.specs.Machine.{Numbers, descriptor_numbers, entry_numbers, l
 use Rattle.pv_answers.specs.OfProcs.declared.record.ProcessRecord.{ProcessRecord as Owned}
 use Rattle.pv_state_encoding.specs.declared.encoded.EncodedGroup.{EncodedGroup}
 use Rattle.pv_state_encoding.specs.declared.encoded.EncodedGroup.TheVariants.{Plain, Live}
-use Rattle.pv_state_encoding.specs.declared.trees.TheConstants.{GROUP_SIZES}
-use Rattle.pv_state_encoding.specs.Groups.{counts_part, ended_parts, files_part, node_groups, parts_of, process_parts, tree_part}
+use Rattle.pv_state_encoding.specs.Groups.{counts_part, ended_parts, files_part, node_parts, parts_of, process_parts, tree_part}
 use Rattle.pv_state_encoding.specs.Packed.{packed_all}
 
 -- ---- the part of the state on which the steps of other processes depend
@@ -57,7 +56,7 @@ abbrev pub counts_group : State → List Bytes
 counts_group s = counts_part s.last_process (length s.processes) ∷ []
 
 abbrev pub tree_groups : State → List (List Bytes)
-tree_groups s = (files_part s.files ∷ tree_part s.tree ∷ []) ∷ node_groups GROUP_SIZES s.tree.nodes
+tree_groups s = (files_part s.files ∷ tree_part s.tree ∷ []) ∷ node_parts [] s.tree.nodes ∷ []
 
 -- the groups of a state
 unfoldable pub encoded : State → List Encoded

@@ -1,12 +1,11 @@
 -- A state as groups of parts, each a byte string. A part that many states share is a part of its own. The concatenation
 -- of all parts is the encoding of the state.
-use Rattle.std.specs.Prelude.{ℕ, List, [], ◌∷◌, ◌++◌, length, map, take, drop, flat_map, Option, None, Some}
+use Rattle.std.specs.Prelude.{ℕ, List, [], ◌∷◌, ◌++◌, length, map, flat_map, Option, None, Some}
 use Rattle.std.specs.Global.{Vec}
 use Rattle.pv_model.specs.Machine.{bytes_numbers, file_numbers, instruction_numbers, list_numbers, number_numbers, option_numbers, Bytes, OpenFile, Process, Program, ProcessRecord as Record, live, ended_record, State, Node, Tree}
 use Rattle.pv_model.specs.Answers.Numbers.{node_numbers, version_numbers}
 use Rattle.pv_answers.specs.OfProcs.Parts.{record_of}
 use Rattle.pv_answers.specs.OfProcs.declared.record.ProcessRecord.{ProcessRecord}
-use Rattle.pv_state_encoding.specs.declared.trees.TheConstants.{GROUP_SIZES}
 use Rattle.pv_state_encoding.specs.Packed.{packed_all}
 use Rattle.pv_state_encoding.specs.Parts.{held_numbers}
 
@@ -59,11 +58,6 @@ node_parts part [] = part ∷ []
 node_parts part (None ∷ nodes) = node_parts (part ++ node_bytes None) nodes
 node_parts part (Some node ∷ nodes) = (part ++ node_bytes (Some node)) ∷ node_parts [] nodes
 
--- nodes in groups of these sizes; the last group has the rest
-abbrev pub node_groups : List ℕ → List (Option Node) → List (List Bytes)
-node_groups [] nodes = node_parts [] nodes ∷ []
-node_groups (size ∷ sizes) nodes = node_parts [] (take size nodes) ∷ node_groups sizes (drop size nodes)
-
 abbrev pub tree_part : Tree → Bytes
 tree_part t = packed_all (version_numbers t.version ++ number_numbers t.blocks ++ number_numbers t.inodes ++ length t.nodes ∷ [])
 
@@ -79,4 +73,4 @@ counts_part last count = packed_all (last ∷ count ∷ [])
 unfoldable pub state_groups : State → List (List Bytes)
 state_groups s =
     (counts_part s.last_process (length s.processes) ∷ [])
-    ∷ (map record_parts s.processes ++ (files_part s.files ∷ tree_part s.tree ∷ []) ∷ node_groups GROUP_SIZES s.tree.nodes)
+    ∷ (map record_parts s.processes ++ (files_part s.files ∷ tree_part s.tree ∷ []) ∷ node_parts [] s.tree.nodes ∷ [])

@@ -3,7 +3,7 @@ ghost use Rattle.std.specs.Prelude.{◌≡◌, ◌∷◌, ◌++◌, [], map, IsS
 ghost use Rattle.std.specs.FinMap.Entries.{find};
 ghost use Rattle.std.specs.Ordering.{nat_cmp};
 ghost use Rattle.pv_answers.specs.OfProcs.ProcessTable.{process_in};
-ghost use Rattle.pv_state_encoding.specs.Groups.{groups_of, parts_of};
+ghost use Rattle.pv_state_encoding.specs.Groups.{parts_of};
 ghost use Rattle.pv_state_encoding.specs.Encoded.{live_encoded, numbered_encoded, plain, encoded_all, encoded_of, encoded_record};
 
 use crate::outsides::outside_of_live;
@@ -69,23 +69,6 @@ pub(crate) fn push_plain(
     ensures { OnOk result (encoded_all encoded.new.items ≡ encoded_all encoded.old.items ++ plain (parts_of group) ∷ []) }
 {
     push_encoded(encoded, EncodedGroup::Plain(group))
-}
-
-/// Appends groups that belong to no live process.
-///
-/// # Errors
-///
-/// `AllocError`, if there is no memory.
-pub(crate) fn push_plains(
-    encoded: &mut Vec<EncodedGroup>,
-    groups: Vec<Vec<Vec<u8>>>,
-) -> Result<(), AllocError>
-    ensures { OnOk result (encoded_all encoded.new.items ≡ encoded_all encoded.old.items ++ map plain (groups_of groups.items)) }
-{
-    for group in groups {
-        push_plain(encoded, group)?;
-    }
-    Ok(())
 }
 
 /// Appends the groups of all processes, by process number.

@@ -26,4 +26,4 @@ pub use pv_answers as answers;
 pub use pv_answers::{calls_state, procs};
 pub use pv_image_write::tree;
 pub use states::{encoded_counts, encoded_state, encoded_trees, state_groups};
-pub use trees::{part_of_sizes, push_node_groups, push_tree};
+pub use trees::{group_of_nodes, part_of_sizes, push_tree};

@@ -3,12 +3,12 @@ ghost use Rattle.std.specs.Prelude.{◌≡◌, ◌++◌, ◌∷◌, [], length, 
 ghost use Rattle.pv_state_encoding.specs.Groups.{counts_part, files_part, groups_of, parts_of, state_groups, tree_part};
 ghost use Rattle.pv_state_encoding.specs.Encoded.{counts_group, encoded, encoded_all, encoded_of, plain, tree_groups};
 
-use crate::encoded::{EncodedGroup, push_encoded_processes, push_plain, push_plains};
+use crate::encoded::{EncodedGroup, push_encoded_processes, push_plain};
 use crate::files::part_of_files;
 use crate::numbers::push_number;
 use crate::parts::{push_group, push_part};
 use crate::processes::{count, push_process_groups};
-use crate::trees::{part_of_sizes, push_node_groups};
+use crate::trees::{group_of_nodes, part_of_sizes};
 use pv_answers::calls_state::Parts;
 use pv_answers::procs::Processes;
 use std::alloc::{AllocError, Global};
@@ -63,7 +63,7 @@ pub fn state_groups(
     )?;
     push_process_groups(alloc, &mut groups, parts.processes())?;
     push_group(&mut groups, group_of_files(alloc, parts)?)?;
-    push_node_groups(alloc, &mut groups, parts.tree())?;
+    push_group(&mut groups, group_of_nodes(alloc, parts.tree())?)?;
     Ok(groups)
 }
 
@@ -76,10 +76,7 @@ fn push_trees(
     ensures { OnOk result (encoded_all encoded.new.items ≡ encoded_all encoded.old.items ++ map plain (tree_groups parts.now)) }
 {
     push_plain(encoded, group_of_files(alloc, parts)?)?;
-    let mut nodes = Vec::new(alloc);
-    push_node_groups(alloc, &mut nodes, parts.tree())?;
-    push_plains(encoded, nodes)?;
-    Ok(())
+    push_plain(encoded, group_of_nodes(alloc, parts.tree())?)
 }
 
 /// Returns the encoding of a state as groups of parts, each with its owner and, for a live process, its outside view.

@@ -1,21 +1,17 @@
 //! Trees.
-ghost use Rattle.std.specs.Prelude.{◌≡◌, ◌<◌, ◌≤◌, ◌+◌, ◌-◌, ◌⊎◌, ◌∷◌, ◌++◌, [], false, take, drop, flat_map, length, option_map, IsSome, IsTrue, IfSome, IfOk, Some, OnOk};
+ghost use Rattle.std.specs.Prelude.{◌≡◌, ◌∷◌, ◌++◌, [], false, flat_map, length, option_map, IsSome, IsTrue, IfSome, IfOk, Some, OnOk};
 ghost use Rattle.pv_image_write.specs.OfDirs.Trees.{bytes_at};
 ghost use Rattle.pv_model.specs.Machine.{bytes_numbers, list_numbers, number_numbers, option_numbers, tree_numbers, next_name, node_at, entries_at, find_entry, is_directory_at};
 ghost use Rattle.pv_model.specs.Answers.Numbers.{name_numbers, node_numbers, version_numbers};
-ghost use Rattle.pv_state_encoding.specs.Groups.{groups_of, node_groups, node_parts, parts_of, tree_part};
+ghost use Rattle.pv_state_encoding.specs.Groups.{node_parts, parts_of, tree_part};
 ghost use Rattle.pv_state_encoding.specs.Packed.{IsAdded};
 ghost use Rattle.pv_state_encoding.specs.Parts.{if_there};
 
 use crate::numbers::{push_bool, push_bytes, push_items, push_number};
-use crate::parts::{push_group, push_part};
+use crate::parts::push_part;
 use pv_image_write::tree::Tree;
 use pv_model::{Kind, Name, Version};
 use std::alloc::{AllocError, Global};
-
-/// The number of nodes in each group of a state. The last group, which is not listed, has the remaining nodes. The
-/// first groups are small because nodes with low numbers change most.
-pub(crate) const GROUP_SIZES: [u16; 9] = [16, 16, 32, 64, 128, 256, 512, 1024, 2048];
 
 // Returns the name of a directory that follows the last one, with its node. `before` is a guess of the number of names
 // before it.
@@ -194,20 +190,18 @@ pub fn part_of_sizes(alloc: Global, tree: &Tree) -> Result<Vec<u8>, AllocError>
     Ok(part)
 }
 
-// Returns the group of the nodes in a range of numbers, which excludes its end. A part ends with a node in use.
-fn group_of_nodes(
-    alloc: Global,
-    tree: &Tree,
-    from: u16,
-    end: u16,
-) -> Result<Vec<Vec<u8>>, AllocError>
-    requires first { from ≤ end }
-    requires within { end ≤ length tree.now.tree.nodes }
-    ensures { IfOk result (λ group. parts_of group ≡ node_parts [] (take (end - from) (drop from tree.now.tree.nodes))) }
+/// Returns the group of a tree's nodes. A part ends with a node in use, and the last part with the last node.
+///
+/// # Errors
+///
+/// `AllocError`, if there is no memory.
+pub fn group_of_nodes(alloc: Global, tree: &Tree) -> Result<Vec<Vec<u8>>, AllocError>
+    ensures { IfOk result (λ group. parts_of group ≡ node_parts [] tree.now.tree.nodes) }
 {
+    let sizes = tree.sizes();
     let mut group = Vec::new(alloc);
     let mut part = Vec::new(alloc);
-    for node in from..end {
+    for node in 0..sizes.inodes + 1 {
         if tree.is_used(node) {
             push_used(&mut part, tree, node)?;
             push_part(&mut group, part)?;
@@ -218,40 +212,4 @@ fn group_of_nodes(
     }
     push_part(&mut group, part)?;
     Ok(group)
-}
-
-// Returns the end of a group of `size` nodes.
-fn end_of(from: u16, size: u16, count: u16) -> u16
-    requires { from ≤ count }
-    ensures first { from ≤ result }
-    ensures within { result ≤ count }
-    ensures end { (result ≡ from + size) ⊎ ((result ≡ count) × (count ≤ from + size)) }
-{
-    if size < count - from {
-        from + size
-    } else {
-        count
-    }
-}
-
-/// Appends the groups of a tree's nodes.
-///
-/// # Errors
-///
-/// `AllocError`, if there is no memory.
-pub fn push_node_groups(
-    alloc: Global,
-    groups: &mut Vec<Vec<Vec<u8>>>,
-    tree: &Tree,
-) -> Result<(), AllocError>
-    ensures { OnOk result (groups_of groups.new.items ≡ groups_of groups.old.items ++ node_groups GROUP_SIZES tree.now.tree.nodes) }
-{
-    let count = tree.sizes().inodes + 1;
-    let mut from = 0;
-    for size in GROUP_SIZES {
-        let end = end_of(from, size, count);
-        push_group(groups, group_of_nodes(alloc, tree, from, end)?)?;
-        from = end;
-    }
-    push_group(groups, group_of_nodes(alloc, tree, from, count)?)
 }

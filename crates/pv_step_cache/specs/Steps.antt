@@ -20,10 +20,6 @@ pub record IsFound (steps : List CachedStep) (key : Bytes) (step : CachedStep) :
   pub at : slice_get steps number ≡ Some step
   pub key_is : step.key.items ≡ key
 
--- there is a transition with this key
-abbrev pub HasStep : List CachedStep → Bytes → Type 0
-HasStep steps key = (step : CachedStep) × IsFound steps key step
-
 -- the texts and the cells are those of a transition with this key
 pub record WasCached (steps : List CachedStep) (key : Bytes) (cells : List Cell) (texts : List Bytes) (after : List Cell) : Type 0 where
   pub step : CachedStep

@@ -1,5 +1,5 @@
 //! Cached transitions.
-ghost use Rattle.std.specs.Prelude.{◌≡◌, ◌++◌, ◌∷◌, [], true, IfOk, IfSome, OnErr, OnOk};
+ghost use Rattle.std.specs.Prelude.{◌≡◌, ◌++◌, ◌∷◌, [], IfOk, IfSome, OnErr, OnOk};
 
 use crate::cells::{Cell, Edit, edited_cells, edits_of, step_key};
 use crate::tables::Keys;
@@ -37,7 +37,7 @@ pub struct Recalled {
 
 impl CachedSteps {
     ghost use Rattle.pv_step_cache.specs.Edits.{step_key};
-    ghost use Rattle.pv_step_cache.specs.Steps.{Adds, HasStep, IsFound, WasCached, texts_in};
+    ghost use Rattle.pv_step_cache.specs.Steps.{Adds, IsFound, WasCached, texts_in};
 
     /// Returns an empty cache.
     pub fn new(alloc: Global) -> CachedSteps
@@ -71,21 +71,6 @@ impl CachedSteps {
         let _ = self.keys.add(key)?;
         self.steps.push(step)?;
         Ok(())
-    }
-
-    /// Returns whether the cache has a transition with the key of a process's step in the state of these cells.
-    ///
-    /// # Errors
-    ///
-    /// `AllocError`, if there is no memory.
-    pub fn is_cached(&self, alloc: Global, cells: &[Cell], pid: u32) -> Result<bool, AllocError>
-        ensures { IfOk result (λ cached. cached ≡ true → HasStep self.now.steps.items (step_key pid cells.now)) }
-    {
-        let key = step_key(alloc, cells, pid)?;
-        match self.find(&key) {
-            Some(_) => Ok(true),
-            None => Ok(false),
-        }
     }
 
     /// Returns the result of a process's step in the state of these cells, if a transition with its key is cached.

@@ -7,7 +7,6 @@ use Rattle.pv_explore.specs.Searches.{visited_of}
 use Rattle.pv_explore.specs.VisitedStates.{HasNumber}
 use Rattle.pv_explore.specs.Witnesses.{longer}
 use Rattle.pv_explore.proofs.Finding.{visited-is}
-use Rattle.pv_explore.proofs.VisitedStates.{number-new}
 use Rattle.pv_model.specs.Machine.{Bytes}
 use Rattle.pv_step_lines.specs.OfSession.Running.{stepped}
 use Rattle.pv_step_cache.specs.Steps.{texts_in}
@@ -23,12 +22,6 @@ visit-requires-clause-made g c = record {
   after_is = c.in_ok-position.ensures.after;
 }
 
-pub go_ahead-requires : goal.go_ahead-requires
-go_ahead-requires g c = λ new.
-    let position = c.in_ok-position.field-0.position in
-    subst (λ (n : ℕ). HasNumber c.visit.new.self.states n c.in_ok-position.field-0.position) (sym c.len-next.ensures)
-    (number-new c.args.limit c.observe.new.self c.visit.new.self.states position c.in_ok-found.found c.in_ok-found.ensures.found new)
-
 pub returns-in_err-position-clause-written : goal.returns-in_err-position-clause-written
 returns-in_err-position-clause-written g c = no_memory c.from_residual.ensures.1
 
@@ -38,17 +31,11 @@ returns-in_err-report-clause-written g c =
     let is = ap (reported_bytes c.args.self.now.reported c.args.pid (longer (visited_of c.args.self.now).witnesses c.args.number c.args.pid)) texts_are in
     stopped c.from_residual-in_err-report.ensures.1 (or_as is c.in_err-report.ensures.written)
 
-pub returns-in_err-found-clause-written : goal.returns-in_err-found-clause-written
-returns-in_err-found-clause-written g c =
+pub returns-in_err-visit-clause-written : goal.returns-in_err-visit-clause-written
+returns-in_err-visit-clause-written g c =
     let texts_are = ap (λ (ts : List (Vec ℕ)). texts_in ts) c.deref.ensures.value ∙ c.in_ok-position.ensures.texts in
     let is = ap (reported_bytes c.args.self.now.reported c.args.pid (longer (visited_of c.args.self.now).witnesses c.args.number c.args.pid)) texts_are in
-    no_memory_after c.from_residual-in_err-found.ensures.1 (or_as is c.in_ok-report.ensures.written)
-
-pub returns-in_err-go_ahead-clause-written : goal.returns-in_err-go_ahead-clause-written
-returns-in_err-go_ahead-clause-written g c =
-    let texts_are = ap (λ (ts : List (Vec ℕ)). texts_in ts) c.deref.ensures.value ∙ c.in_ok-position.ensures.texts in
-    let is = ap (reported_bytes c.args.self.now.reported c.args.pid (longer (visited_of c.args.self.now).witnesses c.args.number c.args.pid)) texts_are in
-    no_memory_after c.from_residual-in_err-go_ahead.ensures.1 (or_as is c.in_ok-report.ensures.written)
+    no_memory_after c.from_residual-in_err-visit.ensures.1 (or_as is c.in_ok-report.ensures.written)
 
 pub returns-clause-written : goal.returns-clause-written
 returns-clause-written g c =
@@ -63,6 +50,5 @@ returns-clause-visited g c =
     let texts_are = ap (λ (ts : List (Vec ℕ)). texts_in ts) c.deref.ensures.value ∙ c.in_ok-position.ensures.texts in
     let now : Visited = record old { keys = c.observe.new.self; reported = c.report.new.reported } in
     let is : now ≡ record old { reported = c.report.new.reported } = ap (λ (keys : List Bytes). record old { keys = keys; reported = c.report.new.reported }) c.observe.ensures.unchanged in
-    ap (λ (keys : List Bytes). record (visited_of c.visit.new.self) { keys = keys }) c.in_ok-go_ahead.ensures
-    ∙ visited-is c.args.limit old now (visited_of c.visit.new.self) (longer (visited_of c.args.self.now).witnesses c.args.number c.args.pid) c.args.pid c.args.from texts c.report.new.reported c.in_ok-position.field-0.position
-    c.in_ok-position.ensures.after (c.in_ok-report.ensures.reported ∙ ap (reported_after c.args.self.now.reported) texts_are) is c.in_ok-found.ensures.visited
+    visited-is c.args.limit old now (visited_of c.visit.new.self) (longer (visited_of c.args.self.now).witnesses c.args.number c.args.pid) c.args.pid c.args.from texts c.report.new.reported c.in_ok-position.field-0.position
+    c.in_ok-position.ensures.after (c.in_ok-report.ensures.reported ∙ ap (reported_after c.args.self.now.reported) texts_are) is c.in_ok-visit.ensures
