@@ -14,7 +14,7 @@ use Rattle.pv_source.specs.declared.source.SourceStop.{SourceStop}
 use Rattle.pv_streams.specs.Sources.{FailsToGive}
 use Rattle.pv_cli_commands.specs.declared.command.ScheduleInput.{ScheduleInput}
 use Rattle.pv_cli_commands.specs.declared.command.ScheduleInput.TheVariants.{File as InFile, Turns as AsTurns}
-use Rattle.pv_cli_commands.specs.declared.fault.Fault.TheVariants.{Run, Listing, Migrating, Auditing, Asking, Source, Importing, Exporting}
+use Rattle.pv_cli_commands.specs.declared.fault.Fault.TheVariants.{Run, Listing, Migrating, Asking, Source, Importing, Exporting}
 use Rattle.pv_cli_commands.specs.Asking.{AsksBeside, AsksGiven, AsksUnder, AsksSource, AsksTranslation, AsksTreeSource, GivenText, given_text, whole_text}
 use Rattle.pv_cli_commands.specs.Faults.{Answer, IsAsked}
 use Rattle.pv_cli_commands.specs.Streams.{Disk}
@@ -26,7 +26,6 @@ asked_by f (Err (Asking stop)) it = f (Err stop) it
 asked_by f (Err (Run fault)) it = absurd it
 asked_by f (Err (Listing fault)) it = absurd it
 asked_by f (Err (Migrating stop)) it = absurd it
-asked_by f (Err (Auditing stop)) it = absurd it
 asked_by f (Err (Source stop)) it = absurd it
 asked_by f (Err (Importing stop)) it = absurd it
 asked_by f (Err (Exporting fault)) it = absurd it

@@ -15,16 +15,14 @@ use Rattle.pv_model.specs.declared.store_fault.ListFault.TheVariants as listed
 use Rattle.pv_model.specs.declared.store_fault.MigrateFault.TheVariants.{Image as MigratedImage}
 use Rattle.pv_questions.specs.declared.stop.AskStop.{AskStop}
 use Rattle.pv_questions.specs.declared.stop.AskStop.TheVariants.{Machine as AskedMachine, NoProcess, Audited, File, Write as AnswerWrite, Incomplete, Different}
-use Rattle.pv_questions.specs.OfRun.declared.auditing.AuditStop.{AuditStop}
-use Rattle.pv_questions.specs.OfRun.declared.auditing.AuditStop.TheVariants.{Machine, Path, Write as AuditWrite}
 use Rattle.pv_questions.specs.OfRun.declared.migrating.MigrateStop.{MigrateStop}
 use Rattle.pv_questions.specs.OfRun.declared.migrating.MigrateStop.TheVariants.{Refused}
 use Rattle.pv_source.specs.declared.source.SourceStop.{SourceStop}
 use Rattle.pv_source.specs.declared.source.SourceStop.TheVariants as unwritten
 use Rattle.pv_cli_commands.specs.declared.fault.Fault.{Fault}
-use Rattle.pv_cli_commands.specs.declared.fault.Fault.TheVariants.{Run, Listing, Migrating, Auditing, Asking, Source, Importing, Exporting}
+use Rattle.pv_cli_commands.specs.declared.fault.Fault.TheVariants.{Run, Listing, Migrating, Asking, Source, Importing, Exporting}
 use Rattle.pv_cli_commands.specs.Faults.{Answer}
-use Rattle.pv_cli_commands.specs.Status.{FlushedUnlessCut, ask_status_of, audit_status_of, export_status_of, import_status_of, list_status_of, migrate_status_of, run_status_of, source_status_of, status_of}
+use Rattle.pv_cli_commands.specs.Status.{FlushedUnlessCut, ask_status_of, export_status_of, import_status_of, list_status_of, migrate_status_of, run_status_of, source_status_of, status_of}
 
 run_status-not_zero : (fault : RunFault) → run_status_of fault ≢ 0
 run_status-not_zero (Image ImageMemory) h = cc
@@ -43,10 +41,6 @@ migrate_status-not_zero (Refused (MigratedImage ImageMemory)) h = cc
 migrate_status-not_zero (Refused (MigratedImage fault)) h = cc
 migrate_status-not_zero (Refused fault) h = cc
 migrate_status-not_zero stop h = cc
-
-audit_status-not_zero : (stop : AuditStop) → audit_status_of stop ≢ 0
-audit_status-not_zero (Machine fault) = run_status-not_zero fault
-audit_status-not_zero stop = λ h. cc
 
 ask_status-not_zero : (stop : AskStop) → ask_status_of stop ≢ 0
 ask_status-not_zero (AskedMachine fault) = run_status-not_zero fault
@@ -78,7 +72,6 @@ status-not_zero : (fault : Fault) → status_of fault ≢ 0
 status-not_zero (Run fault) = run_status-not_zero fault
 status-not_zero (Listing fault) = list_status-not_zero fault
 status-not_zero (Migrating stop) = migrate_status-not_zero stop
-status-not_zero (Auditing stop) = audit_status-not_zero stop
 status-not_zero (Asking stop) = ask_status-not_zero stop
 status-not_zero (Source stop) = source_status-not_zero stop
 status-not_zero (Importing stop) = import_status-not_zero stop
@@ -105,9 +98,6 @@ flushed_unwritten (Err (Listing (listed.Image fault))) waiting h = h
 flushed_unwritten (Err (Listing listed.Memory)) waiting h = h
 flushed_unwritten (Err (Listing listed.Write)) waiting h = tt
 flushed_unwritten (Err (Migrating stop)) waiting h = h
-flushed_unwritten (Err (Auditing (Machine fault))) waiting h = h
-flushed_unwritten (Err (Auditing (Path fault))) waiting h = h
-flushed_unwritten (Err (Auditing AuditWrite)) waiting h = tt
 flushed_unwritten (Err (Asking (AskedMachine fault))) waiting h = h
 flushed_unwritten (Err (Asking NoProcess)) waiting h = h
 flushed_unwritten (Err (Asking (Audited fault))) waiting h = h
@@ -137,9 +127,6 @@ flushed_by_status (Listing (listed.Image fault)) waiting h other = h
 flushed_by_status (Listing listed.Memory) waiting h other = h
 flushed_by_status (Listing listed.Write) waiting h other = absurd (other refl)
 flushed_by_status (Migrating stop) waiting h other = h
-flushed_by_status (Auditing (Machine fault)) waiting h other = h
-flushed_by_status (Auditing (Path fault)) waiting h other = h
-flushed_by_status (Auditing AuditWrite) waiting h other = absurd (other refl)
 flushed_by_status (Asking (AskedMachine fault)) waiting h other = h
 flushed_by_status (Asking NoProcess) waiting h other = h
 flushed_by_status (Asking (Audited fault)) waiting h other = h

@@ -5,11 +5,10 @@ use Rattle.pv_host_copy.specs.declared.unpacking.ExportFault.{ExportFault}
 use Rattle.pv_model.specs.declared.run_fault.RunFault.{RunFault}
 use Rattle.pv_model.specs.declared.store_fault.ListFault.{ListFault}
 use Rattle.pv_questions.specs.declared.stop.AskStop.{AskStop}
-use Rattle.pv_questions.specs.OfRun.declared.auditing.AuditStop.{AuditStop}
 use Rattle.pv_questions.specs.OfRun.declared.migrating.MigrateStop.{MigrateStop}
 use Rattle.pv_source.specs.declared.source.SourceStop.{SourceStop}
 use Rattle.pv_cli_commands.specs.declared.fault.Fault.{Fault}
-use Rattle.pv_cli_commands.specs.declared.fault.Fault.TheVariants.{Run, Listing, Migrating, Auditing, Asking, Source, Importing, Exporting}
+use Rattle.pv_cli_commands.specs.declared.fault.Fault.TheVariants.{Run, Listing, Migrating, Asking, Source, Importing, Exporting}
 
 -- the result of a command
 abbrev pub Answer : Type 0
@@ -32,12 +31,6 @@ abbrev pub IsMigrated : (Result (Unit {0}) MigrateStop → Type 0) → Answer �
 IsMigrated holds (Ok done) = holds (Ok done)
 IsMigrated holds (Err (Migrating stop)) = holds (Err stop)
 IsMigrated holds (Err fault) = ⊥
-
--- the result of a command is that of an audit, which satisfies the predicate
-abbrev pub IsAudited : (Result (Unit {0}) AuditStop → Type 0) → Answer → Type 0
-IsAudited holds (Ok done) = holds (Ok done)
-IsAudited holds (Err (Auditing stop)) = holds (Err stop)
-IsAudited holds (Err fault) = ⊥
 
 -- the result of a command is that of a question, which satisfies the predicate
 abbrev pub IsAsked : (Result (Unit {0}) AskStop → Type 0) → Answer → Type 0

@@ -1,5 +1,4 @@
 pub mod Asking
-pub mod Auditing
 pub mod Commands
 pub mod Comparing
 pub mod Created
@@ -10,6 +9,7 @@ pub mod Importing
 pub mod Listing
 pub mod Making
 pub mod Migrating
+pub mod Noted
 pub mod Running
 pub mod Sources
 pub mod Status

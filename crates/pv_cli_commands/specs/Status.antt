@@ -16,17 +16,14 @@ use Rattle.pv_model.specs.declared.stream.Sink.{Ghosts as Writing}
 use Rattle.pv_questions.specs.Asking.{BufferedOnlyIfUnwritten as BufferedOnlyIfUnanswered}
 use Rattle.pv_questions.specs.declared.stop.AskStop.{AskStop}
 use Rattle.pv_questions.specs.declared.stop.AskStop.TheVariants.{Machine as AskedMachine, NoProcess, Audited, File, Write as AnswerWrite, Incomplete, Different}
-use Rattle.pv_questions.specs.OfRun.Auditing.{BufferedOnlyIfUnwritten as BufferedOnlyIfUnaudited}
 use Rattle.pv_questions.specs.OfRun.Listings.{BufferedOnlyIfUnlisted}
 use Rattle.pv_questions.specs.OfRun.Run.{BufferedOnlyIfCut}
-use Rattle.pv_questions.specs.OfRun.declared.auditing.AuditStop.{AuditStop}
-use Rattle.pv_questions.specs.OfRun.declared.auditing.AuditStop.TheVariants.{Machine, Path, Write as AuditWrite}
 use Rattle.pv_questions.specs.OfRun.declared.migrating.MigrateStop.{MigrateStop}
 use Rattle.pv_questions.specs.OfRun.declared.migrating.MigrateStop.TheVariants.{Read as MigrateRead, Refused, Write as MigrateWrite}
 use Rattle.pv_source.specs.declared.source.SourceStop.{SourceStop}
 use Rattle.pv_source.specs.declared.source.SourceStop.TheVariants as unwritten
 use Rattle.pv_cli_commands.specs.declared.fault.Fault.{Fault}
-use Rattle.pv_cli_commands.specs.declared.fault.Fault.TheVariants.{Run, Listing, Migrating, Auditing, Asking, Source, Importing, Exporting}
+use Rattle.pv_cli_commands.specs.declared.fault.Fault.TheVariants.{Run, Listing, Migrating, Asking, Source, Importing, Exporting}
 use Rattle.pv_cli_commands.specs.Faults.{Answer}
 
 abbrev pub run_status_of : RunFault → ℕ
@@ -55,11 +52,6 @@ migrate_status_of (Refused Small) = 1
 migrate_status_of (Refused MigrateMemory) = 3
 migrate_status_of MigrateRead = 4
 migrate_status_of MigrateWrite = 4
-
-abbrev pub audit_status_of : AuditStop → ℕ
-audit_status_of (Machine fault) = run_status_of fault
-audit_status_of (Path fault) = 1
-audit_status_of AuditWrite = 4
 
 abbrev pub ask_status_of : AskStop → ℕ
 ask_status_of (AskedMachine fault) = run_status_of fault
@@ -96,7 +88,6 @@ abbrev pub status_of : Fault → ℕ
 status_of (Run fault) = run_status_of fault
 status_of (Listing fault) = list_status_of fault
 status_of (Migrating stop) = migrate_status_of stop
-status_of (Auditing stop) = audit_status_of stop
 status_of (Asking stop) = ask_status_of stop
 status_of (Source stop) = source_status_of stop
 status_of (Importing stop) = import_status_of stop
@@ -116,7 +107,6 @@ is_reported fault = false
 abbrev pub FlushedUnlessCut : Answer → ℕ → Type 0
 FlushedUnlessCut (Err (Run fault)) waiting = BufferedOnlyIfCut fault waiting
 FlushedUnlessCut (Err (Listing fault)) waiting = BufferedOnlyIfUnlisted fault waiting
-FlushedUnlessCut (Err (Auditing stop)) waiting = BufferedOnlyIfUnaudited stop waiting
 FlushedUnlessCut (Err (Asking stop)) waiting = BufferedOnlyIfUnanswered stop waiting
 FlushedUnlessCut (Err (Source unwritten.Write)) waiting = ⊤
 FlushedUnlessCut answer waiting = waiting ≡ 0

@@ -105,7 +105,7 @@ pub enum Command<'a> {
         /// The number of inodes in the new image.
         inodes: u32,
     },
-    /// Makes an image of a host directory.
+    /// Makes an image of a host directory, with the entries of a source if one is given.
     ImportDirectory {
         /// The directory.
         directory: &'a str,
@@ -115,6 +115,8 @@ pub enum Command<'a> {
         version: Version,
         /// Whether entries that an image can't have are skipped.
         skips: bool,
+        /// The file of the source. `-` is the standard input.
+        source: Option<&'a str>,
     },
     /// Makes a host directory from the tree of an image.
     ExportImage {

@@ -1,12 +1,12 @@
 //! Error messages and the exit status.
 ghost use Rattle.std.specs.Prelude.{◌≡◌};
-ghost use Rattle.pv_cli_commands.specs.Status.{ask_status_of, audit_status_of, export_status_of, import_status_of, is_reported, list_status_of, migrate_status_of, run_status_of, source_status_of, status_of};
-ghost use Rattle.pv_cli_commands.specs.declared.fault.Fault.TheVariants.{Run as RunVariant, Listing as ListingVariant, Migrating as MigratingVariant, Auditing as AuditingVariant, Asking as AskingVariant, Source as SourceVariant, Importing as ImportingVariant, Exporting as ExportingVariant};
+ghost use Rattle.pv_cli_commands.specs.Status.{ask_status_of, export_status_of, import_status_of, is_reported, list_status_of, migrate_status_of, run_status_of, source_status_of, status_of};
+ghost use Rattle.pv_cli_commands.specs.declared.fault.Fault.TheVariants.{Run as RunVariant, Listing as ListingVariant, Migrating as MigratingVariant, Asking as AskingVariant, Source as SourceVariant, Importing as ImportingVariant, Exporting as ExportingVariant};
 
 use pv_host_copy::{ExportFault, ImportStop};
 use pv_model::{ImageFault, ListFault, ManifestFault, MigrateFault, RunFault};
 use pv_questions::AskStop;
-use pv_questions::run::{AuditStop, MigrateStop};
+use pv_questions::run::MigrateStop;
 use pv_source::SourceStop;
 use thiserror::Error;
 
@@ -22,9 +22,6 @@ pub enum Fault {
     /// An image was not migrated, or not completely.
     #[error("pvsim: {0}\n")]
     Migrating(MigrateStop),
-    /// The files of an image were not audited, or not all.
-    #[error("pvsim: {0}\n")]
-    Auditing(AuditStop),
     /// A question was not answered, or not completely.
     #[error("pvsim: {0}\n")]
     Asking(AskStop),
@@ -62,14 +59,6 @@ impl From<MigrateStop> for Fault {
 
     fn from(stop: MigrateStop) -> Fault {
         Fault::Migrating(stop)
-    }
-}
-
-impl From<AuditStop> for Fault {
-    ghost from_gives = { λ given fault. fault ≡ AuditingVariant given };
-
-    fn from(stop: AuditStop) -> Fault {
-        Fault::Auditing(stop)
     }
 }
 
@@ -160,17 +149,6 @@ fn migrate_status(stop: MigrateStop) -> u8
     }
 }
 
-// Returns the status of an audit that was refused or ended early.
-fn audit_status(stop: AuditStop) -> u8
-    ensures { result ≡ audit_status_of stop }
-{
-    match stop {
-        AuditStop::Machine(fault) => run_status(fault),
-        AuditStop::Path(_) => 1,
-        AuditStop::Write => 4,
-    }
-}
-
 // Returns the status of an answer that failed, or is not complete.
 fn ask_status(stop: AskStop) -> u8
     ensures { result ≡ ask_status_of stop }
@@ -228,7 +206,6 @@ impl Fault {
             Fault::Run(fault) => run_status(*fault),
             Fault::Listing(fault) => list_status(*fault),
             Fault::Migrating(stop) => migrate_status(*stop),
-            Fault::Auditing(stop) => audit_status(*stop),
             Fault::Asking(stop) => ask_status(*stop),
             Fault::Source(stop) => source_status(*stop),
             Fault::Importing(stop) => import_status(*stop),

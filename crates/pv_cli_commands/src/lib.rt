@@ -2,7 +2,7 @@
 //!
 //! `command` has the type of commands, and `performing` carries them out. The other modules carry out one kind of
 //! command each: `running` (bundles), `images` (schedules on images), `making`, `listing`, `migrating`, `importing`,
-//! `exporting`, `auditing`, `sources`, `comparing`, and `asking` (questions), for which `translating` reads sources. `system` has
+//! `exporting`, `sources`, `comparing`, and `asking` (questions), for which `translating` reads sources. `system` has
 //! the traits of files and streams, `directories` those of directories, and `fault` the messages and the exit status.
 //! Contracts cite the bytes that a source gives, the bytes that a sink received and has buffered, the number of
 //! failures of each, the bytes of named files, and the entries of named directories. Progress reports are not
@@ -10,7 +10,6 @@
 #![tactic(auto)]
 
 pub mod asking;
-pub mod auditing;
 pub mod command;
 mod comparing;
 pub mod directories;

@@ -1,25 +1,24 @@
 //! Execution of commands.
 ghost use Rattle.std.specs.Prelude.{◌≡◌, ◌≢◌, IfErr};
-ghost use Rattle.pv_cli_commands.specs.Commands.{KeepsErrors, Performs, ReadsFiles, WritesFile};
+ghost use Rattle.pv_cli_commands.specs.Commands.{KeepsErrors, Notes, Performs, ReadsFiles, WritesFile};
 ghost use Rattle.pv_cli_commands.specs.Status.{Flushes, status_of};
 ghost use Rattle.pv_cli_commands.specs.Streams.{disk_of, host_of};
 
-use crate::asking::{ask_run, ask_tree_of};
-use crate::auditing::audit_files;
+use crate::asking::{ask_files, ask_run, ask_tree_of};
 use crate::command::Command;
 use crate::comparing::compare_inputs;
 use crate::directories::Directories;
 use crate::exporting::export_file;
 use crate::fault::Fault;
 use crate::images::run_files;
-use crate::importing::import_directory;
+use crate::importing::{Wanted, import_directory};
 use crate::listing::list_file;
 use crate::making::make_file;
 use crate::migrating::migrate_file;
 use crate::running::{run_file, run_from};
 use crate::sources::{write_file, write_from};
 use crate::system::{Files, HostSystem};
-use pv_questions::Progress;
+use pv_questions::{Progress, Question, RunQuestion};
 use pv_streams::{Sink, Source};
 use std::alloc::Global;
 
@@ -35,7 +34,8 @@ use std::alloc::Global;
 /// - `ImportDirectory` makes the image of a directory, and writes it to a file. Each entry that an image can't have or
 ///   that could not be added is reported on the standard error, in a line with its path. If there is such an entry, the
 ///   file is not written, unless entries that an image can't have are to be skipped and all reported entries are of
-///   this kind.
+///   this kind. The programs and files of a source in a file, or on the standard input for `-`, may be added: they take
+///   the place of what the directory has at their paths. The lines of the source are reported as for `WriteSource`.
 /// - `ExportImage` makes the tree of the image in a file in a directory, which is created or must be empty. The image
 ///   is read first. If an entry cannot be made, its path in the image is reported on the standard error; all entries
 ///   before it in the listing are then made.
@@ -53,6 +53,9 @@ use std::alloc::Global;
 /// - `Compare` writes whether the steps of the machines on two images, or on the trees of two bundles, differ under some
 ///   schedule.
 ///
+/// `AuditImage` and `Ask` replace `notes` by the notes beside the answer, which are lines for a person; the other commands
+/// leave it as it is.
+///
 /// Everything that was written to the standard output is flushed, unless a write to it failed. A search of states reports to `progress`.
 ///
 /// # Errors
@@ -61,9 +64,8 @@ use std::alloc::Global;
 /// a state out, or a comparison found a difference. If the input is invalid, nothing was written; in the last two cases,
 /// the whole answer was written.
 /// The variant is `Listing` for `ListImage`, `Migrating` for `MigrateImage`,
-/// `Importing` for `ImportDirectory`, `Exporting` for `ExportImage`, `Auditing` for `AuditImage`, `Source` for
-/// `WriteSource` and for a source that is not translated, `Asking` for `Ask`, `AskTree` and `Compare`, and `Run` for the
-/// others.
+/// `Importing` for `ImportDirectory`, `Exporting` for `ExportImage`, `Source` for `WriteSource` and for a source that is
+/// not translated, `Asking` for `AuditImage`, `Ask`, `AskTree` and `Compare`, and `Run` for the others.
 #[tactic(auto, using(crate::proofs::Outcomes::failed_with_status, crate::proofs::Outcomes::flushed_unwritten))]
 pub fn perform<
     F: Files + Directories + Drop,
@@ -75,9 +77,11 @@ pub fn perform<
     alloc: Global,
     command: Command<'_>,
     system: &mut HostSystem<F, I, O, E>,
+    notes: &mut Vec<u8>,
     progress: &mut P,
 ) -> Result<(), Fault>
     ensures does { Performs (disk_of F.Files F.Reader.Source F.Writer.Sink) (host_of F.entries F.target_of F.Target.made) I.Source O.Sink E.Sink command.entry system.old system.new result }
+    ensures noted { Notes F.bytes I.remaining command.entry system.old notes.old.items notes.new.items result }
     ensures flushed { Flushes O.Sink system.old.output system.new.output result }
     ensures failed { IfErr result (λ fault. status_of fault ≢ 0) }
 
@@ -114,7 +118,16 @@ pub fn perform<
             image,
             version,
             skips,
-        } => import_directory(alloc, files, directory, image, version, skips, errors),
+            source,
+        } => {
+            let wanted = Wanted {
+                directory,
+                image,
+                version,
+                skips,
+            };
+            import_directory(alloc, files, input, wanted, source, errors)
+        }
         Command::ExportImage { image, directory } => {
             export_file(alloc, files, image, directory, errors)
         }
@@ -122,7 +135,14 @@ pub fn perform<
             image,
             schedule,
             path,
-        } => audit_files(alloc, files, image, schedule, path, output),
+        } => {
+            let question = Question::Audit(path);
+            let question = RunQuestion {
+                question,
+                steps: None,
+            };
+            ask_files(alloc, files, question, image, schedule, notes, output)
+        }
         Command::WriteSource { source: "-", kind } => {
             write_from(alloc, kind, "-", input, output, errors)
         }
@@ -130,7 +150,7 @@ pub fn perform<
             write_file(alloc, files, kind, source, output, errors)
         }
         Command::Ask { question, run } => {
-            ask_run(alloc, files, input, question, run, output, errors)
+            ask_run(alloc, files, input, question, run, notes, output, errors)
         }
         Command::AskTree { question, tree } => {
             ask_tree_of(

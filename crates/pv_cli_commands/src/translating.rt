@@ -1,7 +1,8 @@
 //! Questions about the translations of sources.
-ghost use Rattle.std.specs.Prelude.{◌≡◌, ◌≢◌, codes};
+ghost use Rattle.std.specs.Prelude.{◌≡◌, ◌≢◌, codes, Some};
 ghost use Rattle.pv_source.specs.Given.{TranslatesSource};
 ghost use Rattle.pv_cli_commands.specs.Asking.{GivenText, AsksGiven, AsksManifest, AsksRunOfSource, AsksTranslation, AsksTranslationOf, given_text, whole_text};
+ghost use Rattle.pv_cli_commands.specs.Noted.{NotedSource, NotedText, translated as translated_text};
 ghost use Rattle.pv_cli_commands.specs.Status.{Flushes};
 ghost use Rattle.pv_cli_commands.specs.Streams.{disk_of};
 
@@ -34,15 +35,19 @@ fn ask_given<F: Files, S: Source, W: Sink>(
     question: RunQuestion<'_>,
     text: &mut S,
     schedule: Option<ScheduleInput<'_>>,
+    notes: &mut Vec<u8>,
     out: &mut W,
 ) -> Result<(), Fault>
     ensures asks { AsksGiven (disk_of F.Files F.Reader.Source F.Writer.Sink) S.Source W.Sink files.now question.entry schedule.entry text.old text.new out.old out.new result }
+    ensures noted { NotedText F.bytes files.now question.entry (S.remaining text.old) schedule.entry notes.new.items result }
     ensures flushed { Flushes W.Sink out.old out.new result }
 {
     match schedule {
-        None => ask_from(alloc, question, text, out),
-        Some(ScheduleInput::File(name)) => ask_beside(alloc, files, question, text, name, out),
-        Some(ScheduleInput::Turns(turns)) => ask_under_by(alloc, question, text, turns, out),
+        None => ask_from(alloc, question, text, notes, out),
+        Some(ScheduleInput::File(name)) => ask_beside(
+            alloc, files, question, text, name, notes, out,
+        ),
+        Some(ScheduleInput::Turns(turns)) => ask_under_by(alloc, question, text, turns, notes, out),
     }
 }
 
@@ -53,17 +58,19 @@ fn ask_text<F: Files, W: Sink>(
     question: RunQuestion<'_>,
     text: &[u8],
     schedule: Option<ScheduleInput<'_>>,
+    notes: &mut Vec<u8>,
     out: &mut W,
 ) -> Result<(), Fault>
     ensures asks { (last : GivenText) × AsksGiven (disk_of F.Files F.Reader.Source F.Writer.Sink) given_text W.Sink files.now question.entry schedule.entry (whole_text text.now) last out.old out.new result }
+    ensures noted { NotedText F.bytes files.now question.entry (Some text.now) schedule.entry notes.new.items result }
     ensures flushed { Flushes W.Sink out.old out.new result }
 {
     let mut source = Bytes::new(text);
-    ask_given(alloc, files, question, &mut source, schedule, out)
+    ask_given(alloc, files, question, &mut source, schedule, notes, out)
 }
 
 // Answers a question about the run of the translation of a source, or reports the lines in error of the source.
-#[tactic(auto, using(crate::proofs::Outcomes::flushed_unwritten, crate::proofs::GivenTexts::translation_asked, crate::proofs::GivenTexts::translation_stopped))]
+#[tactic(auto, using(crate::proofs::Outcomes::flushed_unwritten, crate::proofs::GivenTexts::translation_asked, crate::proofs::GivenTexts::translation_stopped, crate::proofs::NotedTexts::noted_stopped))]
 fn ask_translation<F: Files, S: Source, W: Sink, E: Sink>(
     alloc: Global,
     files: &F,
@@ -71,19 +78,21 @@ fn ask_translation<F: Files, S: Source, W: Sink, E: Sink>(
     name: &str,
     source: &mut S,
     schedule: Option<ScheduleInput<'_>>,
+    notes: &mut Vec<u8>,
     out: &mut W,
     errors: &mut E,
 ) -> Result<(), Fault>
     ensures asks { AsksTranslation S.Source E.Sink name.now (λ text text_last. AsksGiven (disk_of F.Files F.Reader.Source F.Writer.Sink) given_text W.Sink files.now question.entry schedule.entry text text_last out.old out.new result)
         source.old source.new out.old out.new errors.old errors.new result }
+    ensures noted { NotedText F.bytes files.now question.entry (translated_text (S.remaining source.old)) schedule.entry notes.new.items result }
     ensures flushed { Flushes W.Sink out.old out.new result }
 {
     let text = translated(alloc, name, source, errors)?;
-    ask_text(alloc, files, question, &text, schedule, out)
+    ask_text(alloc, files, question, &text, schedule, notes, out)
 }
 
 // Answers a question about the run of the translation of a source. The source `-` is read from the standard input.
-#[tactic(auto, using(crate::proofs::Outcomes::flushed_unwritten))]
+#[tactic(auto, using(crate::proofs::Outcomes::flushed_unwritten, crate::proofs::NotedTexts::noted_stopped))]
 pub(crate) fn ask_source<F: Files, I: Source, W: Sink, E: Sink>(
     alloc: Global,
     files: &F,
@@ -91,15 +100,19 @@ pub(crate) fn ask_source<F: Files, I: Source, W: Sink, E: Sink>(
     question: RunQuestion<'_>,
     name: &str,
     schedule: Option<ScheduleInput<'_>>,
+    notes: &mut Vec<u8>,
     out: &mut W,
     errors: &mut E,
 ) -> Result<(), Fault>
     ensures asks { AsksRunOfSource (disk_of F.Files F.Reader.Source F.Writer.Sink) I.Source W.Sink E.Sink files.now question.entry name.now schedule.entry input.old input.new out.old out.new errors.old errors.new result }
+    ensures noted { NotedSource F.bytes files.now question.entry (I.remaining input.old) name.now schedule.entry notes.new.items result }
     ensures flushed { Flushes W.Sink out.old out.new result }
     ensures unread { name.now ≢ codes "-" → input.new ≡ input.old }
 {
     if name == "-" {
-        return ask_translation(alloc, files, question, name, input, schedule, out, errors);
+        return ask_translation(
+            alloc, files, question, name, input, schedule, notes, out, errors,
+        );
     }
     match files.open(name) {
         Ok(mut source) => {
@@ -110,6 +123,7 @@ pub(crate) fn ask_source<F: Files, I: Source, W: Sink, E: Sink>(
                 name,
                 &mut source,
                 schedule,
+                notes,
                 out,
                 errors,
             )

@@ -96,7 +96,7 @@ module _ (entered : Option (Text × List Row)) where
   no_plain_command source made ran exports (RunTree file) plain is = absurd plain
   no_plain_command source made ran exports (ListImage image) plain is = absurd plain
   no_plain_command source made ran exports (MigrateImage image out blocks inodes) plain is = absurd plain
-  no_plain_command source made ran exports (ImportDirectory directory image version skips) plain is = absurd plain
+  no_plain_command source made ran exports (ImportDirectory directory image version skips given) plain is = absurd plain
   no_plain_command source made ran exports (AuditImage image schedule path) plain is = absurd plain
   no_plain_command source made ran exports (Ask question run) plain is = absurd plain
   no_plain_command source made ran exports (AskTree question tree-of) plain is = absurd plain
@@ -113,7 +113,7 @@ module _ (entered : Option (Text × List Row)) where
   no_command plain list cat (ExportImage image directory) without is = plain (ExportImage image directory) tt is
   no_command plain list cat (ListImage image) without is = list (Image image) is
   no_command plain list cat (MigrateImage image out blocks inodes) without is = absurd without
-  no_command plain list cat (ImportDirectory directory image version skips) without is = absurd without
+  no_command plain list cat (ImportDirectory directory image version skips source) without is = absurd without
   no_command plain list cat (AuditImage image schedule path) without is = absurd without
   no_command plain list cat (Ask question run) without is = absurd without
   no_command plain list cat (AskTree Listing (Manifest manifest)) without is = list (Manifest manifest) is
@@ -141,7 +141,7 @@ module _ (entered : Option (Text × List Row)) where
   no_command_at_all other migrates imports turns searches compares asks (AuditImage image schedule path) is = asks (Audit path) (OfImage image (InFile schedule)) is.0
   no_command_at_all other migrates imports turns searches compares asks (MigrateImage image out blocks inodes) is =
       migrates image.now out.now is.2.word is.3.word (record { has_image = is.0; has_out = is.1; has_blocks = is.2.is_entered; has_inodes = is.3.is_entered })
-  no_command_at_all other migrates imports turns searches compares asks (ImportDirectory directory image version skips) is = imports directory.now image.now is.0 is.1
+  no_command_at_all other migrates imports turns searches compares asks (ImportDirectory directory image version skips source) is = imports directory.now image.now is.0 is.1
   no_command_at_all other migrates imports turns searches compares asks (Ask question run) is = asks question.question run is.0
   no_command_at_all other migrates imports turns searches compares asks (AskTree Listing tree) is = other (AskTree Listing tree) tt is
   no_command_at_all other migrates imports turns searches compares asks (AskTree (File path) tree) is = other (AskTree (File path) tree) tt is
@@ -183,7 +183,7 @@ migration-appears entered texts (WriteSource file kind) h is = absurd is
 migration-appears entered texts (ListImage image) h is = absurd is
 migration-appears entered texts (MakeImage manifest image) h is = absurd is
 migration-appears entered texts (RunImage image schedule out) h is = absurd is
-migration-appears entered texts (ImportDirectory directory image version skips) h is = absurd is
+migration-appears entered texts (ImportDirectory directory image version skips source) h is = absurd is
 migration-appears entered texts (ExportImage image directory) h is = absurd is
 migration-appears entered texts (AuditImage image schedule path) h is = absurd is
 migration-appears entered texts (Ask question run) h is = absurd is

@@ -26,7 +26,7 @@ module _ (entered : Option (Text × List Row)) where
   found_command question run (ListImage image) is enters steps = absurd is
   found_command question run (RunImage image schedule out) is enters steps = absurd is
   found_command question run (MigrateImage image out blocks inodes) is enters steps = absurd is
-  found_command question run (ImportDirectory directory image version skips) is enters steps = absurd is
+  found_command question run (ImportDirectory directory image version skips source) is enters steps = absurd is
   found_command question run (ExportImage image directory) is enters steps = absurd is
   found_command question run (WriteSource file kind) is enters steps = absurd is
   found_command question run (AskTree asked tree) is enters steps = absurd is

@@ -1,12 +1,15 @@
 -- Errors that were reported, by the way that `report` takes.
-use Rattle.std.proofs.Common.{◌≡◌, ◌≢◌, ◌∙◌, sym, refl, ℕ, Bool, true, false}
+use Rattle.std.proofs.Common.{◌≡◌, ◌≢◌, ◌∙◌, [], sym, refl, subst, ℕ, Bool, true, false}
 use Rattle.std.specs.Prelude.{Result, Ok, Err}
 use Rattle.pv_model.specs.declared.stream.Failed.{Failed}
 use Rattle.pv_model.specs.declared.stream.Sink.{Ghosts as Writing}
 use Rattle.pv_cli_commands.specs.declared.system.HostSystem.{HostSystem}
 use Rattle.pv_cli_line.specs.declared.fault.Fault.{Fault}
+use Rattle.pv_model.specs.Machine.{Bytes}
+use Rattle.pv_streams.specs.Sinks.{Writes}
+use Rattle.pv_streams.proofs.Reporting.{written_none}
 use Rattle.pv_cli_line.specs.Messages.{WritesMessage, WritesMore}
-use Rattle.pv_cli_line.specs.Program.{Reports, ReportsAll, WritesError, WritesErrorsAlone, WritesOutputAlone, is_reported}
+use Rattle.pv_cli_line.specs.Program.{Reports, ReportsAll, WritesError, WritesErrorsAlone, WritesNotes, WritesOutputAlone, is_reported}
 use Rattle.pv_cli_line.specs.Status.{status_of}
 use Rattle.pv_cli_line.proofs.Messages.{more_nothing}
 
@@ -70,4 +73,36 @@ module _ {F I O E : Type 0} (writing : Writing O) (reporting : Writing E) (fault
     middle = middle;
     reports = reports;
     explains = record { alone = alone; lines = lines; unrequested = λ unsaid. let bad : true ≡ false = sym said ∙ unsaid in cc bad };
+  }
+
+-- the notes beside an answer
+module _ {F I O E : Type 0} (reporting : Writing E) (requested : Bool) (notes : Bytes) (before after : HostSystem F I O E) where
+  pub notes_unrequested : requested ≡ false → WritesNotes reporting requested notes before before
+  notes_unrequested unsaid = record {
+    alone = refl;
+    written = Ok tt;
+    text = λ said. let bad : true ≡ false = sym said ∙ unsaid in cc bad;
+    unrequested = λ no. refl;
+    silent = λ none. refl;
+  }
+
+  pub notes_absent : notes ≡ [] → WritesNotes reporting requested notes before before
+  notes_absent none = record {
+    alone = refl;
+    written = Ok tt;
+    text = λ said.
+        subst (λ (bs : Bytes). Writes {T = Unit {0}} {E = Failed} reporting bs before.errors before.errors (Ok tt)) (sym none)
+        (record { whole = written_none (reporting.written before.errors); prefix = tt; failed = tt; quiet = refl });
+    unrequested = λ no. refl;
+    silent = λ empty. refl;
+  }
+
+  pub notes_written : (r : Result (Unit {0}) Failed) → requested ≡ true → notes ≢ [] → WritesErrorsAlone before after → Writes reporting notes before.errors after.errors r
+      → WritesNotes reporting requested notes before after
+  notes_written r said some alone writes = record {
+    alone = alone;
+    written = r;
+    text = λ yes. writes;
+    unrequested = λ unsaid. let bad : true ≡ false = sym said ∙ unsaid in cc bad;
+    silent = λ none. absurd (some none);
   }

@@ -342,9 +342,10 @@ IsCommandIn entered (RunImage image schedule out) =
 IsCommandIn entered (MigrateImage image out blocks inodes) =
     (entered_text entered (codes "migrate") (codes "IMAGE") ≡ Some image.now) × (entered_text entered (codes "migrate") (codes "OUT") ≡ Some out.now)
     × EncodesSize entered (codes "migrate") (codes "BLOCKS") blocks × EncodesSize entered (codes "migrate") (codes "INODES") inodes
-IsCommandIn entered (ImportDirectory directory image version skips) =
+IsCommandIn entered (ImportDirectory directory image version skips source) =
     (entered_text entered (codes "import") (codes "DIR") ≡ Some directory.now) × (entered_text entered (codes "import") (codes "IMAGE") ≡ Some image.now)
     × (version_entered entered ≡ Some version) × (is_given (entered_text entered (codes "import") (codes "skip")) ≡ skips)
+    × (option_map (λ text. text.now) source ≡ entered_text entered (codes "import") (codes "with"))
 IsCommandIn entered (ExportImage image directory) =
     (entered_text entered (codes "export") (codes "IMAGE") ≡ Some image.now) × (entered_text entered (codes "export") (codes "DIR") ≡ Some directory.now)
 IsCommandIn entered (AuditImage image schedule path) =
@@ -385,7 +386,7 @@ IsPlain command = ⊥
 abbrev pub IsWithoutNumbers : Command → Type 0
 IsWithoutNumbers (RunTree file) = ⊥
 IsWithoutNumbers (MigrateImage image out blocks inodes) = ⊥
-IsWithoutNumbers (ImportDirectory directory image version skips) = ⊥
+IsWithoutNumbers (ImportDirectory directory image version skips source) = ⊥
 IsWithoutNumbers (AuditImage image schedule path) = ⊥
 IsWithoutNumbers (Ask question run) = ⊥
 IsWithoutNumbers (AskTree (Turns slice steps) tree) = ⊥

@@ -106,7 +106,7 @@ search_apps =
     ∷ command_app (codes "migrate")
     (text_rule (codes "IMAGE") ∷ text_rule (codes "OUT") ∷ text_rule (codes "BLOCKS") ∷ text_rule (codes "INODES") ∷ [])
     ∷ command_app (codes "import")
-    (text_rule (codes "DIR") ∷ text_rule (codes "IMAGE") ∷ renamed_rule (codes "image-version") (codes "version") ∷ flag_rule (codes "skip") ∷ [])
+    (text_rule (codes "DIR") ∷ text_rule (codes "IMAGE") ∷ renamed_rule (codes "image-version") (codes "version") ∷ flag_rule (codes "skip") ∷ long_rule (codes "with") ∷ [])
     ∷ command_app (codes "export") (text_rule (codes "IMAGE") ∷ text_rule (codes "DIR") ∷ [])
     ∷ []
 

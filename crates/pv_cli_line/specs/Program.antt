@@ -1,5 +1,5 @@
 -- The result of a whole run of the program.
-use Rattle.std.specs.Prelude.{◌≡◌, ◌≢◌, ℕ, Bool, true, false, ◌&&◌, not, List, Result, Ok, Err, IsOk, IsErr}
+use Rattle.std.specs.Prelude.{◌≡◌, ◌≢◌, ℕ, Bool, true, false, ◌&&◌, not, List, [], Result, Ok, Err, IsOk, IsErr}
 use Rattle.pv_model.specs.declared.stream.Failed.{Failed}
 use Rattle.pv_model.specs.declared.stream.Sink.{Ghosts as Writing}
 use Rattle.pv_model.specs.declared.stream.Source.{Ghosts as Reading}
@@ -8,12 +8,13 @@ use Rattle.pv_cli_commands.specs.declared.command.Command.{Command}
 use Rattle.pv_cli_commands.specs.declared.fault.Fault.{Fault as CommandFault}
 use Rattle.pv_cli_commands.specs.declared.fault.Fault.TheVariants.{Importing, Source}
 use Rattle.pv_cli_commands.specs.declared.system.HostSystem.{HostSystem}
-use Rattle.pv_cli_commands.specs.Commands.{KeepsErrors, Performs, ReadsFiles, WritesFile}
+use Rattle.pv_cli_commands.specs.Commands.{KeepsErrors, Notes, Performs, ReadsFiles, WritesFile}
 use Rattle.pv_cli_commands.specs.Faults.{Answer}
 use Rattle.pv_cli_commands.specs.Status.{Flushes, is_reported as is_reported_by_command}
 use Rattle.pv_cli_commands.specs.Streams.{Disk, Host}
 use Rattle.pv_cli_commands.specs.OfHostCopy.declared.image.ImportStop.TheVariants.{Refused}
 use Rattle.pv_source.specs.declared.source.SourceStop.TheVariants.{Refused as RefusedSource}
+use Rattle.pv_streams.specs.Sinks.{Writes}
 use Rattle.pv_cli_line.specs.declared.command.LineFault.{LineFault}
 use Rattle.pv_cli_line.specs.declared.command.LineFault.TheVariants.{Number}
 use Rattle.pv_cli_line.specs.declared.fault.Fault.{Fault}
@@ -79,12 +80,21 @@ pub record ReportsAll {F I O E : Type 0} (writing : Writing O) (reporting : Writ
   pub reports : Reports writing reporting fault before middle status
   pub explains : Explains reporting requested middle after
 
+-- notes were written to the standard error, if they are requested: a prefix of them, if a write failed
+pub record WritesNotes {F I O E : Type 0} (reporting : Writing E) (requested : Bool) (notes : Bytes) (before after : HostSystem F I O E) : Type 0 where
+  pub alone : WritesErrorsAlone before after
+  pub written : Result (Unit {0}) Failed
+  pub text : requested ≡ true → Writes reporting notes before.errors after.errors written
+  pub unrequested : requested ≡ false → after ≡ before
+  pub silent : notes ≡ [] → after ≡ before
+
 -- the words ask for a command, which was carried out and changed nothing else; its output is flushed
 pub record Runs {F R V T I O E : Type 0} (disk : Disk F R V) (host : Host F T) (reading : Reading I) (writing : Writing O) (reporting : Writing E)
-    (words : List Bytes) (before after : HostSystem F I O E) (answer : Answer) : Type 0 where
+    (words : List Bytes) (notes : Bytes) (before after : HostSystem F I O E) (answer : Answer) : Type 0 where
   pub command : Command
   pub asked : IsAsked words command
   pub does : Performs disk host reading writing reporting command before after answer
+  pub noted : Notes disk.files.bytes reading.remaining command before [] notes answer
   pub flushed : Flushes writing before.output after.output answer
   pub unread : ReadsFiles command → after.input ≡ before.input
   pub silent : WritesFile command → after.output ≡ before.output
@@ -95,14 +105,16 @@ abbrev pub is_number : LineFault → Bool
 is_number Number = true
 is_number fault = false
 
--- the words ask for a command, which was carried out, with status 0; or it ended early, or the words are refused, and
+-- the words ask for a command, which was carried out, with status 0, and the notes beside its answer were written unless
+-- the words have the flag `quiet`; or it ended early, or the words are refused, and
 -- the error was reported, with its status
 abbrev pub ComesTo : {F R V T I O E : Type 0} → Disk F R V → Host F T → Reading I → Writing O → Writing E → List Bytes → HostSystem F I O E → HostSystem F I O E → ℕ
     → Result (Unit {0}) Fault → Type 0
-ComesTo disk host reading writing reporting words before after status (Ok done) =
-    (status ≡ 0) × Runs disk host reading writing reporting words before after (Ok done)
+ComesTo {F} {R} {V} {T} {I} {O} {E} disk host reading writing reporting words before after status (Ok done) =
+    (ended : HostSystem F I O E) × (notes : Bytes) × (status ≡ 0) × Runs disk host reading writing reporting words notes before ended (Ok done)
+    × WritesNotes reporting (is_verbose_line words) notes ended after
 ComesTo {F} {R} {V} {T} {I} {O} {E} disk host reading writing reporting words before after status (Err (OfCommand fault)) =
-    (ended : HostSystem F I O E) × Runs disk host reading writing reporting words before ended (Err fault)
+    (ended : HostSystem F I O E) × (notes : Bytes) × Runs disk host reading writing reporting words notes before ended (Err fault)
     × ReportsAll writing reporting (OfCommand fault) (is_verbose_line words && is_explained fault) ended after status
 ComesTo disk host reading writing reporting words before after status (Err (Line fault)) =
     RefusesLine words fault × ReportsAll writing reporting (Line fault) (is_number fault) before after status

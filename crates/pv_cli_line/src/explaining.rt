@@ -12,7 +12,7 @@ use crate::places::{push_path, push_process};
 use crate::readings::{push_directory, push_readings};
 use pv_cli_commands::host_copy::{ExportFault, ImportStop};
 use pv_cli_commands::questions::{AskStop, TreeQuestion, Unshown, ask_tree};
-use pv_cli_commands::run::{AuditStop, MigrateStop};
+use pv_cli_commands::run::MigrateStop;
 use pv_cli_commands::{Command, Fault, Files};
 use pv_model::{
     AuditFault, ImageFault, Layout, ListFault, ManifestFault, MigrateFault, RunFault, Version,
@@ -83,9 +83,7 @@ fn run_cause(fault: RunFault) -> Cause {
 // Returns the location of a command's error.
 fn cause_of(fault: Fault) -> Cause {
     match fault {
-        Fault::Run(fault)
-        | Fault::Auditing(AuditStop::Machine(fault))
-        | Fault::Asking(AskStop::Machine(fault)) => run_cause(fault),
+        Fault::Run(fault) | Fault::Asking(AskStop::Machine(fault)) => run_cause(fault),
         Fault::Listing(ListFault::Read)
         | Fault::Migrating(MigrateStop::Read)
         | Fault::Source(SourceStop::Read)
@@ -95,7 +93,6 @@ fn cause_of(fault: Fault) -> Cause {
         Fault::Source(SourceStop::Refused) => Cause::Source,
         Fault::Exporting(ExportFault::Directory) => Cause::Target,
         Fault::Listing(ListFault::Write)
-        | Fault::Auditing(AuditStop::Write)
         | Fault::Asking(AskStop::Write)
         | Fault::Source(SourceStop::Write) => Cause::Output,
         Fault::Migrating(MigrateStop::Write) | Fault::Importing(ImportStop::WriteImage) => {
@@ -118,8 +115,7 @@ fn cause_of(fault: Fault) -> Cause {
         | Fault::Exporting(ExportFault::Image(_))
         | Fault::Migrating(MigrateStop::Refused(MigrateFault::Image(_))) => Cause::Image,
         Fault::Migrating(MigrateStop::Refused(MigrateFault::Small)) => Cause::Sizes,
-        Fault::Auditing(AuditStop::Path(fault))
-        | Fault::Asking(AskStop::Audited(fault) | AskStop::File(fault)) => Cause::Path(fault),
+        Fault::Asking(AskStop::Audited(fault) | AskStop::File(fault)) => Cause::Path(fault),
         Fault::Asking(AskStop::NoProcess) => Cause::Process,
     }
 }
@@ -476,7 +472,12 @@ fn push_input<F: Files>(
 ) -> Result<(), AllocError> {
     match cause {
         Cause::Reading => push_readings(alloc, out, files, names.first_file(), names.schedule),
-        Cause::Directory => push_directory(alloc, out, files, names.first),
+        Cause::Directory => match command {
+            Command::ImportDirectory { directory, .. } => {
+                push_directory(alloc, out, files, directory)
+            }
+            _ => Ok(()),
+        },
         Cause::Text(named) => push_text(alloc, out, files, names, named),
         Cause::Schedule(line) => match names.schedule {
             Some(name) => push_turn(alloc, out, files, name, line),

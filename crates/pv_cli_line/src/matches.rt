@@ -512,11 +512,13 @@ fn import_in<'a>(matches: &ArgMatches<'a>) -> Option<Parsed<'a>>
         return Some(Parsed::Number);
     };
     let skips = is_flag_given(matches, "import", "skip");
+    let source = text_of(matches, "import", "with");
     Some(Parsed::Command(Command::ImportDirectory {
         directory,
         image,
         version,
         skips,
+        source,
     }))
 }
 

@@ -212,8 +212,17 @@ pub(crate) fn names_of<'a, F: Files>(alloc: Global, files: &F, command: Command<
             out,
         } => image_alone_named(image, Some(schedule), Some(out)),
         Command::ImportDirectory {
+            image,
+            source: Some(source),
+            ..
+        } => Names {
+            out: Some(image),
+            ..text_alone_named(source, "a source")
+        },
+        Command::ImportDirectory {
             directory,
             image,
+            source: None,
             ..
         } => image_alone_named(directory, None, Some(image)),
         Command::MigrateImage { image, out, .. } => image_alone_named(image, None, Some(out)),

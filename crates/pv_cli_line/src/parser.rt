@@ -58,7 +58,7 @@ const VERBOSE: Argument = Flag {
 const QUIET: Argument = Flag {
     name: "quiet",
     short: Some('q'),
-    help: "do not explain an error; without -q the file, the system's reason, the line and the expected form follow it",
+    help: "do not explain an error, and leave out notes; without -q the file, the system's reason, the line and the expected form follow it",
 };
 
 // The option that names a bundle, in place of an image and a schedule.
@@ -382,7 +382,7 @@ const SEARCHES: &[CommandRow] = &[
     CommandRow {
         name: "import",
         about: "Make an image from a host directory: directories, files, symbolic links and hard links",
-        example: "Example, with the files of examples/:\n  pvsim import . image --image-version 2",
+        example: "Example, with the files of examples/:\n  pvsim import . image --image-version 2 --with sources/motd",
         arguments: &[
             Required("DIR", "the host directory"),
             Required("IMAGE", "the image file to write"),
@@ -396,6 +396,12 @@ const SEARCHES: &[CommandRow] = &[
                 name: "skip",
                 short: None,
                 help: "skip entries that an image cannot hold; they are reported with or without this option",
+            },
+            Named {
+                name: "with",
+                short: None,
+                value: "SOURCE",
+                help: "add the programs and files of a source, in place of what DIR has at their paths; the size of the image is the greatest of its version, whatever the source says, and its schedule is ignored; '-' is standard input",
             },
         ],
     },

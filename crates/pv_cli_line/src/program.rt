@@ -3,7 +3,7 @@ ghost use Rattle.std.specs.Prelude.{◌≡◌, ◌≢◌, map, ◌&&◌};
 ghost use Rattle.pv_cli_commands.specs.Status.{status_of as command_status_of};
 ghost use Rattle.pv_cli_commands.specs.Streams.{disk_of, host_of};
 ghost use Rattle.pv_cli_line.specs.declared.fault.Fault.TheVariants.{Command as OfCommand, Line as OfLine};
-ghost use Rattle.pv_cli_line.specs.Program.{EndsWith, Reports, ReportsAll, is_explained, is_number};
+ghost use Rattle.pv_cli_line.specs.Program.{EndsWith, Reports, ReportsAll, WritesNotes, is_explained, is_number};
 
 use crate::command::{CommandLine, LineFault, command_line_of};
 use crate::explaining::{explain, is_explained};
@@ -11,7 +11,7 @@ use crate::fault::Fault;
 use crate::message::write_message;
 use crate::numbers::explain_number;
 use pv_cli_commands::{Directories, Fault as CommandFault, Files, HostSystem, Progress, perform};
-use pv_streams::{Failed, Sink, Source};
+use pv_streams::{Failed, Sink, Source, write_through};
 use std::alloc::Global;
 use std::convert::AsStr;
 
@@ -85,12 +85,34 @@ fn report_words<S: AsStr, F: Drop, I: Drop, O: Sink + Drop, E: Sink + Drop>(
     status
 }
 
+// Writes the notes beside an answer to the standard error, if they are requested, and returns the exit status of
+// success. If a write fails, nothing more is written.
+#[tactic(auto, using(crate::proofs::Reported::notes_unrequested, crate::proofs::Reported::notes_absent, crate::proofs::Reported::notes_written))]
+fn report_notes<F: Drop, I: Drop, O: Drop, E: Sink + Drop>(
+    requested: bool,
+    notes: &[u8],
+    system: &mut HostSystem<F, I, O, E>,
+) -> u8
+    ensures notes { WritesNotes E.Sink requested notes.now system.old system.new }
+    ensures status { result ≡ 0 }
+{
+    if !requested {
+        return 0;
+    }
+    if notes.is_empty() {
+        return 0;
+    }
+    let _written = write_through(&mut system.errors, notes);
+    0
+}
+
 /// Runs the program: carries out the command in the words, whose first is the name of the program, reports an error to
 /// a person, and returns the exit status.
 ///
 /// The status is 0 on success and after help or the version, 1 if the input is invalid, 2 for an error in the command
 /// line, 3 if there is no memory, 4 if a read or a write fails, and 5 if a search left a state out. Unless the words have
-/// the flag `quiet`, an error is explained in lines that begin with two spaces. If the standard output had nothing buffered and the status is not 4, it has nothing buffered
+/// the flag `quiet`, an error is explained in lines that begin with two spaces, and notes beside an answer are written to
+/// the standard error in lines that begin with `pvsim: note: `. If the standard output had nothing buffered and the status is not 4, it has nothing buffered
 /// afterwards. A search of states reports to `progress`.
 pub fn run<
     S: AsStr,
@@ -108,8 +130,9 @@ pub fn run<
         Ok(line) => line,
         Err(fault) => return report_words(alloc, words, fault, system),
     };
-    match perform(alloc, line.command, system, progress) {
-        Ok(()) => 0,
+    let mut notes = Vec::new(alloc);
+    match perform(alloc, line.command, system, &mut notes, progress) {
+        Ok(()) => report_notes(line.is_verbose, &notes, system),
         Err(fault) => report_all(alloc, line, fault, system),
     }
 }

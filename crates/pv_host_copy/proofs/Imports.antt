@@ -3,7 +3,7 @@ use Rattle.std.proofs.Common.{◌≡◌, ◌∙◌, ℕ, ◌+◌, ◌-◌, ap, s
 use Rattle.std.specs.Prelude.{map, flat_map, IfSome}
 use Rattle.pv_model.specs.declared.limits.TheConstants.{INODES}
 use Rattle.pv_model.specs.declared.version.Version.{Version}
-use Rattle.pv_model.specs.Machine.{Bytes, named_tree, inode_blocks, greatest_blocks, Tree}
+use Rattle.pv_model.specs.Machine.{Bytes, Entry, named_tree, inode_blocks, greatest_blocks, Tree}
 use Rattle.pv_image.proofs.Named.{named_tree-all}
 use Rattle.pv_image_write.specs.Written.{BeginsImage, WritesImage}
 use Rattle.pv_laws_trees.specs.Preserved.{EachIsNamed}
@@ -17,11 +17,12 @@ use Rattle.pv_host_copy.specs.declared.image.ImportStop.TheVariants as image
 use Rattle.pv_host_copy.specs.declared.importing.Importing.{Importing}
 use Rattle.pv_host_copy.specs.Firsts.{first_pair, skipped_pair}
 use Rattle.pv_host_copy.specs.Gathered.{gather, left_out, nothing_gathered}
+use Rattle.pv_host_copy.specs.Given.{IsMergedTree, beside}
 use Rattle.pv_host_copy.specs.Hosts.{HostEntries}
 use Rattle.pv_host_copy.specs.Imported.{greatest_tree, IsTreeOf}
 use Rattle.pv_host_copy.specs.Importing.{Holds, Steps, StopsIf}
 use Rattle.pv_host_copy.specs.Lines.{skipped_line}
-use Rattle.pv_host_copy.specs.Stopped.{IsRefused, StopsCopy, refused_pair}
+use Rattle.pv_host_copy.specs.Stopped.{IsRefused, StopsCopy, StopsMerge, refused_pair}
 use Rattle.pv_host_copy.specs.Written.{Imports, ReportsPairs, ReportsStop}
 
 -- the state at the end
@@ -59,10 +60,10 @@ reports-tree t before after named image = subst (λ (u : Tree). WritesImage u be
 pub begins-tree : (t : Tree) (before after : Option Bytes) → EachIsNamed t → BeginsImage (named_tree t) before after → BeginsImage t before after
 begins-tree t before after named image = subst (λ (u : Tree). BeginsImage u before after) (named_tree-all t named) image
 
-module _ (v : Version) (skips : Bool) (before after unreported reported : Option Bytes) where
+module _ (v : Version) (given : List (ℕ × Entry)) (skips : Bool) (before after unreported reported : Option Bytes) where
   -- why a directory was not copied
-  pub imports-stop : (known : Option HostEntries) (s : CopyStop) (r : ImportStop) → StopsCopy v known s → ReportsStop s unreported r reported → after ≡ before
-      → Imports v skips known (Err r) before after unreported reported
+  pub imports-stop : (known : Option HostEntries) (s : CopyStop) (r : ImportStop) → StopsMerge v given known s → ReportsStop s unreported r reported → after ≡ before
+      → Imports v given skips known (Err r) before after unreported reported
   imports-stop known stop.Read r stops reports preserved = rw reports.0 (preserved, (stops, reports.1))
   imports-stop known stop.Memory r stops reports preserved = rw reports.0 (preserved, inl reports.1)
   imports-stop known (stop.Entry refused) image.Read stops reports preserved = absurd reports
@@ -75,11 +76,11 @@ module _ (v : Version) (skips : Bool) (before after unreported reported : Option
 
   module _ (pairs : List (Bytes × SkipReason)) where
     abbrev AreLeftOut : Option HostEntries → Type 0
-    AreLeftOut known = IfSome known (λ host. pairs ≡ left_out v host)
+    AreLeftOut known = IfSome known (λ host. pairs ≡ left_out v (beside given [] host))
 
     -- why the skipped entries were not reported, or may not be skipped
     pub imports-unreported : (known : Option HostEntries) (r : ImportStop) → AreLeftOut known → ReportsPairs pairs skips unreported (Err r) reported → after ≡ before
-        → Imports v skips known (Err r) before after unreported reported
+        → Imports v given skips known (Err r) before after unreported reported
     imports-unreported known image.Read are reports preserved = absurd reports
     imports-unreported known image.Memory are reports preserved = (preserved, inl reports)
     imports-unreported None image.Refused are reports preserved = (preserved, tt)
@@ -90,18 +91,18 @@ module _ (v : Version) (skips : Bool) (before after unreported reported : Option
     imports-unreported known image.WriteImage are reports preserved = absurd reports
 
     pub imports-memory : (known : Option HostEntries) (done : Unit {0}) → AreLeftOut known → ReportsPairs pairs skips unreported (Ok done) reported → after ≡ before
-        → Imports v skips known (Err image.Memory) before after unreported reported
+        → Imports v given skips known (Err image.Memory) before after unreported reported
     imports-memory None done are reports preserved = (preserved, inr tt)
     imports-memory (Some host) done are reports preserved = (preserved, inr (reports.0 ∙ ap (λ ps. and_all unreported (flat_map skipped_line ps)) are))
 
     pub imports-begun : (known : Option HostEntries) (done : Unit {0}) (t : Tree) → AreLeftOut known → ReportsPairs pairs skips unreported (Ok done) reported
-        → IfSome known (λ host. IsTreeOf v host t) → BeginsImage t before after → Imports v skips known (Err image.WriteImage) before after unreported reported
+        → IfSome known (λ host. IsMergedTree v given host t) → BeginsImage t before after → Imports v given skips known (Err image.WriteImage) before after unreported reported
     imports-begun None done t are reports is begun = (tt, tt)
     imports-begun (Some host) done t are reports is begun =
         (record { tree = t; is = is; image = begun }, reports.0 ∙ ap (λ ps. and_all unreported (flat_map skipped_line ps)) are)
 
     pub imports-done : (known : Option HostEntries) (done last : Unit {0}) (t : Tree) → AreLeftOut known → ReportsPairs pairs skips unreported (Ok done) reported
-        → IfSome known (λ host. IsTreeOf v host t) → WritesImage t before after → Imports v skips known (Ok last) before after unreported reported
+        → IfSome known (λ host. IsMergedTree v given host t) → WritesImage t before after → Imports v given skips known (Ok last) before after unreported reported
     imports-done None done last t are reports is image = tt
     imports-done (Some host) done last t are reports is image = (
       record { tree = t; is = is; image = image },

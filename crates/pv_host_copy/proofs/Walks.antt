@@ -6,7 +6,7 @@ use Rattle.pv_model.specs.declared.version.Version.{Version}
 use Rattle.pv_model.specs.Machine.{Bytes, Entry, make, further_name, Node, Tree, directory_node}
 use Rattle.pv_host_copy.specs.declared.entry.HostEntry.{HostEntry}
 use Rattle.pv_host_copy.specs.declared.entry.HostNode.{HostNode}
-use Rattle.pv_host_copy.specs.declared.entry.HostNode.TheVariants.{Directory, File, Link, Other}
+use Rattle.pv_host_copy.specs.declared.entry.HostNode.TheVariants.{Directory, File, Link, Other, Replaced}
 use Rattle.pv_host_copy.specs.declared.entry.Identity.{Identity}
 use Rattle.pv_host_copy.specs.declared.fault.CopyStop.{CopyStop}
 use Rattle.pv_host_copy.specs.declared.fault.CopyStop.TheVariants as stop
@@ -18,12 +18,12 @@ use Rattle.pv_host_copy.specs.declared.fault.SkipReason.TheVariants.{Name}
 use Rattle.pv_host_copy.specs.declared.importing.Importing.{Importing}
 use Rattle.pv_host_copy.specs.declared.walking.OpenDirectory.{OpenDirectory}
 use Rattle.pv_host_copy.specs.Gathered.{Gathered, and_entry, and_first_entry, and_skipped, and_node, and_linked, and_directory, and_file, and_link, first_of, gather}
-use Rattle.pv_host_copy.specs.Hosts.{HostEntries, no_more, a_directory, a_file, a_link, an_other}
+use Rattle.pv_host_copy.specs.Hosts.{HostEntries, no_more, a_directory, a_file, a_link, an_other, a_replaced}
 use Rattle.pv_host_copy.specs.Importing.{Holds, Steps, Stops, StopsIf, Goes, GoesIf, Keeps}
 use Rattle.pv_image_manifest.specs.Paths.{is_path}
 use Rattle.pv_host_copy.specs.Paths.{below}
 use Rattle.pv_host_copy.specs.Stopped.{IsRefused, refused_pair, stop_of}
-use Rattle.pv_host_copy.specs.Reporting.{IsDirectory, IsFile, IsLink, IsFewer, IsOther, Reports, left_below}
+use Rattle.pv_host_copy.specs.Reporting.{IsDirectory, IsFile, IsLink, IsFewer, IsOther, IsReplaced, Reports, left_below}
 use Rattle.pv_host_copy.specs.Walking.{OpensNone, Takes, and_opened}
 use Rattle.pv_host_copy.proofs.Stepping.{Continues, goes-known, steps-if, stops-if, stops-on}
 
@@ -79,6 +79,7 @@ module _ (v : Version) where
       both-extend (and_link v (below path name) identity text) (gather v path rest) (linked-extends (below path name) identity _ _ _) (gather-extends path rest)
   gather-extends path (an_other name why rest) =
       both-extend (and_skipped (below path name) why) (gather v path rest) (reported-extends (below path name) why) (gather-extends path rest)
+  gather-extends path (a_replaced name rest) = gather-extends path rest
 
 -- an error stays the same if more entries follow
 refused-more : (es more all : List (ℕ × Entry)) (start : Tree) (refused : Bytes × EntryFault) → all ≡ es ++ more → IsRefused es start refused → IsRefused all start refused
@@ -136,6 +137,7 @@ GoesByNode entries_of bytes_of v path (Directory d) before result after = GoesIf
 GoesByNode entries_of bytes_of v path (File identity executable r) before result after = GoesIf (bytes_of r) (and_file v path identity executable) before result after
 GoesByNode entries_of bytes_of v path (Link identity text) before result after = Goes (and_link v path identity text.items) before result after
 GoesByNode entries_of bytes_of v path (Other why) before result after = Goes (and_skipped path why) before result after
+GoesByNode entries_of bytes_of v path Replaced before result after = Goes (λ g. g) before result after
 
 module _ {D R : Type 0} (entries_of : D → Option HostEntries) (bytes_of : R → Option Bytes) (v : Version) {X : Type 0} (now next : Importing) (r : Result X CopyStop) where
   abbrev GoesBy : Bytes → HostNode D R → Type 0
@@ -147,6 +149,7 @@ module _ {D R : Type 0} (entries_of : D → Option HostEntries) (bytes_of : R �
   directory-goes path inside (File i x f) is goes = absurd is
   directory-goes path inside (Link i t) is goes = absurd is
   directory-goes path inside (Other w) is goes = absurd is
+  directory-goes path inside Replaced is goes = absurd is
 
   file-goes : (path : Bytes) (identity : Identity) (executable : Bool) (bytes : Bytes) (node : HostNode D R) → IsFile entries_of bytes_of identity executable bytes node → GoesBy path node
       → Goes (and_file v path identity executable bytes) now r next
@@ -156,6 +159,7 @@ module _ {D R : Type 0} (entries_of : D → Option HostEntries) (bytes_of : R �
   file-goes path identity executable bytes (Directory d) is goes = absurd is
   file-goes path identity executable bytes (Link i t) is goes = absurd is
   file-goes path identity executable bytes (Other w) is goes = absurd is
+  file-goes path identity executable bytes Replaced is goes = absurd is
 
   link-goes : (path : Bytes) (identity : Identity) (text : Bytes) (node : HostNode D R) → IsLink entries_of bytes_of identity text node → GoesBy path node
       → Goes (and_link v path identity text) now r next
@@ -164,12 +168,21 @@ module _ {D R : Type 0} (entries_of : D → Option HostEntries) (bytes_of : R �
   link-goes path identity text (Directory d) is goes = absurd is
   link-goes path identity text (File i x f) is goes = absurd is
   link-goes path identity text (Other w) is goes = absurd is
+  link-goes path identity text Replaced is goes = absurd is
 
   other-goes : (path : Bytes) (why : SkipReason) (node : HostNode D R) → IsOther entries_of bytes_of why node → GoesBy path node → Goes (and_skipped path why) now r next
   other-goes path why (Other w) is goes = subst (λ y. Goes (and_skipped path y) now r next) is goes
   other-goes path why (Directory d) is goes = absurd is
   other-goes path why (File i x f) is goes = absurd is
   other-goes path why (Link i t) is goes = absurd is
+  other-goes path why Replaced is goes = absurd is
+
+  replaced-goes : (path : Bytes) (node : HostNode D R) → IsReplaced entries_of bytes_of node → GoesBy path node → Goes (λ g. g) now r next
+  replaced-goes path Replaced is goes = goes
+  replaced-goes path (Directory d) is goes = absurd is
+  replaced-goes path (File i x f) is goes = absurd is
+  replaced-goes path (Link i t) is goes = absurd is
+  replaced-goes path (Other w) is goes = absurd is
 
   module _ (path : Bytes) (e : HostEntry D R) (after : Option HostEntries) where
     -- the entries after the first, and the change of the first
@@ -191,6 +204,8 @@ module _ {D R : Type 0} (entries_of : D → Option HostEntries) (bytes_of : R �
         (rest, reported.2, (and_link v (below path name) identity text, link-goes (below path name) identity text e.node reported.1 (subst GoesHere reported.0 goes), λ g. refl))
     first-goes (an_other name why rest) reported goes =
         (rest, reported.2, (and_skipped (below path name) why, other-goes (below path name) why e.node reported.1 (subst GoesHere reported.0 goes), λ g. refl))
+    first-goes (a_replaced name rest) reported goes =
+        (rest, reported.2, ((λ g. g), replaced-goes (below path name) e.node reported.1 (subst GoesHere reported.0 goes), λ g. refl))
 
 -- ---- the directories that are being read, the current one last
 
@@ -310,6 +325,7 @@ module _ {D : Type 0} (entries_of : D → Option HostEntries) (v : Version) (bef
       no-more (a_file name identity executable bytes rest) after reported = absurd reported
       no-more (a_link name identity text rest) after reported = absurd reported
       no-more (an_other name why rest) after reported = absurd reported
+      no-more (a_replaced name rest) after reported = absurd reported
 
       -- the current directory has no more names
       pub goes_on-end : (all : Option HostEntries) (after : Option HostEntries) → GoesOn entries_of v all ds before now
@@ -340,6 +356,7 @@ module _ {D : Type 0} (entries_of : D → Option HostEntries) (v : Version) (bef
         takes-goes (File i x f) r none takes = subst (λ w. GoesIf (bytes_of f) (and_file w place i x) now r next) (sym same) takes.1
         takes-goes (Link i t) r none takes = subst (λ w. Goes (and_link w place i t.items) now r next) (sym same) takes.1
         takes-goes (Other w) r none takes = takes.1
+        takes-goes Replaced r none takes = takes.1
 
         goes_on-settled : (host : HostEntries) → GoesOn entries_of v (Some host) ds before now → Takes bytes_of place e.node now (Ok None) next
             → GoesOn entries_of v (Some host) (os ++ after ∷ []) before next
@@ -368,6 +385,7 @@ module _ {D : Type 0} (entries_of : D → Option HostEntries) (v : Version) (bef
         opened-node (File i x f) opened takes = absurd takes.0
         opened-node (Link i t) opened takes = absurd takes.0
         opened-node (Other w) opened takes = absurd takes.0
+        opened-node Replaced opened takes = absurd takes.0
 
         record FirstOpened (rest : HostEntries) (d : D) : Type 0 where
           inside : HostEntries
@@ -388,6 +406,7 @@ module _ {D : Type 0} (entries_of : D → Option HostEntries) (v : Version) (bef
         first-opened (a_file name identity executable bytes left) d reported is = absurd (subst (λ n. IsFile entries_of bytes_of identity executable bytes n) is reported.1)
         first-opened (a_link name identity text left) d reported is = absurd (subst (λ n. IsLink entries_of bytes_of identity text n) is reported.1)
         first-opened (an_other name why left) d reported is = absurd (subst (λ n. IsOther entries_of bytes_of why n) is reported.1)
+        first-opened (a_replaced name left) d reported is = absurd (subst (λ n. IsReplaced entries_of bytes_of n) is reported.1)
 
         goes_on-opened : (host : HostEntries) (opened : OpenDirectory D) → GoesOn entries_of v (Some host) ds before now → Takes bytes_of place e.node now (Ok (Some opened)) next
             → GoesOn entries_of v (Some host) ((os ++ after ∷ []) ++ opened ∷ []) before next
@@ -465,6 +484,7 @@ module _ {D : Type 0} (left : D → ℕ) (os : List (OpenDirectory D)) (o : Open
     steps-opened opened (File i x f) less takes = absurd takes.0
     steps-opened opened (Link i t) less takes = absurd takes.0
     steps-opened opened (Other w) less takes = absurd takes.0
+    steps-opened opened Replaced less takes = absurd takes.0
 
     pub steps-next : (e : HostEntry D R) (opened : Option (OpenDirectory D)) → IsFewer left (left o.directory) (Some e) (left after.directory)
         → Takes bytes_of path e.node now (Ok opened) next → steps_left left (and_opened os after opened) < steps_left left ds

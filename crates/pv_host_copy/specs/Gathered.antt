@@ -6,7 +6,7 @@ use Rattle.pv_model.specs.Machine.{Bytes, Entry, make, further_name, greatest_le
 use Rattle.pv_host_copy.specs.declared.entry.Identity.{Identity}
 use Rattle.pv_host_copy.specs.declared.fault.SkipReason.{SkipReason}
 use Rattle.pv_host_copy.specs.declared.fault.SkipReason.TheVariants.{Name, Size, Text}
-use Rattle.pv_host_copy.specs.Hosts.{HostEntries, no_more, a_directory, a_file, a_link, an_other, is_same}
+use Rattle.pv_host_copy.specs.Hosts.{HostEntries, no_more, a_directory, a_file, a_link, an_other, a_replaced, is_same}
 use Rattle.pv_image_manifest.specs.Paths.{is_path}
 use Rattle.pv_host_copy.specs.Paths.{below}
 
@@ -66,6 +66,7 @@ module _ (v : Version) where
   gather path (a_file name identity executable bytes rest) g = gather path rest (and_file (below path name) identity executable bytes g)
   gather path (a_link name identity text rest) g = gather path rest (and_link (below path name) identity text g)
   gather path (an_other name why rest) g = gather path rest (and_skipped (below path name) why g)
+  gather path (a_replaced name rest) g = gather path rest g
 
   -- the entries of a host directory
   abbrev pub entries_of : HostEntries → List (ℕ × Entry)

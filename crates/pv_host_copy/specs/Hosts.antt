@@ -4,14 +4,15 @@ use Rattle.pv_model.specs.Machine.{Bytes, is_past}
 use Rattle.pv_host_copy.specs.declared.entry.Identity.{Identity}
 use Rattle.pv_host_copy.specs.declared.fault.SkipReason.{SkipReason}
 
--- the entries of a directory: a directory with its own entries, a file, a symbolic link, or something that is not
--- copied, with the reason
+-- the entries of a directory: a directory with its own entries, a file, a symbolic link, something that is not copied,
+-- with the reason, or something whose place another entry takes
 pub data HostEntries : Type 0 where
   no_more : HostEntries
   a_directory : (name : Bytes) (inside rest : HostEntries) → HostEntries
   a_file : (name : Bytes) (identity : Identity) (executable : Bool) (bytes : Bytes) (rest : HostEntries) → HostEntries
   a_link : (name : Bytes) (identity : Identity) (text : Bytes) (rest : HostEntries) → HostEntries
   an_other : (name : Bytes) (why : SkipReason) (rest : HostEntries) → HostEntries
+  a_replaced : (name : Bytes) (rest : HostEntries) → HostEntries
 
 -- whether two names refer to one file or symbolic link
 abbrev pub is_same : Identity → Identity → Bool
@@ -25,3 +26,4 @@ is_ordered last (a_directory name inside rest) = is_past last name && is_ordered
 is_ordered last (a_file name identity executable bytes rest) = is_past last name && is_ordered (Some name) rest
 is_ordered last (a_link name identity text rest) = is_past last name && is_ordered (Some name) rest
 is_ordered last (an_other name why rest) = is_past last name && is_ordered (Some name) rest
+is_ordered last (a_replaced name rest) = is_past last name && is_ordered (Some name) rest

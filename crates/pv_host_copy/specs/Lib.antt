@@ -1,7 +1,11 @@
+pub mod Beside
+pub mod BesideOrder
 pub mod Created
 pub mod Exported
 pub mod Firsts
 pub mod Gathered
+pub mod Given
+pub mod GivenWorked
 pub mod Hosts
 pub mod Imported
 pub mod Importing

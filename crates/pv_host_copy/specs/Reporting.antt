@@ -4,9 +4,9 @@ use Rattle.pv_model.specs.Machine.{Bytes, is_past}
 use Rattle.pv_host_copy.specs.declared.entry.Identity.{Identity}
 use Rattle.pv_host_copy.specs.declared.entry.HostEntry.{HostEntry}
 use Rattle.pv_host_copy.specs.declared.entry.HostNode.{HostNode}
-use Rattle.pv_host_copy.specs.declared.entry.HostNode.TheVariants.{Directory, File, Link, Other}
+use Rattle.pv_host_copy.specs.declared.entry.HostNode.TheVariants.{Directory, File, Link, Other, Replaced}
 use Rattle.pv_host_copy.specs.declared.fault.SkipReason.{SkipReason}
-use Rattle.pv_host_copy.specs.Hosts.{HostEntries, no_more, a_directory, a_file, a_link, an_other}
+use Rattle.pv_host_copy.specs.Hosts.{HostEntries, no_more, a_directory, a_file, a_link, an_other, a_replaced}
 
 -- a directory is its remaining entries, and a reader is its remaining bytes
 module _ {D R : Type 0} (entries_of : D → Option HostEntries) (bytes_of : R → Option Bytes) where
@@ -30,6 +30,11 @@ module _ {D R : Type 0} (entries_of : D → Option HostEntries) (bytes_of : R �
   IsOther why (Other reason) = reason ≡ why
   IsOther why _ = ⊥
 
+  -- another entry takes the place of the node
+  abbrev pub IsReplaced : HostNode D R → Type 0
+  IsReplaced Replaced = ⊤
+  IsReplaced _ = ⊥
+
   -- the reported entry is the first, and the others remain
   abbrev pub Reports : HostEntries → Option (HostEntry D R) → Option HostEntries → Type 0
   Reports no_more None after = Unit {0}
@@ -37,6 +42,7 @@ module _ {D R : Type 0} (entries_of : D → Option HostEntries) (bytes_of : R �
   Reports (a_file name identity executable bytes rest) (Some e) after = (e.name.items ≡ name) × IsFile identity executable bytes e.node × (after ≡ Some rest)
   Reports (a_link name identity text rest) (Some e) after = (e.name.items ≡ name) × IsLink identity text e.node × (after ≡ Some rest)
   Reports (an_other name why rest) (Some e) after = (e.name.items ≡ name) × IsOther why e.node × (after ≡ Some rest)
+  Reports (a_replaced name rest) (Some e) after = (e.name.items ≡ name) × IsReplaced e.node × (after ≡ Some rest)
   Reports _ _ after = ⊥
 
 -- the number of entries in a reported directory is at most this

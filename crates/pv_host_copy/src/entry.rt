@@ -28,6 +28,8 @@ pub enum HostNode<D: Drop, R: Drop> {
     },
     /// Something that is not copied, such as a device or a socket, and the reason.
     Other(SkipReason),
+    /// Something whose place another entry takes. It is not copied, and not reported.
+    Replaced,
 }
 
 /// An entry of a host directory.

@@ -1,6 +1,7 @@
-//! Writing the image of a host directory.
+//! Writing the image of a host directory and the entries of a source.
 ghost use Rattle.std.specs.Prelude.{◌≡◌, map, Err, OnOk};
 ghost use Rattle.pv_model.specs.Machine.{Rose};
+ghost use Rattle.pv_image_manifest.specs.Entries.{entry_of_line};
 ghost use Rattle.pv_image_write.specs.Written.{WritesTree};
 ghost use Rattle.pv_host_copy.specs.Firsts.{skipped_pair};
 ghost use Rattle.pv_host_copy.specs.Written.{Imports, ReportsPairs, ReportsStop};
@@ -8,9 +9,10 @@ ghost use Rattle.pv_host_copy.specs.declared.fault.CopyStop.TheVariants.{Entry a
 
 use crate::directory::HostDirectory;
 use crate::fault::{CopyStop, Refused};
-use crate::import::{Imported, import_tree};
+use crate::import::{Imported, import_beside};
 use crate::lines::{write_refused, write_skipped};
 use crate::skipped::Skipped;
+use pv_image_manifest::Entry;
 use pv_image_write::{WriteFault, write_tree};
 use pv_model::Version;
 use pv_streams::{Gathered, Sink, write_through};
@@ -90,8 +92,9 @@ fn report_stop<E: Sink>(alloc: Global, stop: &CopyStop, errors: &mut E) -> Impor
     }
 }
 
-/// Writes the image of a host directory: that of the tree that `import_tree` builds. Each skipped entry is reported in
-/// a line on `errors`. If `skips` is false, no entry may be skipped.
+/// Writes the image of a host directory and of the entries of a source, which may be none: that of the tree that
+/// `import_beside` builds. Each skipped entry is reported in a line on `errors`. If `skips` is false, no entry may be
+/// skipped.
 ///
 /// # Errors
 ///
@@ -108,15 +111,16 @@ pub fn import_image<D: HostDirectory, W: Sink, E: Sink>(
     version: Version,
     skips: bool,
     directory: D,
+    given: &[Entry],
     image: &mut W,
     errors: &mut E,
 ) -> Result<(), ImportStop>
-    ensures imports { Imports version skips (D.rest directory) result (W.written image.old) (W.written image.new) (E.written errors.old) (E.written errors.new) }
+    ensures imports { Imports version (map entry_of_line given.now) skips (D.rest directory) result (W.written image.old) (W.written image.new) (E.written errors.old) (E.written errors.new) }
     ensures write_lines { result ≡ Err ImportStop.WriteLines → Rose (E.failures errors.old) (E.failures errors.new) }
     ensures write_image { result ≡ Err ImportStop.WriteImage → Rose (W.failures image.old) (W.failures image.new) }
     ensures flushed { OnOk result (W.buffered image.new ≡ 0) }
 {
-    let Imported { store, reported } = match import_tree(alloc, version, directory) {
+    let Imported { store, reported } = match import_beside(alloc, version, directory, given) {
         Ok(imported) => imported,
         Err(stop) => return Err(report_stop(alloc, &stop, errors)),
     };

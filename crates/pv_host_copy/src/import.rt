@@ -1,16 +1,21 @@
 //! Importing a host directory to the tree of an image.
-ghost use Rattle.std.specs.Prelude.{◌≡◌, map, IfOk, IfErr, IfSome};
+ghost use Rattle.std.specs.Prelude.{◌≡◌, [], map, IfOk, IfErr, IfSome};
 ghost use Rattle.pv_host_copy.specs.Firsts.{skipped_pair};
 ghost use Rattle.pv_host_copy.specs.Gathered.{left_out, nothing_gathered};
+ghost use Rattle.pv_host_copy.specs.Given.{IsMergedTree, beside};
 ghost use Rattle.pv_host_copy.specs.Importing.{Holds};
 ghost use Rattle.pv_host_copy.specs.Imported.{greatest_tree, IsTreeOf};
-ghost use Rattle.pv_host_copy.specs.Stopped.{StopsCopy};
+ghost use Rattle.pv_host_copy.specs.Stopped.{StopsCopy, StopsMerge};
+ghost use Rattle.pv_image_manifest.specs.Entries.{entry_of_line};
 
+use crate::beside::Beside;
 use crate::directory::HostDirectory;
 use crate::fault::CopyStop;
+use crate::given::add_missing;
 use crate::importing::Importing;
 use crate::skipped::Skipped;
 use crate::walking::import_directory;
+use pv_image_manifest::Entry;
 use pv_model::Version;
 use pv_model::limits::{BLOCK, INODES};
 use pv_tree::Store;
@@ -74,6 +79,42 @@ pub fn import_tree<D: HostDirectory>(
         firsts: _,
         reported,
     } = importing;
+    tree.order_entries();
+    Ok(Imported {
+        store: Store::of_tree(tree),
+        reported,
+    })
+}
+
+/// Imports a host directory as `import_tree` does, and adds the entries of a source. If both have a path, the source's
+/// entry takes the place of the host's, with everything below it; but a directory of both is one, which has the entries
+/// of both. A replaced entry is not reported.
+///
+/// # Errors
+///
+/// - `Read` and `Memory`, as for `import_tree`.
+/// - `Entry`: a path cannot be added to the tree of the paths before it; those of the source are the last.
+pub fn import_beside<D: HostDirectory>(
+    alloc: Global,
+    version: Version,
+    directory: D,
+    given: &[Entry],
+) -> Result<Imported, CopyStop>
+    ensures tree { IfOk result (λ imported. IfSome (D.rest directory) (λ host. IsMergedTree version (map entry_of_line given.now) host imported.store)) }
+    ensures reported { IfOk result (λ imported. IfSome (D.rest directory) (λ host.
+        map skipped_pair imported.reported.items ≡ left_out version (beside (map entry_of_line given.now) [] host))) }
+    ensures stopped { IfErr result (StopsMerge version (map entry_of_line given.now) (D.rest directory)) }
+{
+    let path = Vec::new(alloc);
+    let beside = Beside {
+        directory,
+        path,
+        given,
+    };
+    let imported = import_tree(alloc, version, beside)?;
+    let Imported { store, reported } = imported;
+    let mut tree = store.into_tree();
+    add_missing(alloc, &mut tree, given)?;
     tree.order_entries();
     Ok(Imported {
         store: Store::of_tree(tree),

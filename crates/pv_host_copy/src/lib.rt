@@ -3,17 +3,20 @@
 //! `directory`, `entry` and `file` define the traits and types of a host directory, and `fault` the errors. For
 //! imports, `importing` has the tree so far, with the first paths of its files (`first`) and the skipped entries
 //! (`skipped`, with their lines in `lines`). `reading` reads the bytes of a file, `walking` descends into directories,
-//! `import` imports a directory, and `image` writes the image. For exports, `target` defines the trait of a directory in which a tree is created, `exporting`
+//! and `import` imports a directory. `given` adds the entries of a source, which replace some of the directory's
+//! (`beside`), and `image` writes the image. For exports, `target` defines the trait of a directory in which a tree is created, `exporting`
 //! creates the tree, and `unpacking` reads it from an image and reports errors. `laws` states what an import makes of an
-//! export.
+//! export, and of a directory beside the entries of a source.
 #![tactic(auto)]
 
+mod beside;
 mod directory;
 mod entry;
 mod exporting;
 mod fault;
 mod file;
 mod first;
+mod given;
 mod image;
 mod import;
 mod importing;
@@ -31,8 +34,10 @@ pub use exporting::{ExportStop, export};
 pub use fault::{CopyStop, HostFault, Refused, SkipReason};
 pub use file::HostFile;
 pub use image::{ImportStop, import_image};
-pub use import::{Imported, import_tree};
-pub use laws::export_is_imported;
+pub use import::{Imported, import_beside, import_tree};
+pub use laws::{
+    export_is_imported, import_needs_no_source, worked_imports_are_as_they_are_written,
+};
 pub use lines::{write_refused, write_skipped, write_unmade};
 pub use skipped::Skipped;
 pub use target::{HostTarget, TargetFault};

@@ -20,8 +20,12 @@ pub(crate) struct OpenDirectory<D: Drop> {
     pub(crate) path: Vec<u8>,
 }
 
-// Returns the path of a name in a directory.
-fn path_below(alloc: Global, directory: &[u8], name: &[u8]) -> Result<Vec<u8>, AllocError>
+/// Returns the path of a name in a directory.
+pub(crate) fn path_below(
+    alloc: Global,
+    directory: &[u8],
+    name: &[u8],
+) -> Result<Vec<u8>, AllocError>
     ensures { IfOk result (λ path. path.items ≡ below directory.now name.now) }
 {
     let mut path = Vec::from_slice(alloc, directory)?;
@@ -63,6 +67,7 @@ fn take<D: HostDirectory>(
             importing.report(alloc, &path, why)?;
             Ok(None)
         }
+        HostNode::Replaced => Ok(None),
     }
 }
 

@@ -5,3 +5,5 @@ pub mod ExplainMoreWorked
 pub mod Exposure
 pub mod ExposureWorked
 pub mod Fixed
+pub mod Notes
+pub mod NotesWorked

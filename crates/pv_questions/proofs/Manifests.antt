@@ -1,13 +1,14 @@
 -- The manifest of a bundle or a manifest alone, and the tree that it makes.
-use Rattle.std.proofs.Common.{◌≡◌, refl, ℕ, List, [], Result, Ok, Err}
+use Rattle.std.proofs.Common.{◌≡◌, ap, refl, ℕ, List, [], Result, Ok, Err}
 use Rattle.pv_image_manifest.specs.Reading.{GivesManifest, RefusesManifest, manifest_before}
 use Rattle.pv_image_manifest.specs.declared.manifest.Manifest.{Manifest as ParsedManifest}
 use Rattle.pv_model.specs.declared.fault.ManifestFault.{ManifestFault}
 use Rattle.pv_model.specs.declared.fault.ManifestFault.TheVariants.{Form, Size, Parent, Exists, Source, Room, Memory}
-use Rattle.pv_model.specs.Machine.{Bytes, read_bundle, read_manifest, tree_of, Tree}
+use Rattle.pv_model.specs.declared.run_fault.RunFault.{RunFault}
+use Rattle.pv_model.specs.Machine.{Bytes, and_then, read_bundle, read_manifest, tree_of, Tree}
 use Rattle.pv_model.specs.RunFault.{of_manifest}
 use Rattle.pv_run.specs.Run.{RefusesStart}
-use Rattle.pv_questions.specs.Trees.{GivesManifestOf, manifest_tree, read_manifest_of}
+use Rattle.pv_questions.specs.Trees.{GivesManifestOf, asked_manifest, manifest_tree, read_manifest_of}
 
 module _ (bytes : Bytes) where
   pub of_bundle : (m : ParsedManifest) (following : List Bytes) → read_bundle bytes ≡ Ok (manifest_before m following)
@@ -37,15 +38,23 @@ module _ (bytes : Bytes) where
   unfolding manifest_tree
   refused-no_manifest f is = rw is refl
 
+  -- the error of a manifest is that of each text that it determines
+  refuses-start : {A : Type 0} (asked : Result A RunFault) (f : ManifestFault) → RefusesManifest f (read_manifest_of bytes)
+      → ((g : ManifestFault) → read_manifest_of bytes ≡ Err g → asked ≡ Err (of_manifest g)) → RefusesStart (of_manifest f) asked
+  refuses-start asked (Form n) is by = by (Form n) is
+  refuses-start asked Size is by = by Size is
+  refuses-start asked (Parent n) is by = by (Parent n) is
+  refuses-start asked (Exists n) is by = by (Exists n) is
+  refuses-start asked (Source n) is by = by (Source n) is
+  refuses-start asked (Room n) is by = by (Room n) is
+  refuses-start asked Memory is by = tt
+
   -- a manifest that is refused
   pub refuses_manifest : (f : ManifestFault) → RefusesManifest f (read_manifest_of bytes) → RefusesStart (of_manifest f) (manifest_tree bytes)
-  refuses_manifest (Form n) is = refused-no_manifest (Form n) is
-  refuses_manifest Size is = refused-no_manifest Size is
-  refuses_manifest (Parent n) is = refused-no_manifest (Parent n) is
-  refuses_manifest (Exists n) is = refused-no_manifest (Exists n) is
-  refuses_manifest (Source n) is = refused-no_manifest (Source n) is
-  refuses_manifest (Room n) is = refused-no_manifest (Room n) is
-  refuses_manifest Memory is = tt
+  refuses_manifest f is = refuses-start (manifest_tree bytes) f is refused-no_manifest
+
+  pub refuses_read : (f : ManifestFault) → RefusesManifest f (read_manifest_of bytes) → RefusesStart (of_manifest f) (asked_manifest bytes)
+  refuses_read f is = refuses-start (asked_manifest bytes) f is (λ g none. ap (λ read. and_then of_manifest read (λ m. Ok m)) none)
 
   module _ (m : ParsedManifest) (following : List Bytes) (read : read_manifest_of bytes ≡ Ok (manifest_before m following)) where
     pub made : (t : Tree) → tree_of (manifest_before m []) ≡ Ok t → manifest_tree bytes ≡ Ok t

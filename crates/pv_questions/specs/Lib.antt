@@ -3,6 +3,7 @@ pub mod Comparing
 pub mod Asking
 pub mod Files
 pub mod Laws
+pub mod Noting
 pub mod Reasons
 pub mod Schedules
 pub mod Trees

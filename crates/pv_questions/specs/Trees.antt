@@ -1,15 +1,19 @@
 -- The answer to a question of a tree.
-use Rattle.std.specs.Prelude.{◌≡◌, ⊤, ℕ, max, Bool, true, if◌then◌else◌, List, Result, Ok, Err}
+use Rattle.std.specs.Prelude.{◌≡◌, ⊤, ℕ, max, Bool, true, if◌then◌else◌, List, Result, Ok, Err, IfErr, IfOk, IfSome}
 use Rattle.pv_image_manifest.specs.Reading.{RefusesManifest, manifest_before}
 use Rattle.pv_image_manifest.specs.declared.manifest.Manifest.{Manifest as ParsedManifest}
 use Rattle.pv_model.specs.declared.fault.ManifestFault.{ManifestFault}
 use Rattle.pv_model.specs.declared.fault.ManifestFault.TheVariants.{Form}
 use Rattle.pv_model.specs.declared.run_fault.RunFault.{RunFault}
+use Rattle.pv_model.specs.declared.run_fault.RunFault.TheVariants.{Read}
+use Rattle.pv_model.specs.declared.stream.Source.{Ghosts as Reading}
 use Rattle.pv_model.specs.declared.verdict.AuditFault.{AuditFault}
 use Rattle.pv_model.specs.declared.kernel_fault.BootFault.{BootFault}
 use Rattle.pv_model.specs.Machine.{is_complete, graph_lines, AnswerLine, turns, Bytes, lines_of, Manifest, read_bundle, read_manifest, tree_of, program_of, listing, mounted, Started, and_then, booted, started_on, State, Tree}
 use Rattle.pv_model.specs.Answers.Turns.{schedule_text}
 use Rattle.pv_model.specs.RunFault.{of_boot, of_image, of_manifest}
+use Rattle.pv_run.specs.Machines.{IsBundleMachineFault, RefusesMachine}
+use Rattle.pv_streams.specs.Sources.{FailsToGive}
 use Rattle.pv_questions.specs.Answering.{Answer, answer_of, of_lines}
 use Rattle.pv_questions.specs.Files.{cat_of}
 use Rattle.pv_questions.specs.declared.question.RunQuestion.{RunQuestion}
@@ -35,6 +39,17 @@ read_manifest_of bytes = or_alone (read_bundle bytes) (read_manifest bytes)
 abbrev pub GivesManifestOf : Result ParsedManifest ManifestFault → Result Manifest ManifestFault → Type 0
 GivesManifestOf (Ok m) read = (following : List Bytes) × (read ≡ Ok (manifest_before m following))
 GivesManifestOf (Err fault) read = RefusesManifest fault read
+
+-- the manifest in bytes, or its error as that of a run
+abbrev pub asked_manifest : Bytes → Result Manifest RunFault
+asked_manifest bytes = and_then of_manifest (read_manifest_of bytes) (λ m. Ok m)
+
+-- a source gave a manifest, alone or in a bundle; or the error of its bytes, or a failed read, which was counted
+pub record ReadsManifest {S : Type 0} (reading : Reading S) (first last : S) (result : Result ParsedManifest RunFault) : Type 0 where
+  pub read : IfOk result (λ m. IfSome (reading.remaining first) (λ bytes. GivesManifestOf (Ok m) (read_manifest_of bytes)))
+  pub refused : IfErr result (λ fault. IfSome (reading.remaining first) (λ bytes. RefusesMachine fault (asked_manifest bytes)))
+  pub kind : IfErr result IsBundleMachineFault
+  pub failed : result ≡ Err Read → FailsToGive reading first last
 
 -- the tree of an image
 abbrev pub image_tree : Bytes → Result Tree RunFault

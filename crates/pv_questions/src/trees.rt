@@ -1,7 +1,7 @@
 //! Questions about a tree.
 ghost use Rattle.std.specs.Prelude.{◌≡◌, ◌≤◌, length, Ok, Err, IfOk, IfErr, IfSome};
 ghost use Rattle.pv_questions.specs.Asking.{Answers, AnswersOne, IsImageTreeStop, IsManifestTreeStop, IsTreeStop, ReportsComplete};
-ghost use Rattle.pv_questions.specs.Trees.{image_tree, image_tree_answer, image_tree_is_complete, manifest_tree, manifest_tree_answer, manifest_tree_is_complete, read_manifest_of, tree_answer, tree_is_complete, GivesManifestOf};
+ghost use Rattle.pv_questions.specs.Trees.{image_tree, image_tree_answer, image_tree_is_complete, manifest_tree, manifest_tree_answer, manifest_tree_is_complete, read_manifest_of, tree_answer, tree_is_complete, GivesManifestOf, ReadsManifest, asked_manifest};
 ghost use Rattle.pv_run.specs.Machines.{IsBundleMachineFault, IsMachineFault, RefusesMachine};
 ghost use Rattle.pv_run.specs.Run.{IsStartFault, RefusesStart};
 ghost use Rattle.pv_streams.specs.Sources.{FailsToGive};
@@ -45,6 +45,31 @@ fn parse(alloc: Global, bytes: &[u8]) -> Result<Manifest, ManifestFault>
         ManifestFault::Form(_) => Manifest::parse(alloc, bytes),
         fault => Err(fault),
     }
+}
+
+// Returns the manifest in `bytes`, alone or in a bundle.
+fn manifest_of_bytes(alloc: Global, bytes: &[u8]) -> Result<Manifest, RunFault>
+    requires { length bytes.now ≤ SOURCE_BYTES }
+    ensures read { IfOk result (λ m. GivesManifestOf (Ok m) (read_manifest_of bytes.now)) }
+    ensures refused { IfErr result (λ fault. RefusesStart fault (asked_manifest bytes.now)) }
+    ensures kind { IfErr result IsStartFault }
+{
+    let manifest = parse(alloc, bytes)?;
+    Ok(manifest)
+}
+
+/// Reads the manifest of a bundle, or a manifest alone, from a source.
+///
+/// # Errors
+///
+/// - `Read`: a read failed, or the source gave more than 67,108,864 bytes.
+/// - `Manifest`: the first error of the manifest.
+/// - `Memory`: memory cannot be allocated.
+pub fn read_manifest<S: Source>(alloc: Global, manifest: &mut S) -> Result<Manifest, RunFault>
+    ensures { ReadsManifest S.Source manifest.old manifest.new result }
+{
+    let bytes = read_whole(alloc, manifest)?;
+    manifest_of_bytes(alloc, &bytes)
 }
 
 // Returns the store of the tree that the manifest in `bytes` makes.

@@ -1,5 +1,5 @@
 -- Messages.
-use Rattle.std.specs.Prelude.{◌≡◌, ℕ, ◌++◌, [], ◌∷◌, Bool, true, ◌&&◌, if◌then◌else◌, nat_le, flat_map, codes}
+use Rattle.std.specs.Prelude.{◌≡◌, ℕ, ◌++◌, [], ◌∷◌, Bool, true, ◌&&◌, if◌then◌else◌, nat_le, length, take, flat_map, codes}
 use Rattle.std.specs.Fmt.{decimal}
 use Rattle.std.specs.List.{list_all}
 use Rattle.pv_model.specs.Machine.{Bytes, hex_byte}
@@ -22,9 +22,17 @@ said_byte b = if is_printable b then b ∷ [] else codes "\\x" ++ hex_byte b
 abbrev pub said : Bytes → Bytes
 said bytes = flat_map said_byte bytes
 
+-- the text of bytes of the source: of the first 57 if there are more than 60
+abbrev pub said_excerpt : Bytes → Bytes
+said_excerpt bytes = if nat_le (length bytes) 60 then said bytes else said (take 57 bytes) ++ codes "..."
+
+-- the text of an excerpt in quotation marks
+abbrev pub said_marked : Bytes → Bytes
+said_marked bytes = codes "'" ++ said_excerpt bytes ++ codes "'"
+
 -- the text of a part
 abbrev pub said_part : Part → Bytes
 said_part (Plain bytes) = said bytes.now
-said_part (Marked bytes) = codes "'" ++ said bytes.now ++ codes "'"
+said_part (Marked bytes) = said_marked bytes.now
 said_part (Number n) = said (decimal n)
 said_part (Hex b) = hex_byte b

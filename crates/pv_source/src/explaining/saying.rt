@@ -2,19 +2,24 @@
 ghost use Rattle.std.specs.Prelude.{◌≡◌, ◌++◌, [], ◌∷◌, true, codes, flat_map, OnOk};
 ghost use Rattle.std.specs.Fmt.{decimal};
 ghost use Rattle.pv_model.specs.Machine.{hex_byte};
-ghost use Rattle.pv_source.specs.Saying.{is_printable, IsPrintable, said_byte, said, said_part};
+ghost use Rattle.pv_source.specs.Saying.{is_printable, IsPrintable, said_byte, said, said_excerpt, said_marked, said_part};
 
 use itoa::Buffer;
 use pv_model::hex_digit;
 use std::alloc::{AllocError, Global};
 use std::marker::Model;
 
+// The maximum length of an excerpt of the source.
+const EXCERPT: usize = 60;
+// The length of what is shown of a longer text, without the mark of the cut.
+const SHOWN: usize = 57;
+
 /// A part of a message.
 #[derive(Clone, Copy)]
 pub enum Part<'a> {
     /// Bytes. Those outside 20 to 7E are written as numbers.
     Plain(&'a [u8]),
-    /// Bytes in quotation marks.
+    /// Bytes in quotation marks: the first 57 and `...` if there are more than 60.
     Marked(&'a [u8]),
     /// A number.
     Number(u32),
@@ -103,16 +108,27 @@ pub fn say(out: &mut Saying, bytes: &[u8]) -> Result<(), AllocError>
     Ok(())
 }
 
-// Appends bytes in quotation marks.
+// Appends bytes of the source, or the first of them.
+fn say_excerpt(out: &mut Saying, bytes: &[u8]) -> Result<(), AllocError>
+    ensures { OnOk result (out.new ≡ out.old ++ said_excerpt bytes.now) }
+{
+    if bytes.len() <= EXCERPT {
+        return say(out, bytes);
+    }
+    say(out, &bytes[..SHOWN])?;
+    say(out, b"...")
+}
+
+// Appends bytes of the source, or the first of them, in quotation marks.
 fn say_marked(out: &mut Saying, bytes: &[u8]) -> Result<(), AllocError>
-    ensures { OnOk result (out.new ≡ out.old ++ codes "'" ++ said bytes.now ++ codes "'") }
+    ensures { OnOk result (out.new ≡ out.old ++ said_marked bytes.now) }
 {
     out.push(b'\'')?;
-    say(out, bytes)?;
+    say_excerpt(out, bytes)?;
     out.push(b'\'')
 }
 
-/// Appends `before`, a word in quotation marks, and `after` to the message.
+/// Appends `before`, a word in quotation marks, of which at most 60 bytes are shown, and `after` to the message.
 ///
 /// # Errors
 ///
@@ -123,7 +139,7 @@ pub fn say_word(
     word: &[u8],
     after: &[u8],
 ) -> Result<(), AllocError>
-    ensures { OnOk result (out.new ≡ out.old ++ said before.now ++ codes "'" ++ said word.now ++ codes "'" ++ said after.now) }
+    ensures { OnOk result (out.new ≡ out.old ++ said before.now ++ said_marked word.now ++ said after.now) }
 {
     say(out, before)?;
     say_marked(out, word)?;

@@ -1,4 +1,4 @@
-use Rattle.std.proofs.Common.{◌∙◌, Ok, Err, Bool, ap, refl, subst}
+use Rattle.std.proofs.Common.{◌∙◌, Ok, Err, Bool, ap, refl, subst, rules}
 use Rattle.std.specs.Prelude.{◌&&◌}
 use Rattle.pv_cli_commands.proofs.Outcomes.{flushed_by_status}
 use Rattle.pv_cli_line.specs.declared.fault.Fault.TheVariants.{Command as OfCommand, Line as OfLine}
@@ -13,30 +13,36 @@ returns-in-Ok-perform-clause-ends g c =
     let done = c.in-Ok-perform.ensures in (
       Ok c.in-Ok-perform.field-0,
       (
-        refl,
+        c.perform.new.system,
+        c.perform.new.notes.items,
+        c.report_notes.ensures.status,
         record {
           command = c.in-Ok.line.command;
           asked = c.in-Ok.ensures.asked;
           does = done.does;
+          noted = search rules;
           flushed = done.flushed;
           unread = done.unread;
           silent = done.silent;
           unreported = done.unreported;
         },
+        search rules,
       ),
     )
 
-pub returns-in-Err-perform-clause-ends : goal.returns-in-Err-perform-clause-ends
-returns-in-Err-perform-clause-ends g c =
+pub returns-clause-ends : goal.returns-clause-ends
+returns-clause-ends g c =
     let fault = c.in-Err-perform.fault in
     let ended = c.in-Err-perform.ensures in (
       Err (OfCommand fault),
       (
         c.perform.new.system,
+        c.perform.new.notes.items,
         record {
           command = c.in-Ok.line.command;
           asked = c.in-Ok.ensures.asked;
           does = ended.does;
+          noted = search rules;
           flushed = ended.flushed;
           unread = ended.unread;
           silent = ended.silent;
@@ -48,8 +54,8 @@ returns-in-Err-perform-clause-ends g c =
       ),
     )
 
-pub returns-in-Err-perform-clause-flushed : goal.returns-in-Err-perform-clause-flushed
-returns-in-Err-perform-clause-flushed g c empty other =
+pub returns-clause-flushed : goal.returns-clause-flushed
+returns-clause-flushed g c empty other =
     let ended = c.in-Err-perform.ensures in
     ap g.O.Sink.buffered c.report_all.ensures.output
     ∙ flushed_by_status c.in-Err-perform.fault _ (ended.flushed empty) (λ four. other (c.report_all.ensures.reports.reports.status_is ended.failed ∙ four))
