@@ -5,10 +5,12 @@
 #   make try FILE=examples/held.bundle       explains the run of a bundle, before any proof; immediate after make
 #   make try SOURCE=examples/sources/held    explains the run of a source: a bundle with comments and labels, and without line counts
 #   make try RUN=needs FILE=..               another answer: state, reach, needs, turns, ls, audit; RUN=run the trace alone
-#   make test            proves every crate once, and runs every test, case and example by the proved program (docs/GATE.md)
+#   make test            proves every crate but those of tests alone, once, and runs every test, case and example by the proved program (docs/GATE.md)
 #   make mutants         tries every mutant, each of which the prover must refuse; make mutants CRATE=pv_tree those of one crate;
-#                        ALL=1 tries those too that were refused before, and on which nothing changed
+#                        ALL=1 tries those too that were refused before, and on which nothing changed; MINUTES=N begins none after N minutes
 #   make page FILE=examples/race-first.bundle    a page for a browser of every schedule: OUT=page.html, STATES=N
+#   make altered         alters each definition of tools/alterations/, and says which law or worked run is refused first (docs/ALTERED.md);
+#                        make altered NAMES="a b" tries some, MINUTES=N begins none after N minutes
 #   make examples        every bundle of examples/, cases/runs/ and cases/openbsd/, before any proof
 #   make pages           writes the generated parts of the pages, and the figures, anew
 #   make cases           the proved program on the tables of cases/: command lines, and mistakes in sources
@@ -27,7 +29,7 @@ PREFIX ?= /usr/local
 MANDIR ?= $(PREFIX)/share/man
 EXAMPLESDIR ?= $(PREFIX)/share/examples/pvsim
 
-.PHONY: all demo try test mutants examples cases sources images fault-injection host-kernel check bench speed man pages dist install clean
+.PHONY: all demo try test mutants altered examples cases sources images fault-injection host-kernel check bench speed man pages dist install clean
 
 all: bin/pvsim
 
@@ -65,7 +67,10 @@ test:
 	@tools/test
 
 mutants:
-	@tools/mutants $(if $(ALL),--all) $(CRATE)
+	@tools/mutants $(if $(ALL),--all) $(if $(MINUTES),--minutes $(MINUTES)) $(CRATE)
+
+altered:
+	@tools/altered-definitions $(if $(MINUTES),--minutes $(MINUTES)) $(NAMES)
 
 examples:
 	@tools/examples

@@ -20,6 +20,8 @@ TOP = os.path.dirname(os.path.dirname(os.path.dirname(os.path.realpath(__file__)
 LIBRARIES = f"{TOP}/bin/libraries"
 # What `rt ci` reads of a crate; tools/mutants adds the folders with mutants.
 PARTS = ("src", "specs", "proofs", "stdin", "stdout", "args", "status", "data")
+# The crates that hold tests alone. tools/unit-tests runs them; the merge check does not prove them, since a proof of a test says only that it ends safely.
+OF_TESTS = ("pv_tests_tree", "pv_tests_text")
 
 
 def load_rt():
@@ -149,16 +151,25 @@ def copy_crates(folder, names, parts=PARTS):
     name_build(f"{folder}/crates/pv_cli/src/main.rt")
 
 
+def proved_crates():
+    """Returns the names of the crates that the merge check proves."""
+    return [it for it in rows() if it not in OF_TESTS]
+
+
+def commit():
+    """Returns the first 12 digits of this repository's commit, or an empty text outside a repository."""
+    return subprocess.run(["git", "-C", TOP, "rev-parse", "--short=12", "HEAD"], capture_output=True, text=True).stdout.strip()
+
+
 def name_build(file):
     """Writes the commit of this repository into a copy of the program's source, so that `pvsim --version` prints it. A commit with changes says so."""
-    git = ["git", "-C", TOP]
-    commit = subprocess.run([*git, "rev-parse", "--short=12", "HEAD"], capture_output=True, text=True).stdout.strip()
-    if commit and os.path.isfile(file):
-        changed = subprocess.run([*git, "status", "--porcelain", "--", "crates", "crates.txt"], capture_output=True, text=True).stdout
+    digits = commit()
+    if digits and os.path.isfile(file):
+        changed = subprocess.run(["git", "-C", TOP, "status", "--porcelain", "--", "crates", "crates.txt"], capture_output=True, text=True).stdout
         with open(file, encoding="utf-8") as it:
             text = it.read()
         with open(file, "w", encoding="utf-8") as it:
-            it.write(text.replace('const BUILD: &str = "";', f'const BUILD: &str = "commit {commit}{" with changes" * bool(changed)}, proved";'))
+            it.write(text.replace('const BUILD: &str = "";', f'const BUILD: &str = "commit {digits}{" with changes" * bool(changed)}, proved";'))
 
 
 def crates_in(folder):
