@@ -7,7 +7,8 @@
 #   make try RUN=needs FILE=..               another answer: state, reach, needs, turns, ls, audit; RUN=run the trace alone
 #   make test            proves every crate but those of tests alone, once, and runs every test, case and example by the proved program (docs/GATE.md)
 #   make mutants         tries every mutant, each of which the prover must refuse; make mutants CRATE=pv_tree those of one crate;
-#                        ALL=1 tries those too that were refused before, and on which nothing changed; MINUTES=N begins none after N minutes
+#                        ALL=1 tries those too that were refused before, and on which nothing changed; MINUTES=N begins none after N minutes, and
+#                        PROCESSOR_MINUTES=N none after N minutes of processors
 #   make page FILE=examples/race-first.bundle    a page for a browser of every schedule: OUT=page.html, STATES=N
 #   make altered         alters each definition of tools/alterations/, and says which law or worked run is refused first (docs/ALTERED.md);
 #                        make altered NAMES="a b" tries some, MINUTES=N begins none after N minutes
@@ -67,7 +68,7 @@ test:
 	@tools/test
 
 mutants:
-	@tools/mutants $(if $(ALL),--all) $(if $(MINUTES),--minutes $(MINUTES)) $(CRATE)
+	@tools/mutants $(if $(ALL),--all) $(if $(MINUTES),--minutes $(MINUTES)) $(if $(PROCESSOR_MINUTES),--processor-minutes $(PROCESSOR_MINUTES)) $(CRATE)
 
 altered:
 	@tools/altered-definitions $(if $(MINUTES),--minutes $(MINUTES)) $(NAMES)
