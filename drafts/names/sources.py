@@ -49,7 +49,10 @@ def definitions(text):
                 types[-1] = (outer_depth, outer, kind, depth)
                 own = depth
             if depth == own and (re.match(r"\s*:", head["rest"]) or kind == "data"):
-                found.append((name, "field" if kind == "record" else "constructor", kind == "data" or "pub" in words, at, outer))
+                # (`a b c : T` declares three)
+                more = head["rest"].partition(":")[0].split() if kind == "data" and ":" in head["rest"] and "(" not in head["rest"].partition(":")[0] else []
+                for it in (name, *more):
+                    found.append((it, "field" if kind == "record" else "constructor", kind == "data" or "pub" in words, at, outer))
             continue
         if "record" in words or "data" in words:
             kind = "record" if "record" in words else "data"
