@@ -85,7 +85,8 @@ class Names:
     def derive(self):
         """Adds the lemmas whose names have a renamed definition between hyphens."""
         for path in list(self.modules.texts):
-            if not path.endswith(".antt"):
+            # (the names in Answers.antt and Invariants.antt are those of goals)
+            if not path.endswith(".antt") or re.search(r"/(Answers|Invariants|Proof)\.antt$", path):
                 continue
             text = self.modules.texts[path]
             words, _, _ = self.map_of(path)
@@ -170,6 +171,10 @@ def rename_names(top, modules):
         maps[path] = words
         if path.endswith(".antt"):
             both = {old for (module, old) in names.fields if old in words}
+            for module, old in names.fields:
+                if module in whole.values():
+                    both.add(old)
+                    words = {**words, old: names.new[module, old]}
             new = text
             if "{" in text or words:
                 # the imports first, as spans; the rest by words
