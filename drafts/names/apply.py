@@ -110,6 +110,8 @@ class Names:
                 found.append(word)
                 continue
             if word[0] in "\"" or word.startswith(("--", "{-")) and (len(word) > 2 or word == "--"):
+                if word[0] != '"' and "`" in word:
+                    word = re.sub(r"`([^`\s]+)`", lambda it: f"`{words.get(it[1], it[1])}`", word)
                 found.append(word)
                 continue
             parts = word.split(".")
@@ -495,9 +497,24 @@ def in_comments(path, text, old, new):
     return found, count
 
 
+def joined_comments(path, text):
+    """Returns the text in which a sentence is looked for: the comments of a file of code, each as one line, or all of another file."""
+    if not path.endswith((".antt", ".rt")):
+        return " ".join(text.split())
+    found, mark = [], None
+    for line in text.split("\n"):
+        at = line.find("--") if path.endswith(".antt") else line.find("//")
+        if at < 0:
+            continue
+        words = line[at:].lstrip("-/!").strip()
+        found.append(words if line[:at].strip() == "" and mark == line[:at] else "\n" + words)
+        mark = line[:at] if line[:at].strip() == "" else None
+    return " ".join(found)
+
+
 def replace_sentences(top):
     """Applies sentences.txt: PATTERN | OLD | NEW; returns the number of sentences that matched and the changed files."""
-    texts, changed, done, places = {}, set(), 0, 0
+    texts, joined, changed, done, places = {}, {}, set(), 0, 0
     every = [it for it in every_file(top)]
     for line in rows("sentences.txt"):
         parts = line.split(" | ")
@@ -509,16 +526,19 @@ def replace_sentences(top):
             new = ""
         count = 0
         for path in every:
-            if not fnmatch.fnmatch(path, pattern):
+            if not (path.startswith("crates/") and path.endswith((".antt", ".rt")) if pattern == "code" else fnmatch.fnmatch(path, pattern)):
                 continue
             if path not in texts:
                 with open(os.path.join(top, path), encoding="utf-8") as file:
                     texts[path] = file.read()
-            if old.split(" ")[0] not in texts[path]:
+            if path not in joined:
+                joined[path] = joined_comments(path, texts[path])
+            if old not in joined[path]:
                 continue
             text, found = in_comments(path, texts[path], old, new)
             if found:
                 texts[path], count = text, count + found
+                joined[path] = joined_comments(path, text)
                 changed.add(path)
         if count:
             done, places = done + 1, places + count
@@ -537,13 +557,17 @@ def every_file(top):
 
 
 def main(*words):
-    only = {it for it in words if it in ("names", "files", "sentences", "fmt")}
-    steps = only or {"names", "files", "sentences", "fmt"}
+    every = ("sentences", "names", "files", "fmt", "pages")
+    only = {it for it in words if it in every}
+    steps = only or set(every)
     if "--no-fmt" in words:
         steps.discard("fmt")
     top = os.path.realpath(words[-1])
     touched, counts = set(), collections.Counter()
     names = maps = None
+    if "sentences" in steps:
+        counts["sentences"], counts["their places"], changed = replace_sentences(top)
+        touched |= changed
     if "names" in steps:
         counts["definitions that go"], changed = merge(top, Modules(top))
         touched |= set(changed)
@@ -557,14 +581,16 @@ def main(*words):
         modules = Modules(top)
         counts["proof files"], changed = rename_files(top, modules)
         touched |= set(changed)
-    if "sentences" in steps:
-        counts["sentences"], counts["their places"], changed = replace_sentences(top)
-        touched |= changed
     if "fmt" in steps:
         for crate in sorted({it.split("/")[1] for it in touched if it.startswith("crates/") and it.endswith((".rt", ".antt"))}):
             ran = subprocess.run(["rt", "fmt"], cwd=f"{top}/crates/{crate}", capture_output=True, text=True)
             if ran.returncode:
                 lost(f"fmt: {crate}: {(ran.stdout + ran.stderr)[-200:]}")
+    if "pages" in steps:
+        for tool in ("generate-pages", "figures"):
+            ran = subprocess.run([f"{top}/tools/{tool}"], cwd=top, capture_output=True, text=True)
+            if ran.returncode:
+                lost(f"pages: {tool}: {(ran.stdout + ran.stderr)[-200:]}")
     for it in LOST:
         print(it)
     print(f"not applied: {len(LOST)};", ", ".join(f"{name}: {number}" for name, number in counts.items()))
