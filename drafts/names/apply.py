@@ -1,10 +1,11 @@
 #!/usr/bin/env python3
-"""apply.py [--no-fmt] [--only STEP..] CHECKOUT: applies the tables beside it to a checkout: names.txt, files.txt, sentences.txt, and lists what no longer matches.
+"""apply.py [--no-fmt] [STEP..] CHECKOUT: applies the tables of its folder to a checkout, and lists the rows that no longer match. The steps, all by default:
 
-  names      names.txt: definitions of a module, each with its uses in the files that import it; in lemma names with hyphens too
+  sentences  sentences.txt: phrases of comments and pages
+  names      merges.txt, names.txt: definitions, each with its uses in the files that import it, and the lemmas whose names have it between hyphens
   files      files.txt: modules of proofs, each with the imports that name it
-  sentences  sentences.txt, words.txt: sentences and words of comments and pages
   fmt        `rt fmt` in each crate whose files changed
+  pages      the generated parts of the pages
 
 The last line counts what was done."""
 import collections
