@@ -363,7 +363,7 @@ def rename_files(top, modules):
             text = with_spans(text, spans)
             for old, name in aliases.items():
                 text = re.sub(rf"(?<![^\s(){{}};,]){re.escape(old)}\.(?=\S)", f"{name}.", text)
-            changed[path] = text
+            changed[path] = filled(text) if path.endswith("/Lib.antt") else text
     write(top, changed)
     for module, name in new.items():
         old = modules.paths[module]
@@ -373,6 +373,35 @@ def rename_files(top, modules):
         to = os.path.join(top, os.path.dirname(modules.paths[module]), f"{name}.antt")
         os.rename(to + ".new", to)
     return len(new), changed
+
+
+def filled(text):
+    """Returns a text in which each paragraph of a comment that has a line of more than 120 columns is filled again."""
+    lines = text.split("\n")
+    for start, end, mark in reversed([*comment_blocks(lines)]):
+        bodies, paragraphs = [it[len(mark) :] for it in lines[start:end]], []
+        for body in bodies:
+            if paragraphs and not re.match(r"\s*- |----", body):
+                paragraphs[-1].append(body)
+            else:
+                paragraphs.append([body])
+        out = []
+        for one in paragraphs:
+            if all(len(mark + it) <= 120 for it in one) or one[0].startswith("----"):
+                out += one
+                continue
+            lead = re.match(r"\s*", one[0])[0]
+            hang = lead + ("  " if one[0].strip().startswith("- ") else "")
+            line = lead
+            for word in " ".join(it.strip() for it in one).split(" "):
+                if line.strip() and len(mark + line) + 1 + len(word) > 120:
+                    out.append(line)
+                    line = hang + word
+                else:
+                    line = f"{line} {word}" if line.strip() else line + word
+            out.append(line)
+        lines[start:end] = [mark + it for it in out]
+    return "\n".join(lines)
 
 
 def rename_in_edits(top, names, maps, before):
