@@ -267,6 +267,9 @@ def merge(top, modules):
                 text = text[:start] + left + text[end:]
             if user == path:
                 text = without_definition(text, name)
+                if not has_word(text, name):
+                    changed[user] = text
+                    continue
             ghost, end = ("ghost ", ";") if user.endswith(".rt") else ("", "")
             there = next((it for it in USE.finditer(text) if it["items"] is not None and "pub " not in it["pre"] and it["path"] == f"Rattle.{source}"), None)
             if there:
@@ -288,7 +291,26 @@ def without_definition(text, name):
         end += 1
     while at and lines[at - 1].strip().startswith("-- ") and not lines[at - 1].strip().startswith("-- ----"):
         at -= 1
-    return "\n".join([*lines[:at], *lines[end + 1 :]])
+    return without_unused("\n".join([*lines[:at], *lines[end + 1 :]]), "\n".join(lines[at:end]))
+
+
+def has_word(text, name):
+    """Returns whether a module's text has a name other than in its imports and comments."""
+    text = re.sub(r"(?m)(^|\s)--(\s.*|$)", "", USE.sub("", text))
+    return bool(re.search(rf"(?<![^\s(){{}};,]){re.escape(name)}(?![^\s(){{}};,.])", text))
+
+
+def without_unused(text, gone):
+    """Returns a module's text without the imports that only the text that is gone used."""
+    for use in reversed([*USE.finditer(text)]):
+        if use["items"] is not None and "pub " not in use["pre"]:
+            items = items_of(use["items"])
+            kept = [(it, other) for it, other in items if not has_word(gone, other or it) or has_word(text, other or it)]
+            if len(kept) < len(items):
+                left = ", ".join(f"{it} as {other}" if other else it for it, other in kept)
+                start, end = (use.start("items"), use.end("items")) if left else (use.start(), use.end() + 1)
+                text = text[:start] + left + text[end:]
+    return text
 
 
 def check_new(path, text, words):
