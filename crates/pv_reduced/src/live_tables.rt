@@ -6,7 +6,7 @@ ghost use Rattle.pv_reduced.specs.Live.{AreTables, lists_of, live_line, live_lin
 ghost use Rattle.pv_state_encoding.specs.Packed.{packed_all};
 
 use crate::liveness::{LiveLine, live_at, live_lines};
-use pv_explore::step_cache::tables::Keys;
+use pv_explore::row_tables::Keys;
 use pv_script::Program;
 use std::alloc::{AllocError, Global};
 use std::marker::Model;

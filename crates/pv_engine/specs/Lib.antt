@@ -1,0 +1,16 @@
+pub mod Checkpoints
+pub mod Engines
+pub mod FirstMachines
+pub mod Forms
+pub mod Found
+pub mod Observing
+pub mod Plan
+pub mod Reporting
+pub mod Sides
+pub mod Visiting
+pub mod Witnesses
+pub use Rattle.pv_step_lines.specs.OfAudit
+pub use Rattle.pv_step_lines.specs.OfCallsPath
+pub use Rattle.pv_step_lines.specs.OfSession
+pub use Rattle.pv_rows.specs.OfStateEncoding
+pub use Rattle.pv_rows.specs as OfRows

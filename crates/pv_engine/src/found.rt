@@ -1,0 +1,121 @@
+//! The visited states of a search.
+ghost use Rattle.std.specs.Prelude.{◌≡◌, ◌<◌, ◌++◌, ◌∷◌, [], length, slice_index, slice_get, IfOk, OnOk, Some};
+ghost use Rattle.pv_engine.specs.Found.{IsFoundIn, HasRow, are_found};
+
+use crate::witnesses::Witnesses;
+use pv_model::StepFault;
+use pv_rows::Rows;
+use std::alloc::{AllocError, Global};
+
+/// The visited states, in the order in which they were visited.
+#[derive(Drop)]
+pub(crate) struct FoundStates {
+    // The row of each state.
+    rows: Vec<Vec<u32>>,
+    // The process that must make the next step in each state, or 0.
+    bounds: Vec<u32>,
+    // The key of each state.
+    keys: Rows,
+    /// A witness for each state.
+    pub(crate) witnesses: Witnesses,
+}
+
+/// The result of visiting a state.
+#[derive(Clone, Copy)]
+pub enum Visit {
+    /// The state is identified with a visited one, which has this number.
+    Known(u32),
+    /// The state is new, but the limit is reached.
+    Full,
+    /// The state is new and was added.
+    New,
+}
+
+/// A state that is visited: its row, the process that must make the next step, or 0, and its key.
+#[derive(Clone, Copy)]
+pub(crate) struct Candidate<'a> {
+    pub(crate) row: &'a [u32],
+    pub(crate) bound: u32,
+    pub(crate) key: &'a [u32],
+}
+
+impl FoundStates {
+    /// Returns the first state alone.
+    ///
+    /// # Errors
+    ///
+    /// `NoMemory`, if there is no memory.
+    pub(crate) fn new(alloc: Global, first: Candidate<'_>) -> Result<FoundStates, StepFault>
+        ensures { IfOk result (λ found. are_found found (first.row.now ∷ []) (first.bound ∷ []) (first.key.now ∷ []) ([] ∷ [])) }
+    {
+        let mut found = FoundStates {
+            rows: Vec::new(alloc),
+            bounds: Vec::new(alloc),
+            keys: Rows::new(alloc),
+            witnesses: Witnesses::new(alloc),
+        };
+        found.push(alloc, first)?;
+        Ok(found)
+    }
+
+    /// Returns the number of states.
+    pub(crate) fn len(&self) -> u32
+        ensures { result ≡ length self.now.rows.items }
+    {
+        self.rows.len() as u32
+    }
+
+    /// Returns the row of state `number`.
+    pub(crate) fn row(&self, number: u32) -> &[u32]
+        requires { number < length self.now.rows.items }
+        ensures { HasRow self.now number result.now }
+    {
+        self.rows[number as usize].as_slice()
+    }
+
+    /// Returns the process that must make the next step in state `number`, or 0.
+    pub(crate) fn bound(&self, number: u32) -> u32
+        requires { number < length self.now.bounds.items }
+        ensures { result ≡ slice_index self.now.bounds.items number }
+    {
+        self.bounds[number as usize]
+    }
+
+    // Appends a state without its witness.
+    fn push(&mut self, alloc: Global, state: Candidate<'_>) -> Result<(), AllocError>
+        ensures { OnOk result (IsPushed self.old self.new state) }
+    {
+        self.keys.number(alloc, state.key)?;
+        self.rows.push(Vec::from_slice(alloc, state.row)?)?;
+        self.bounds.push(state.bound)?;
+        Ok(())
+    }
+
+    /// Visits a state after a step of a process in state `from`. The state is added if it is new and there are fewer than
+    /// `limit` states.
+    ///
+    /// # Errors
+    ///
+    /// `NoMemory`, if there is no memory.
+    pub(crate) fn visit(
+        &mut self,
+        alloc: Global,
+        limit: u32,
+        from: u32,
+        pid: u32,
+        state: Candidate<'_>,
+    ) -> Result<Visit, StepFault>
+        requires { from < length self.old.witnesses }
+        ensures { IfOk result (IsFoundIn limit self.old self.new from pid state) }
+    {
+        if let Some(number) = self.keys.find(state.key) {
+            return Ok(Visit::Known(number as u32));
+        }
+        if self.len() >= limit {
+            return Ok(Visit::Full);
+        }
+        self.push(alloc, state)?;
+        self.witnesses.push(from, pid)?;
+        Ok(Visit::New)
+    }
+}

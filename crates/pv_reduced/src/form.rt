@@ -1,0 +1,199 @@
+//! The form of the reduced search: it identifies states that are equal but for the numbers of open files and for dead
+//! variables.
+ghost use Rattle.std.specs.Prelude.{◌≡◌, IfOk, OnOk};
+
+use crate::live_tables::LiveTables;
+use crate::order::{index_in, push_reference};
+use crate::shapes::{Shape, entries_of, shape_of};
+use pv_explore::Form;
+use pv_explore::row_tables::Tables;
+use pv_model::StepFault;
+use pv_state_encoding::calls_state::Parts;
+use pv_state_encoding::push_number;
+use std::alloc::{AllocError, Global};
+
+/// The form of the reduced search. The key of a state is computed from the shapes of its live processes: a shape is a
+/// record with zero in dead variables, whose open files are numbered in the order in which the record refers to them.
+#[derive(Drop)]
+pub(crate) struct Reduced {
+    // The live variables of the programs.
+    tables: LiveTables,
+    // For each group of a live process its shape, if it is known.
+    shapes: Vec<Option<Shape>>,
+    // For each group of open files the number of the part of each, if they are known.
+    entries: Vec<Option<Vec<u32>>>,
+    // The open files of a state in the order of their first reference, and their indices.
+    order: Vec<usize>,
+    indices: Vec<u8>,
+}
+
+// Stores a value at a place of a list of optional values, and appends places first if need be.
+fn put<X: Drop>(all: &mut Vec<Option<X>>, place: usize, value: X) -> Result<(), AllocError> {
+    while all.len() <= place {
+        all.push(None)?;
+    }
+    all[place] = Some(value);
+    Ok(())
+}
+
+// Returns the value at a place of a list of optional values, if there is one.
+fn value_at<X>(all: &[Option<X>], place: u32) -> Option<&X> {
+    match all.get(place as usize) {
+        Some(Some(value)) => Some(value),
+        _ => None,
+    }
+}
+
+// Appends the open files of a shape to an order, if they are new, and their indices to a part.
+fn push_files(order: &mut Vec<usize>, indices: &mut Vec<u8>, shape: &Shape) -> Result<(), AllocError> {
+    for file in shape.files.as_slice() {
+        push_reference(order, *file)?;
+        push_number(indices, index_in(order, *file) as u64)?;
+    }
+    Ok(())
+}
+
+// Returns the number of the group of the open files in an order.
+fn entries_group(
+    alloc: Global,
+    tables: &mut Tables,
+    entries: &[u32],
+    order: &[usize],
+) -> Result<u32, AllocError> {
+    tables.begin(0, 0)?;
+    for file in order {
+        tables.put_part(entries.get(*file).copied().unwrap_or(0))?;
+    }
+    tables.end(alloc)
+}
+
+impl Reduced {
+    /// Returns the form before a search.
+    pub(crate) fn new(alloc: Global) -> Reduced {
+        Reduced {
+            tables: LiveTables::new(alloc),
+            shapes: Vec::new(alloc),
+            entries: Vec::new(alloc),
+            order: Vec::new(alloc),
+            indices: Vec::new(alloc),
+        }
+    }
+
+    // Stores the shape of a live process, if it is not known.
+    fn learn_shape(
+        &mut self,
+        alloc: Global,
+        tables: &mut Tables,
+        word: u32,
+        state: &Parts,
+    ) -> Result<(), AllocError> {
+        let pid = tables.owner(word);
+        if pid == 0 || value_at(&self.shapes, word).is_some() || !state.processes().live(pid) {
+            return Ok(());
+        }
+        let shape = shape_of(alloc, tables, &mut self.tables, state.processes(), pid)?;
+        put(&mut self.shapes, word as usize, shape)
+    }
+
+    // Stores the number of each open file, if they are not known.
+    fn learn_entries(
+        &mut self,
+        alloc: Global,
+        tables: &mut Tables,
+        word: u32,
+        state: &Parts,
+    ) -> Result<(), AllocError> {
+        if value_at(&self.entries, word).is_some() {
+            return Ok(());
+        }
+        let entries = entries_of(alloc, tables, state.files())?;
+        put(&mut self.entries, word as usize, entries)
+    }
+
+    // Writes the words of the processes of a row to a key, and the indices of their open files to the part.
+    fn push_shapes(
+        &mut self,
+        tables: &Tables,
+        bound: u32,
+        words: &[u32],
+        key: &mut Vec<u32>,
+    ) -> Result<(), AllocError> {
+        self.order.clear();
+        self.indices.clear();
+        push_number(&mut self.indices, u64::from(bound))?;
+        for word in words {
+            match value_at(&self.shapes, *word) {
+                Some(shape) if tables.owner(*word) != 0 => {
+                    key.push(shape.word)?;
+                    push_files(&mut self.order, &mut self.indices, shape)?;
+                }
+                _ => key.push(*word)?,
+            }
+        }
+        Ok(())
+    }
+}
+
+impl Form for Reduced {
+    ghost use Rattle.pv_reduced.specs.Forms.{reduced_key, reduced_bound, reduced_knows, reduced_words, reduced_apart};
+
+    ghost key = { reduced_key };
+
+    ghost bound = { reduced_bound };
+
+    ghost knows = { reduced_knows };
+
+    ghost words = { reduced_words };
+
+    ghost apart = { reduced_apart };
+
+    fn learn(
+        &mut self,
+        alloc: Global,
+        tables: &mut Tables,
+        row: &[u32],
+        state: &Parts,
+    ) -> Result<(), StepFault> {
+        for word in row {
+            self.learn_shape(alloc, tables, *word, state)?;
+        }
+        if let [.., files, _] = row {
+            self.learn_entries(alloc, tables, *files, state)?;
+        }
+        Ok(())
+    }
+
+    fn bound(&self, tables: &Tables, row: &[u32], pid: u32) -> u32 {
+        match tables.word_of(row, pid) {
+            Some(word) => match value_at(&self.shapes, word) {
+                Some(shape) if shape.on_registers => pid,
+                _ => 0,
+            },
+            None => 0,
+        }
+    }
+
+    fn push_key(
+        &mut self,
+        alloc: Global,
+        tables: &mut Tables,
+        bound: u32,
+        row: &[u32],
+        key: &mut Vec<u32>,
+    ) -> Result<(), StepFault> {
+        let [words @ .., files, tree] = row else {
+            return Ok(());
+        };
+        self.push_shapes(tables, bound, words, key)?;
+        tables.begin(0, 0)?;
+        tables.push_part(alloc, &self.indices)?;
+        key.push(tables.end(alloc)?)?;
+        let entries = match value_at(&self.entries, *files) {
+            Some(entries) => entries.as_slice(),
+            None => &[],
+        };
+        key.push(entries_group(alloc, tables, entries, &self.order)?)?;
+        key.push(*tree)?;
+        Ok(())
+    }
+}
