@@ -102,6 +102,13 @@ fn add_ending(
     Ok(())
 }
 
+// Returns texts that can be shared.
+fn shared(alloc: Global, texts: Vec<Vec<u8>>) -> Result<Rc<Vec<Vec<u8>>>, AllocError>
+    ensures { IfOk result (λ made. made.value ≡ texts) }
+{
+    Ok(Rc::new(alloc, texts)?)
+}
+
 impl<'a, O: Observer + Drop, F: Form + Drop> Engine<'a, O, F> {
     /// Returns a search that has visited the first state of a machine only.
     ///
@@ -296,7 +303,7 @@ impl<'a, O: Observer + Drop, F: Form + Drop> Engine<'a, O, F> {
         requires reported { AllByRecursion (λ t. IsTrue (list_any (bytes_eq t) self.old.visited.reported)) (texts_in texts.items) }
         ensures { IsUnchangedBut self.old self.new }
     {
-        let texts = Rc::new(alloc, texts)?;
+        let texts = shared(alloc, texts)?;
         let row = self.found.row(number);
         if let Some(edits) = self.tables.edits(alloc, row, &self.next, pid)? {
             let step = CachedStep {

@@ -14,7 +14,7 @@ use pv_model::StepFault;
 use pv_step_lines::calls_state::Parts;
 use pv_step_lines::procs::Processes;
 use pv_step_lines::session::Session;
-use std::alloc::Global;
+use std::alloc::{AllocError, Global};
 use std::marker::Model;
 
 /// A machine at the end of a schedule. A contract sees its state.
@@ -32,7 +32,7 @@ impl Model for Position {
 }
 
 // Appends a process number if the process is live.
-fn push_live(pids: &mut Vec<u32>, processes: &Processes, pid: u32) -> Result<(), StepFault>
+fn push_live(pids: &mut Vec<u32>, processes: &Processes, pid: u32) -> Result<(), AllocError>
     ensures { OnOk result (pids.new.items ≡ pids.old.items ++ one_if (is_some (process_in processes.now pid)) pid) }
 {
     if processes.live(pid) {

@@ -134,6 +134,29 @@ impl Reduced {
     }
 }
 
+impl Reduced {
+    // Writes the words of the indices of the open files, and of the open files in their order, to a key.
+    fn push_files(
+        &self,
+        alloc: Global,
+        tables: &mut Tables,
+        files: u32,
+        key: &mut Vec<u32>,
+    ) -> Result<(), AllocError> {
+        tables.begin(0, 0)?;
+        tables.push_part(alloc, &self.indices)?;
+        let indices = tables.end(alloc)?;
+        key.push(indices)?;
+        let entries = match value_at(&self.entries, files) {
+            Some(entries) => entries.as_slice(),
+            None => &[],
+        };
+        let entries = entries_group(alloc, tables, entries, &self.order)?;
+        key.push(entries)?;
+        Ok(())
+    }
+}
+
 impl Form for Reduced {
     ghost use Rattle.pv_reduced.specs.Forms.{reduced_key, reduced_bound, reduced_knows, reduced_words, reduced_apart};
 
@@ -181,19 +204,11 @@ impl Form for Reduced {
         row: &[u32],
         key: &mut Vec<u32>,
     ) -> Result<(), StepFault> {
-        let [words @ .., files, tree] = row else {
-            return Ok(());
-        };
-        self.push_shapes(tables, bound, words, key)?;
-        tables.begin(0, 0)?;
-        tables.push_part(alloc, &self.indices)?;
-        key.push(tables.end(alloc)?)?;
-        let entries = match value_at(&self.entries, *files) {
-            Some(entries) => entries.as_slice(),
-            None => &[],
-        };
-        key.push(entries_group(alloc, tables, entries, &self.order)?)?;
-        key.push(*tree)?;
+        if let [words @ .., files, tree] = row {
+            self.push_shapes(tables, bound, words, key)?;
+            self.push_files(alloc, tables, *files, key)?;
+            key.extend_from_slice(&[*tree])?;
+        }
         Ok(())
     }
 }

@@ -1,5 +1,6 @@
 pub mod Texts
 pub mod Tables
+pub mod Building
 pub mod Rows
 pub mod Steps
 pub mod Cached

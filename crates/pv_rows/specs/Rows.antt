@@ -1,14 +1,13 @@
 -- The row of a state: the word of each of its groups. Two rows over the same tables are equal exactly if the states are:
 -- see `proofs/Apart`.
-use Rattle.std.specs.Prelude.{◌≡◌, ◌≢◌, ℕ, List, map, ◌++◌, slice_get, Option, None, Some, option_map}
+use Rattle.std.specs.Prelude.{◌≡◌, ◌≢◌, ℕ, List, map, ◌++◌, slice_get, Some, option_map}
 use Rattle.std.specs.FinMap.Entries.{find}
 use Rattle.std.specs.Ordering.{nat_cmp}
 use Rattle.std.specs.List.{AllByRecursion}
 use Rattle.pv_laws_states.specs.States.{IsValid}
-use Rattle.pv_model.specs.Machine.{Bytes, Process, program_of, parent_of, process_at, State, step}
-use Rattle.pv_state_encoding.specs.Encoded.{Encoded, counts_group, encoded, files_group, outside, plain, tree_group}
-use Rattle.pv_state_encoding.specs.Groups.{process_parts}
-use Rattle.pv_rows.specs.Tables.{Stored, Building, IsStored, IsPlainStored, number_in, owner_of, part_number, plain_row, word_of}
+use Rattle.pv_model.specs.Machine.{Process, program_of, parent_of, process_at, State, step}
+use Rattle.pv_state_encoding.specs.Encoded.{Encoded, encoded}
+use Rattle.pv_rows.specs.Tables.{Stored, IsStored, owner_of, word_of}
 use Rattle.pv_rows.specs.declared.rows.StepOf.{StepOf}
 
 module _ (t : Stored) where
@@ -47,11 +46,3 @@ pub record IsKept (it : StepOf) (other : ℕ) : Type 0 where
   pub before : Process
   pub live : process_at it.before.now other ≡ Some before
   pub parent : option_map parent_of (find nat_cmp other it.before.now.processes) ≡ option_map parent_of (find nat_cmp other it.after.now.processes)
-
--- ---- groups that are being built
-
--- the group of a live process was begun: it has the owner, the outside view and its first part
-pub record HasBegun (b : Building) (pid : ℕ) (p : Process) : Type 0 where
-  pub outside : IsPlainStored b.stored (process_parts pid (outside p))
-  pub first : Bytes
-  pub first_is : (rest : List Bytes) → process_parts pid p ≡ first ∷ rest → b.row ≡ pid ∷ number_in b.stored.groups (plain_row b.stored (process_parts pid (outside p))) ∷ part_number b.stored first ∷ []

@@ -1,10 +1,11 @@
 //! The numbers of the groups of a state.
-ghost use Rattle.std.specs.Prelude.{◌≡◌, ◌∷◌, [], IfOk, IsSome, OnOk};
+ghost use Rattle.std.specs.Prelude.{◌≡◌, ◌++◌, ◌∷◌, [], length, replicate, IfOk, IfSome, IsSome, OnOk};
 ghost use Rattle.std.specs.FinMap.Entries.{find};
 ghost use Rattle.std.specs.Ordering.{nat_cmp};
-ghost use Rattle.pv_rows.specs.Tables.{Grew, IsNumberOf, IsPart};
-ghost use Rattle.pv_state_encoding.specs.Encoded.{counts_group, files_group, numbered_encoded, outside, live_encoded, plain, tree_group};
-ghost use Rattle.pv_state_encoding.specs.Groups.{process_parts};
+ghost use Rattle.pv_rows.specs.Building.{HasBegun, HasSizes};
+ghost use Rattle.pv_rows.specs.Tables.{Grew, IsNumberOf};
+ghost use Rattle.pv_state_encoding.specs.Encoded.{live_encoded, numbered_encoded, outside, plain, tree_group};
+ghost use Rattle.pv_state_encoding.specs.Groups.{counts_part, ended_parts, files_part, process_parts};
 ghost use Rattle.pv_state_encoding.specs.OfProcs.ProcessTable.{process_in};
 
 use crate::tables::Tables;
@@ -199,7 +200,7 @@ impl Tables {
     /// `AllocError`, if there is no memory.
     pub(crate) fn tree(&mut self, alloc: Global, tree: &Tree) -> Result<u32, AllocError>
         ensures grew { Grew self.old.stored self.new.stored }
-        ensures number { IfOk result (IsNumberOf self.new.stored (plain (tree_part tree.now.tree ∷ node_parts [] tree.now.tree.nodes))) }
+        ensures number { IfOk result (IsNumberOf self.new.stored (plain (tree_group tree.now.tree))) }
     {
         self.begin_tree(alloc, tree)?;
         for node in 0..tree.sizes().inodes + 1 {

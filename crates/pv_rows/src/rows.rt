@@ -1,5 +1,14 @@
 //! The row of a state, and the row of the state after a step.
-ghost use Rattle.std.specs.Prelude.{◌≡◌, ◌≢◌, ◌++◌, ◌∷◌, [], map, IsSome, IfOk, IfSome, OnOk};
+ghost use Rattle.std.specs.Prelude.{◌≡◌, ◌<◌, ◌≤◌, ℕ, true, List, [], ◌∷◌, ◌++◌, map, option_map, IsSome, IfOk, IfSome, OnOk};
+ghost use Rattle.std.specs.FinMap.Entries.{find};
+ghost use Rattle.std.specs.Ordering.{nat_cmp};
+ghost use Rattle.pv_model.specs.Machine.{next, process_at};
+ghost use Rattle.pv_rows.specs.Building.{AreCompared, buffer_part, counts_of, loads, node_part, program_part};
+ghost use Rattle.pv_rows.specs.Rows.{AreAppended, IsKept, IsRowOf, IsStepOf, IsWordOf};
+ghost use Rattle.pv_rows.specs.Tables.{Grew, IsNumberOf, IsPart};
+ghost use Rattle.pv_state_encoding.specs.Encoded.{counts_group, encoded_record, files_group, live_encoded, numbered_encoded, plain, tree_group};
+ghost use Rattle.pv_state_encoding.specs.OfProcs.ProcessTable.{process_in};
+ghost use Rattle.pv_state_encoding.specs.OfTree.Sizes.{HaveSameSizes};
 
 use crate::tables::Tables;
 use pv_model::Instruction;
@@ -60,7 +69,7 @@ impl Tables {
         Ok(())
     }
 
-    /// Returns the word of a live process in the row of a state, or 0 if there is none.
+    /// Returns the word of a live process in the row of a state, if there is one.
     pub fn word_of(&self, row: &[u32], pid: u32) -> Option<u32>
         ensures { IfSome result (IsWordOf self.now.stored row.now pid) }
     {
@@ -91,7 +100,7 @@ pub struct StepOf<'a> {
 // Returns whether the next instruction of a live process is execve(2).
 fn is_execve(processes: &Processes, pid: u32) -> bool
     requires { IsSome (process_in processes.now pid) }
-    ensures { result ≡ false → IfSome (process_in processes.now pid) (λ p. KeepsProgram p) }
+    ensures { IfSome (process_in processes.now pid) (λ p. result ≡ loads (next p)) }
 {
     let line = processes.record(pid).context.line();
     matches!(
@@ -148,7 +157,12 @@ impl Tables {
         alloc: Global,
         step: StepOf<'_>,
         old: u32,
-    ) -> Result<(), AllocError> {
+    ) -> Result<(), AllocError>
+        requires step { IsStepOf self.old.stored step }
+        requires old { IsNumberOf self.old.stored (live_encoded step.pid (process_at step.before.now step.pid)) old }
+        ensures grew { Grew self.old.stored self.new.stored }
+        ensures row { OnOk result (IfSome (process_at step.after.now step.pid) (λ q. IsPart self.new.stored (program_part q) self.old.row self.new.row)) }
+    {
         if !is_execve(step.before.processes(), step.pid) {
             let program = self.part_of(old, PROGRAM);
             return self.put_part(program);
@@ -164,7 +178,12 @@ impl Tables {
         alloc: Global,
         step: StepOf<'_>,
         old: u32,
-    ) -> Result<(), AllocError> {
+    ) -> Result<(), AllocError>
+        requires step { IsStepOf self.old.stored step }
+        requires old { IsNumberOf self.old.stored (live_encoded step.pid (process_at step.before.now step.pid)) old }
+        ensures grew { Grew self.old.stored self.new.stored }
+        ensures row { OnOk result (IfSome (process_at step.after.now step.pid) (λ q. IsPart self.new.stored (buffer_part q) self.old.row self.new.row)) }
+    {
         let after = step.after.processes();
         if has_same_buffer(step.before.processes(), after, step.pid) {
             let buffer = self.part_of(old, BUFFER);
@@ -178,7 +197,7 @@ impl Tables {
     fn own_after(&mut self, alloc: Global, step: StepOf<'_>, old: u32) -> Result<u32, AllocError>
         requires step { IsStepOf self.old.stored step }
         requires live { IsSome (process_at step.after.now step.pid) }
-        requires old { IsWordOf self.old.stored step.row.now step.pid old }
+        requires old { IsNumberOf self.old.stored (live_encoded step.pid (process_at step.before.now step.pid)) old }
         ensures grew { Grew self.old.stored self.new.stored }
         ensures number { IfOk result (IsNumberOf self.new.stored (live_encoded step.pid (process_at step.after.now step.pid))) }
     {
@@ -311,7 +330,12 @@ impl Tables {
         old: u32,
         compared: Compared,
         node: u16,
-    ) -> Result<(), AllocError> {
+    ) -> Result<(), AllocError>
+        requires old { IsNumberOf self.old.stored (plain (tree_group before.now.tree)) old }
+        requires compared { AreCompared before.now.tree after.now.tree node compared }
+        ensures grew { Grew self.old.stored self.new.stored }
+        ensures row { OnOk result (IsPart self.new.stored (node_part after.now.tree compared.after node) self.old.row self.new.row) }
+    {
         if compared.before == compared.after && is_same_node(before, after, node) {
             let part = self.part_of(old, compared.parts);
             return self.put_part(part);

@@ -1,5 +1,6 @@
 //! Cached transitions between rows.
-ghost use Rattle.std.specs.Prelude.{◌≡◌, ◌++◌, ◌∷◌, [], map, IfOk, IfSome, OnErr, OnOk};
+ghost use Rattle.std.specs.Prelude.{◌≡◌, [], map, IfOk, IfSome, OnOk};
+ghost use Rattle.pv_rows.specs.Steps.{AreEdits, IsAdded, IsCached, IsEdit, edited, seen_word, step_key};
 
 use crate::tables::Tables;
 use crate::words::Rows;

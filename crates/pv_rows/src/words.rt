@@ -54,6 +54,16 @@ impl Rows {
         }
     }
 
+    // Appends a row if the set does not contain it, and returns its index.
+    fn add(&mut self, row: Vec<u32>) -> Result<usize, AllocError>
+        ensures added { OnOk result (self.new ≡ (if list_any (bytes_eq row.items) self.old then self.old else self.old ++ row.items ∷ [])) }
+        ensures number { IfOk result (λ number. number ≡ position_or_len (bytes_eq row.items) self.new) }
+        ensures unchanged { OnErr result (self.new ≡ self.old) }
+    {
+        let (number, _) = self.set.insert_full(row)?;
+        Ok(number)
+    }
+
     /// Returns the index of a row, and appends a copy of it first if the set does not contain it.
     ///
     /// # Errors
@@ -68,7 +78,6 @@ impl Rows {
             return Ok(number);
         }
         let copy = Vec::from_slice(alloc, row)?;
-        let (number, _) = self.set.insert_full(copy)?;
-        Ok(number)
+        self.add(copy)
     }
 }

@@ -1,0 +1,13 @@
+-- Lemmas about rows: Numbers (the numbers of entries in tables), KeyLists (byte strings in tables), Seeing (the groups of
+-- a state with outside views are what a step depends on), Apart (two rows are equal exactly if the states are; rows when
+-- more is stored).
+pub mod Numbers
+pub mod KeyLists
+pub mod Seeing
+pub mod Apart
+pub use Rattle.pv_state_encoding.proofs.OfAnswers
+pub use Rattle.pv_laws_steps.proofs.OfLawsAnswers
+pub use Rattle.pv_laws_steps.proofs.OfLawsRuns
+pub use Rattle.pv_laws_steps.proofs as OfLawsSteps
+pub use Rattle.pv_state_encoding.proofs.OfListing
+pub use Rattle.pv_state_encoding.proofs as OfStateEncoding
