@@ -6,8 +6,8 @@ ghost use Rattle.pv_explore.specs.Witnesses.{longer};
 ghost use Rattle.pv_model.specs.Answers.Compare.{live_in_either};
 
 use crate::observer::ComparedLines;
-use pv_explore::state_encoding::push_number;
 use pv_explore::row_tables::Keys;
+use pv_explore::state_encoding::push_number;
 use pv_explore::{FirstMachine, Side, Witnesses, ascending};
 use pv_model::StepFault;
 use std::alloc::{AllocError, Global};
@@ -110,11 +110,7 @@ impl<'a> Pairs<'a> {
     /// # Errors
     ///
     /// `NoMemory`, if there is no memory.
-    pub(crate) fn live(
-        &self,
-        alloc: Global,
-        number: u32,
-    ) -> Result<Vec<u32>, StepFault>
+    pub(crate) fn live(&self, alloc: Global, number: u32) -> Result<Vec<u32>, StepFault>
         requires whole { IsWhole self.now }
         requires found { number < length self.now.witnesses }
         ensures { IfOk result (λ pids. pids.items ≡ live_in_either (pair_in (pairs_of self.now) (get_or self.now.witnesses number [])).states) }

@@ -1,14 +1,15 @@
 -- The data of an engine, and its moves.
-use Rattle.std.specs.Prelude.{◌≡◌, ◌↔◌, ℕ, ◌<◌, ◌≤◌, true, false, Bool, List, [], ◌∷◌, ◌++◌, length, map, bytes_eq, position, slice_get, Some, zip}
+use Rattle.std.specs.Prelude.{◌≡◌, ℕ, ◌<◌, ◌≤◌, true, false, Bool, if◌then◌else◌, List, [], ◌∷◌, ◌++◌, get_or, length, map, bytes_eq, position, slice_get, Some, zip}
+use Rattle.std.specs.Global.{Vec}
 use Rattle.std.specs.List.{AllByRecursion, list_any}
 use Rattle.pv_engine.specs.Plan.{Visited, bound_at, bytes_at, live_at, moving_at, reported_steps, state_at, visited_after_steps, visited_at, with_found_at, witness_at}
 use Rattle.pv_engine.specs.declared.found.Visit.{Visit}
 use Rattle.pv_engine.specs.declared.found.Visit.TheVariants.{Known, Full, New}
 use Rattle.pv_model.specs.Machine.{Observer, Bytes, program_of, State}
-use Rattle.pv_rows.specs.OfStateEncoding.Encoded.{tree_group}
-use Rattle.pv_rows.specs.Rows.{IsRowOf, IsWordOf}
-use Rattle.pv_rows.specs.Steps.{edited, step_key}
-use Rattle.pv_rows.specs.Tables.{Stored, part_number}
+use Rattle.pv_rows.specs.Rows.{IsRowOf}
+use Rattle.pv_rows.specs.Steps.{step_key}
+use Rattle.pv_rows.specs.Tables.{Stored}
+use Rattle.pv_step_lines.specs.OfSession.Running.{stepped}
 
 -- what a contract sees of an engine: the state before the first step, and the data of the plan
 pub record Searching : Type 0 where
@@ -51,3 +52,21 @@ abbrev pub IsVisited : ℕ → List Bytes → Bytes → Visit → Type 0
 IsVisited limit keys k (Known number) = position (bytes_eq k) keys ≡ Some number
 IsVisited limit keys k Full = (list_any (bytes_eq k) keys ≡ false) × (limit ≤ length keys)
 IsVisited limit keys k New = (list_any (bytes_eq k) keys ≡ false) × (length keys < limit)
+
+-- the result of `take`: the state after the step was visited, and its texts are recorded
+pub record HasTaken (observe : Observer Bytes) (key : ℕ → State → Bytes) (bound : State → ℕ → ℕ) (limit number pid : ℕ) (old new : Searching) (found : Visit) : Type 0 where
+  pub moved : HasMoved observe key bound limit number pid old new
+  pub found_is : IsVisited limit old.visited.keys (key (bound (state_of old number) pid) (stepped (state_of old number) pid).after) found
+
+-- the result of a search, from the data of the plan
+pub record IsResult (visited : Visited) (states : ℕ) (complete : Bool) (endings : ℕ) (texts : List Bytes) : Type 0 where
+  pub states_are : states ≡ length visited.keys
+  pub complete_is : complete ≡ visited.complete
+  pub endings_are : endings ≡ length visited.endings
+  pub texts_are : texts ≡ visited.reported
+
+-- the states and their numbers are the same
+pub record AreSameStates (old new : Searching) : Type 0 where
+  pub first : new.first ≡ old.first
+  pub keys : new.visited.keys ≡ old.visited.keys
+  pub witnesses : new.visited.witnesses ≡ old.visited.witnesses

@@ -1,8 +1,10 @@
 pub mod Checkpoints
+pub mod Endings
 pub mod Engines
 pub mod FirstMachines
 pub mod Forms
 pub mod Found
+pub mod Invariants
 pub mod Observing
 pub mod Plan
 pub mod Reporting

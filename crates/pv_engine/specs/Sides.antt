@@ -1,15 +1,20 @@
 -- One side of a search of pairs: a machine and its visited states.
-use Rattle.std.specs.Prelude.{◌≡◌, ◌⊎◌, ℕ, ◌<◌, ◌≤◌, false, List, [], ◌∷◌, ◌++◌, length, bytes_eq, Option, None, Some}
+use Rattle.std.specs.Prelude.{◌≡◌, ◌⊎◌, ℕ, ◌<◌, ◌≤◌, false, List, [], ◌∷◌, ◌++◌, length, bytes_eq, slice_get, Option, None, Some}
 use Rattle.std.specs.List.{list_any}
-use Rattle.pv_engine.specs.declared.states.Visit.{Visit}
-use Rattle.pv_engine.specs.declared.states.Visit.TheVariants.{Known, Full, New}
-use Rattle.pv_engine.specs.Rows.{number_in, IsAmong}
+use Rattle.pv_engine.specs.Plan.{state_key}
+use Rattle.pv_engine.specs.declared.found.Visit.{Visit}
+use Rattle.pv_engine.specs.declared.found.Visit.TheVariants.{Known, Full, New}
 use Rattle.pv_model.specs.Machine.{Bytes, State}
+use Rattle.pv_rows.specs.Tables.{IsAmong, number_in}
 
 -- the state before the first step, and the encodings of the visited states
 pub record SideStates : Type 0 where
   pub first : State
   pub keys : List Bytes
+
+-- the state has this number
+abbrev pub HasNumber : List Bytes → ℕ → State → Type 0
+HasNumber keys number t = slice_get keys number ≡ Some (state_key t)
 
 -- the number of a visited state, given the number of states before the visit
 abbrev pub number_of : Visit → ℕ → Option ℕ

@@ -1,8 +1,10 @@
 //! The engine of all searches.
-ghost use Rattle.std.specs.Prelude.{◌≡◌, ◌<◌, ◌∷◌, [], length, map, IfOk, IfSome, OnOk};
-ghost use Rattle.pv_engine.specs.Engines.{HasMoved, HasMovedAll, HasTaken, IsAt, IsHere, IsNext, IsRecalled, all_of, live_of, moving_of, number_after, state_of, text_of_move, text_of_moves, visited_of};
-ghost use Rattle.pv_engine.specs.Plan.{first_visited, reported_from, visited_from};
+ghost use Rattle.std.specs.Prelude.{◌≡◌, ◌<◌, length, IfOk, IfSome, OnOk};
+ghost use Rattle.pv_engine.specs.Engines.{HasMoved, HasMovedAll, HasTaken, live_of, state_of, text_of_move, text_of_moves};
+ghost use Rattle.pv_engine.specs.Endings.{endings_with};
+ghost use Rattle.pv_engine.specs.Plan.{first_visited, may_step, reported_from, visited_from};
 ghost use Rattle.pv_model.specs.Machine.{program_of};
+ghost use Rattle.pv_rows.specs.Steps.{owners};
 ghost use Rattle.pv_rows.specs.Texts.{texts_in};
 ghost use Rattle.pv_step_lines.specs.OfSession.Running.{FailsBy, stepped};
 ghost use Rattle.pv_streams.specs.Sinks.{WritesOr};
@@ -22,6 +24,7 @@ use pv_rows::{CachedStep, CachedSteps, Keys, Rows, Tables, edited_row};
 use pv_step_lines::session::Stop;
 use pv_streams::Sink;
 use std::alloc::{AllocError, Global};
+use std::marker::Model;
 use std::rc::Rc;
 
 /// A search of the states that are reachable from the first state of a machine, with an observer of its steps and a form.
@@ -50,6 +53,28 @@ pub struct Engine<'a, O: Observer + Drop, F: Form + Drop> {
     step_key: Vec<u32>,
     next: Vec<u32>,
     next_key: Vec<u32>,
+}
+
+impl<'a, O: Observer + Drop, F: Form + Drop> Model for Engine<'a, O, F> {
+    ghost use Rattle.pv_engine.specs.Engines.{Searching, keys_of};
+    ghost use Rattle.pv_engine.specs.Endings.{ending_keys};
+    ghost use Rattle.pv_engine.specs.Invariants.{IsRight};
+
+    ghost Value = { Searching };
+
+    ghost view = { λ e. record {
+      first = e.machines.checkpoints;
+      visited = record {
+        bounds = e.found.bounds.items;
+        keys = keys_of F.key e.machines.checkpoints e.found.bounds.items e.found.witnesses;
+        witnesses = e.found.witnesses;
+        reported = e.reported;
+        endings = ending_keys e.tables.stored e.endings;
+        complete = e.complete;
+      };
+    } };
+
+    ghost invariant = { λ e. IsRight O.observe F.words (F.knows e.form) e.machines.checkpoints e.tables.stored e.found e.steps e.reported e.endings };
 }
 
 /// The result of a step from a visited state.
@@ -327,12 +352,15 @@ impl<'a, O: Observer + Drop, F: Form + Drop> Engine<'a, O, F> {
         requires { IsNextRow self.old number pid }
         ensures { IfOk result (HasVisited F.key F.bound limit self.old self.new number pid) }
     {
-        let bound = self
-            .form
-            .bound(&self.tables, self.found.row(number), pid);
+        let bound = self.form.bound(&self.tables, self.found.row(number), pid);
         self.next_key.clear();
-        self.form
-            .push_key(alloc, &mut self.tables, bound, &self.next, &mut self.next_key)?;
+        self.form.push_key(
+            alloc,
+            &mut self.tables,
+            bound,
+            &self.next,
+            &mut self.next_key,
+        )?;
         let next = Candidate {
             row: &self.next,
             bound,

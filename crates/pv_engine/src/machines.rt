@@ -79,11 +79,7 @@ impl<'a> Machines<'a> {
     /// # Errors
     ///
     /// `NoMemory`, if there is no memory.
-    pub(crate) fn copy(
-        &mut self,
-        alloc: Global,
-        machine: &Position,
-    ) -> Result<Position, StepFault>
+    pub(crate) fn copy(&mut self, alloc: Global, machine: &Position) -> Result<Position, StepFault>
         requires { HaveSameSizes self.old.checkpoints.tree machine.now.tree }
         ensures first { self.new.checkpoints ≡ self.old.checkpoints }
         ensures copy { IfOk result (λ copy. copy ≡ machine.now) }

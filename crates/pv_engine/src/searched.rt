@@ -3,6 +3,7 @@ ghost use Rattle.std.specs.Prelude.{◌≡◌, ◌≤◌, bytes_eq, IfOk, OnOk};
 ghost use Rattle.std.specs.List.{list_any};
 ghost use Rattle.pv_engine.specs.Plan.{all_reported, all_visited, first_visited};
 ghost use Rattle.pv_engine.specs.Engines.{IsResult};
+ghost use Rattle.pv_engine.specs.Observing.{no_text};
 ghost use Rattle.pv_step_lines.specs.OfSession.Running.{FailsBy};
 ghost use Rattle.pv_streams.specs.Sinks.{WritesOr};
 
@@ -78,7 +79,7 @@ pub fn search_with<O: Observer + Drop, F: Form + Drop, W: Sink, P: Progress>(
     out: &mut W,
 ) -> Result<Searched, Stop>
     ensures written { WritesOr W.Sink FailsBy (all_reported O.observe F.key F.bound states first_machine.now) out.old out.new result }
-    ensures found { IfOk result (IsResult (all_visited O.observe F.key F.bound states first_machine.now)) }
+    ensures found { IfOk result (λ r. IsResult (all_visited O.observe F.key F.bound states first_machine.now) r.states r.complete r.endings r.texts) }
 {
     let mut engine = Engine::new(alloc, observer, form, first_machine)?;
     search_all(alloc, states, &mut engine, progress, out)?;

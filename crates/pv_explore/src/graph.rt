@@ -1,8 +1,9 @@
 //! The state graph: the states that are reachable from a machine's first state, and their transitions.
 ghost use Rattle.std.specs.Prelude.{◌≡◌, ◌<◌, ◌≤◌, [], Some, codes, length, IfOk, OnOk};
 ghost use Rattle.std.specs.Fmt.{decimal};
-ghost use Rattle.pv_explore.specs.Vertices.{AreSameStates, all_steps_at, all_vertices, leads_of, listed_bytes, step_of, vertex_at};
-ghost use Rattle.pv_engine.specs.Engines.{state_of, witness_at};
+ghost use Rattle.pv_explore.specs.Vertices.{all_steps_at, all_vertices, leads_of, listed_bytes, step_of, vertex_at};
+ghost use Rattle.pv_engine.specs.Engines.{AreSameStates, state_of};
+ghost use Rattle.pv_engine.specs.Plan.{witness_at};
 ghost use Rattle.pv_model.specs.Answers.Graph.{leads_to_text, unreported};
 ghost use Rattle.pv_model.specs.Machine.{explained_step, is_complete, graph_lines, answer_bytes, answer_line, answer_line_bytes, lines_of, program_of, listing};
 ghost use Rattle.pv_model.specs.Answers.Graph.{tree_lines};

@@ -12,11 +12,9 @@ pub use explore::{completeness, search_observed, write_endings, write_explore, w
 pub use graph::write_graph;
 pub use numbers::{ascending, greatest};
 pub use pv_engine as engine;
-pub use pv_engine::row_tables;
-pub use pv_engine::state_encoding;
 pub use pv_engine::{
     Count, Engine, FirstMachine, Form, Observer, Position, Progress, Searched, SearchedStates,
     Side, SideStep, TraceLines, Unobserved, Unshown, VisitedState, Whole, Witness, Witnesses,
-    search_with, write_by,
+    answers, audit, calls_path, calls_plain, row_tables, search_with, session, state_encoding,
+    write_by,
 };
-pub use pv_engine::{answers, audit, calls_path, calls_plain, session};

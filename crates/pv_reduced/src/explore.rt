@@ -73,7 +73,15 @@ pub(crate) fn write_reduced<W: Sink, P: Progress>(
     ensures complete { IfOk result (λ complete. complete ≡ is_reduced_complete program_of first_machine.now states) }
 {
     let form = Reduced::new(alloc);
-    let searched = search_with(alloc, first_machine, states, TraceLines, form, progress, out)?;
+    let searched = search_with(
+        alloc,
+        first_machine,
+        states,
+        TraceLines,
+        form,
+        progress,
+        out,
+    )?;
     write_done(out, &searched)?;
     Ok(searched.complete)
 }

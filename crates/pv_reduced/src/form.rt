@@ -45,7 +45,11 @@ fn value_at<X>(all: &[Option<X>], place: u32) -> Option<&X> {
 }
 
 // Appends the open files of a shape to an order, if they are new, and their indices to a part.
-fn push_files(order: &mut Vec<usize>, indices: &mut Vec<u8>, shape: &Shape) -> Result<(), AllocError> {
+fn push_files(
+    order: &mut Vec<usize>,
+    indices: &mut Vec<u8>,
+    shape: &Shape,
+) -> Result<(), AllocError> {
     for file in shape.files.as_slice() {
         push_reference(order, *file)?;
         push_number(indices, index_in(order, *file) as u64)?;

@@ -9,8 +9,8 @@ use crate::explore::{write_classes, write_reduced};
 use crate::form::Reduced;
 use pv_explore::session::Stop;
 use pv_explore::{
-    FirstMachine, Observer, Progress, Searched, SearchedStates, Whole, search_observed, search_with,
-    write_explore, write_states,
+    FirstMachine, Observer, Progress, Searched, SearchedStates, Whole, search_observed,
+    search_with, write_explore, write_states,
 };
 use pv_model::StepFault;
 use pv_streams::{Failed, Sink};

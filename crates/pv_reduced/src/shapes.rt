@@ -242,7 +242,12 @@ pub(crate) fn shape_of(
     let files = files_of(alloc, &owned.descriptors)?;
     let mut program = Vec::new(alloc);
     push_program(&mut program, processes.program(pid))?;
-    let live = lively.live_line(alloc, &program, processes.program(pid), owned.context.line())?;
+    let live = lively.live_line(
+        alloc,
+        &program,
+        processes.program(pid),
+        owned.context.line(),
+    )?;
     let registers = live_registers(&owned.context.registers(), live);
     let mut part = Vec::new(alloc);
     push_live(&mut part, pid, owned, &registers, &files, parent)?;

@@ -9,6 +9,11 @@ use Rattle.pv_rows.specs.declared.steps.Edit.{Edit}
 use Rattle.pv_rows.specs.declared.steps.Edit.TheVariants.{Keep, Put}
 
 module _ (t : Stored) where
+  -- the owners of the words of a row: the live processes of its state
+  abbrev pub owners : List ℕ → List ℕ
+  owners [] = []
+  owners (w ∷ ws) = if owner_of t w == 0 then owners ws else owner_of t w ∷ owners ws
+
   -- the word of the part of a group on which a step of a process depends
   abbrev pub seen_word : ℕ → ℕ → ℕ
   seen_word pid word = if owner_of t word == pid then word else outside_of t word

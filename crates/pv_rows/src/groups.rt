@@ -105,7 +105,12 @@ impl Tables {
     }
 
     // Returns the number of the group of a live process, and stores it first if it is new.
-    fn live_process(&mut self, alloc: Global, processes: &Processes, pid: u32) -> Result<u32, AllocError>
+    fn live_process(
+        &mut self,
+        alloc: Global,
+        processes: &Processes,
+        pid: u32,
+    ) -> Result<u32, AllocError>
         requires { IsSome (process_in processes.now pid) }
         ensures grew { Grew self.old.stored self.new.stored }
         ensures number { IfOk result (IsNumberOf self.new.stored (live_encoded pid (process_in processes.now pid))) }

@@ -20,6 +20,7 @@ use std::alloc::{AllocError, Global};
 
 // The places of the program and of the buffer among the parts of a live process.
 const PROGRAM: usize = 1;
+
 const BUFFER: usize = 2;
 
 // ---- the row of a state
@@ -253,12 +254,7 @@ impl Tables {
     }
 
     // Returns the word of the open files after a step. `old` is the word before it.
-    fn files_after(
-        &mut self,
-        alloc: Global,
-        step: StepOf<'_>,
-        old: u32,
-    ) -> Result<u32, AllocError>
+    fn files_after(&mut self, alloc: Global, step: StepOf<'_>, old: u32) -> Result<u32, AllocError>
         requires { IsNumberOf self.old.stored (plain (files_group step.before.now)) old }
         ensures grew { Grew self.old.stored self.new.stored }
         ensures number { IfOk result (IsNumberOf self.new.stored (plain (files_group step.after.now))) }

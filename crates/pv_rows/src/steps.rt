@@ -110,12 +110,7 @@ impl Tables {
     /// # Errors
     ///
     /// `AllocError`, if there is no memory.
-    pub fn push_step_key(
-        &self,
-        row: &[u32],
-        pid: u32,
-        key: &mut Vec<u32>,
-    ) -> Result<(), AllocError>
+    pub fn push_step_key(&self, row: &[u32], pid: u32, key: &mut Vec<u32>) -> Result<(), AllocError>
         requires { key.old.items ≡ [] }
         ensures { OnOk result (key.new.items ≡ step_key self.now.stored pid row.now) }
     {

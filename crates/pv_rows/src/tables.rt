@@ -9,7 +9,9 @@ use std::marker::Model;
 
 // The places of the owner, of the outside view and of the first part in the row of a group.
 const OWNER: usize = 0;
+
 const OUTSIDE: usize = 1;
+
 const PARTS: usize = 2;
 
 /// The parts and groups of states, each stored once, and the part and the row of the group that are being built. A

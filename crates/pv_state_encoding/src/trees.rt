@@ -13,7 +13,12 @@ use std::alloc::AllocError;
 
 /// Returns the name of a directory that follows the last one, with its node. `before` is a guess of the number of names
 /// before it.
-pub(crate) fn next(tree: &Tree, directory: u16, last: &Option<Name>, before: u32) -> Option<(Name, u16)>
+pub(crate) fn next(
+    tree: &Tree,
+    directory: u16,
+    last: &Option<Name>,
+    before: u32,
+) -> Option<(Name, u16)>
     requires { IsTrue (is_directory_at tree.now.tree directory) }
     ensures name { option_map (λ e. e.0) result ≡ next_name last.now (entries_at tree.now.tree directory) }
     ensures node { IfSome result (λ e. find_entry tree.now.tree directory e.0 ≡ Some e.1) }

@@ -1,0 +1,98 @@
+-- A cached transition is valid for every step with its key, and stays valid when more is stored.
+use Rattle.std.proofs.Common.{◌≡◌, ◌≢◌, ◌∙◌, sym, ap, ap₂, subst, ℕ, zero, suc, ◌⊎◌, inl, inr, List, [], ◌∷◌, map, Option, None, Some, option_map, slice_get, refl}
+use Rattle.std.specs.List.{AllByRecursion}
+use Rattle.std.proofs.lemmas.Option.{slice_get-map}
+use Rattle.pv_model.specs.Machine.{Observer, Bytes, program_of, State, step}
+use Rattle.pv_laws_states.specs.States.{IsValid}
+use Rattle.pv_laws_states.proofs.BySteps.{step-keeps_whole}
+use Rattle.pv_laws_steps.specs.Seen.{seen, with_insides}
+use Rattle.pv_laws_steps.proofs.SeenSteps.{steps-by_seen}
+use Rattle.pv_state_encoding.specs.Encoded.{Encoded, encoded, seen_of}
+use Rattle.pv_rows.proofs.Afters.{AppearsAt, AreAfter, IsEdit as IsGroupEdit, AreEdits as AreGroupEdits, all-after, all-edited, all-stored}
+use Rattle.pv_rows.proofs.Apart.{same-word, stored-now, word-now, words-now}
+use Rattle.pv_rows.proofs.Seeing.{same-seen}
+use Rattle.pv_rows.proofs.Words.{owner-word, same-seen_words, selves}
+use Rattle.pv_rows.specs.Cached.{DependsOnSeen, IsStep}
+use Rattle.pv_rows.specs.Rows.{AreWordsOf, IsRowOf}
+use Rattle.pv_rows.specs.Steps.{AreEdits, IsEdit, edited, seen_word, step_key, texts_of}
+use Rattle.pv_rows.specs.Tables.{Stored, Grew, IsStored, owner_of, word_of}
+use Rattle.pv_rows.specs.declared.steps.CachedStep.{CachedStep}
+use Rattle.pv_rows.specs.declared.steps.Edit.{Edit}
+use Rattle.pv_rows.specs.declared.steps.Edit.TheVariants.{Keep, Put}
+
+heads : {X : Type 0} (x y : X) (xs ys : List X) → x ∷ xs ≡ y ∷ ys → (x ≡ y) × (xs ≡ ys)
+heads x y xs ys is = (let same : x ≡ y = cc in same, let same : xs ≡ ys = cc in same)
+
+-- ---- edits of words are edits of groups
+
+module _ (t : Stored) (pid : ℕ) (before : List Encoded) (stored : AllByRecursion (IsStored t) before) where
+  -- the group at a place of a row
+  there-at : (cs : List Encoded) (place word : ℕ) → slice_get (map (word_of t) cs) place ≡ Some word → (c : Encoded) × (slice_get cs place ≡ Some c) × (word_of t c ≡ word)
+  there-at [] place word at = cc
+  there-at (c ∷ cs) zero word at = let same : word_of t c ≡ word = cc in (c, refl, same)
+  there-at (c ∷ cs) (suc place) word at = there-at cs place word at
+
+  one-edit : (c : Encoded) (e : Edit) → IsStored t c → IsEdit t pid (map (word_of t) before) (word_of t c) e → IsGroupEdit (word_of t) pid before c e
+  one-edit c (Keep place) one it =
+      let there = there-at before place (word_of t c) it.0 in
+      let same = same-word t there.0 c one there.2 in
+      record {
+        there = there.0;
+        at = there.1;
+        group = same.1;
+        owner = same.0;
+        live = λ none. it.1 (owner-word t c one ∙ none);
+        other = λ own. it.2 (owner-word t c one ∙ own);
+      }
+  one-edit c (Put word) one (same, inl none) = (same, inl (sym (owner-word t c one) ∙ none))
+  one-edit c (Put word) one (same, inr own) = (same, inr (sym (owner-word t c one) ∙ own))
+
+  group-edits : (cs : List Encoded) (es : List Edit) → AllByRecursion (IsStored t) cs → AreEdits t pid (map (word_of t) before) (map (word_of t) cs) es → AreGroupEdits (word_of t) pid before cs es
+  group-edits [] [] all are = tt
+  group-edits [] (e ∷ es) all are = absurd are
+  group-edits (c ∷ cs) [] all are = absurd are
+  group-edits (c ∷ cs) (e ∷ es) all are = (one-edit c e all.0 are.0, group-edits cs es all.1 are.1)
+
+-- ---- in another state with the same key
+
+-- the texts and the row of a step in a state, from a cached transition
+pub record IsAgain (observe : Observer Bytes) (t : Stored) (pid : ℕ) (s : State) (texts : List Bytes) (row : List ℕ) : Type 0 where
+  pub texts_are : texts ≡ observe s pid (step program_of s pid)
+  pub row_is : IsRowOf t (step program_of s pid).after row
+
+pub step-again : (observe : Observer Bytes) → DependsOnSeen observe → (t : Stored) (key : List ℕ) (it : CachedStep) → IsStep observe t key it → (s : State) (pid : ℕ) (row : List ℕ) → IsValid s → IsRowOf t s row → key ≡ step_key t pid row
+    → IsAgain observe t pid s (texts_of it) (map (edited row) it.edits.items)
+step-again observe depends t key it is s pid row whole there same =
+    let keys = heads pid is.pid (map (seen_word t pid) row) (map (seen_word t is.pid) is.before) (sym same ∙ is.key_is) in
+    again keys.0 keys.1
+  where
+    again : pid ≡ is.pid → map (seen_word t pid) row ≡ map (seen_word t is.pid) is.before → IsAgain observe t pid s (texts_of it) (map (edited row) it.edits.items)
+    again own words =
+        let own_words : map (seen_word t is.pid) (map (word_of t) (encoded s)) ≡ map (seen_word t is.pid) (map (word_of t) (encoded is.state)) =
+        ap₂ (λ (k : ℕ) (ws : List ℕ). map (seen_word t k) ws) (sym own) (sym there.are) ∙ words ∙ ap (map (seen_word t is.pid)) is.before_is.are in
+        let groups : map (seen_of is.pid) (encoded s) ≡ map (seen_of is.pid) (encoded is.state) =
+        same-seen_words t is.pid (encoded s) (encoded is.state) there.stored (selves s whole) is.before_is.stored (selves is.state is.whole) own_words in
+        let alike : seen is.pid is.state ≡ seen is.pid s = same-seen is.pid is.state s (sym groups) in
+        let steps = steps-by_seen program_of is.state s is.pid is.whole whole alike in
+        let after : State = (step program_of is.state is.pid).after in
+        let edits : AreGroupEdits (word_of t) is.pid (encoded is.state) (encoded (step program_of is.state is.pid).after) it.edits.items =
+        group-edits t is.pid (encoded is.state) is.before_is.stored (encoded (step program_of is.state is.pid).after) it.edits.items is.after_is.stored
+        (subst (λ (ws : List ℕ). AreEdits t is.pid (map (word_of t) (encoded is.state)) ws it.edits.items) is.after_is.are
+        (subst (λ (ws : List ℕ). AreEdits t is.pid ws is.after it.edits.items) is.before_is.are is.edits_are)) in
+        let are = all-after (word_of t) is.pid is.state s whole alike (step program_of is.state is.pid).after it.edits.items edits in
+        let edited_are = all-edited (word_of t) is.pid is.state s (encoded (with_insides is.pid s (step program_of is.state is.pid).after)) (encoded (step program_of is.state is.pid).after) it.edits.items are in
+        let all = all-stored (word_of t) is.pid is.state s (IsStored t) (encoded (with_insides is.pid s (step program_of is.state is.pid).after)) (encoded (step program_of is.state is.pid).after) it.edits.items there.stored is.after_is.stored are in
+        subst (λ (k : ℕ). IsAgain observe t k s (texts_of it) (map (edited row) it.edits.items)) (sym own) (record {
+          texts_are = is.texts_are ∙ depends is.state s is.pid is.whole whole alike;
+          row_is = record {
+            are = ap (λ (ws : List ℕ). map (edited ws) it.edits.items) there.are ∙ sym edited_are ∙ ap (λ (x : State). map (word_of t) (encoded x)) (sym steps.after);
+            stored = subst (λ (x : State). AllByRecursion (IsStored t) (encoded x)) (sym steps.after) all;
+          };
+        })
+
+-- ---- when more is stored
+
+module _ (t now : Stored) (grew : Grew t now) where
+  owner-now : (c : Encoded) → IsStored t c → owner_of now (word_of t c) ≡ owner_of t (word_of t c)
+  owner-now c stored =
+      ap (owner_of now) (sym (word-now t now grew c stored)) ∙ owner-word now c (stored-now t now grew c stored) ∙ sym (owner-word t c stored)
