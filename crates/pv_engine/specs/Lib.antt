@@ -8,6 +8,7 @@ pub mod Invariants
 pub mod Observing
 pub mod Plan
 pub mod Reporting
+pub mod Results
 pub mod Sides
 pub mod Visiting
 pub mod Witnesses

@@ -1,6 +1,8 @@
 //! The visited states of a search.
-ghost use Rattle.std.specs.Prelude.{◌≡◌, ◌<◌, ◌++◌, ◌∷◌, [], length, slice_index, slice_get, IfOk, OnOk, Some};
-ghost use Rattle.pv_engine.specs.Found.{IsFoundIn, HasRow, are_found};
+ghost use Rattle.std.specs.Prelude.{◌≡◌, ◌<◌, ◌++◌, ◌∷◌, [], false, bytes_eq, length, slice_index, IfOk, OnErr, OnOk};
+ghost use Rattle.std.specs.List.{list_any};
+ghost use Rattle.pv_engine.specs.Found.{AreFound, HasRow, IsFoundIn, IsPushed};
+ghost use Rattle.pv_engine.specs.Witnesses.{longer};
 
 use crate::witnesses::Witnesses;
 use pv_model::StepFault;
@@ -45,17 +47,21 @@ impl FoundStates {
     /// # Errors
     ///
     /// `NoMemory`, if there is no memory.
-    pub(crate) fn new(alloc: Global, first: Candidate<'_>) -> Result<FoundStates, StepFault>
-        ensures { IfOk result (λ found. are_found found (first.row.now ∷ []) (first.bound ∷ []) (first.key.now ∷ []) ([] ∷ [])) }
+    pub(crate) fn new(alloc: Global, first: Candidate<'_>) -> Result<FoundStates, AllocError>
+        ensures { IfOk result (λ found. AreFound found (first.row.now ∷ []) (first.bound ∷ []) (first.key.now ∷ []) ([] ∷ [])) }
     {
-        let mut found = FoundStates {
-            rows: Vec::new(alloc),
-            bounds: Vec::new(alloc),
-            keys: Rows::new(alloc),
+        let mut rows = Vec::new(alloc);
+        rows.push(Vec::from_slice(alloc, first.row)?)?;
+        let mut bounds = Vec::new(alloc);
+        bounds.push(first.bound)?;
+        let mut keys = Rows::new(alloc);
+        keys.number(alloc, first.key)?;
+        Ok(FoundStates {
+            rows,
+            bounds,
+            keys,
             witnesses: Witnesses::new(alloc),
-        };
-        found.push(alloc, first)?;
-        Ok(found)
+        })
     }
 
     /// Returns the number of states.
@@ -81,13 +87,49 @@ impl FoundStates {
         self.bounds[number as usize]
     }
 
-    // Appends a state without its witness.
-    fn push(&mut self, alloc: Global, state: Candidate<'_>) -> Result<(), AllocError>
-        ensures { OnOk result (IsPushed self.old self.new state) }
+    // Appends the key and the witness of a state.
+    fn push_key(
+        &mut self,
+        alloc: Global,
+        from: u32,
+        pid: u32,
+        key: &[u32],
+    ) -> Result<(), AllocError>
+        requires from { from < length self.old.witnesses }
+        requires new { list_any (bytes_eq key.now) self.old.keys ≡ false }
+        ensures pushed { OnOk result (self.new ≡ record self.old { keys = self.old.keys ++ key.now ∷ []; witnesses = self.old.witnesses ++ longer self.old.witnesses from pid ∷ [] }) }
+        ensures unchanged { OnErr result (self.new ≡ self.old) }
     {
-        self.keys.number(alloc, state.key)?;
-        self.rows.push(Vec::from_slice(alloc, state.row)?)?;
-        self.bounds.push(state.bound)?;
+        let count = self.keys.len();
+        self.keys.number(alloc, key)?;
+        match self.witnesses.push(from, pid) {
+            Ok(()) => Ok(()),
+            Err(error) => {
+                self.keys.truncate(count);
+                Err(error)
+            }
+        }
+    }
+
+    // Appends a state, or changes nothing.
+    fn push(
+        &mut self,
+        alloc: Global,
+        from: u32,
+        pid: u32,
+        state: Candidate<'_>,
+    ) -> Result<(), AllocError>
+        requires from { from < length self.old.witnesses }
+        requires new { list_any (bytes_eq state.key.now) self.old.keys ≡ false }
+        ensures pushed { OnOk result (IsPushed self.old self.new from pid state) }
+        ensures unchanged { OnErr result (self.new ≡ self.old) }
+    {
+        let row = Vec::from_slice(alloc, state.row)?;
+        self.rows.reserve(1)?;
+        self.bounds.reserve(1)?;
+        self.push_key(alloc, from, pid, state.key)?;
+        self.rows.push_reserved(row);
+        self.bounds.push_reserved(state.bound);
         Ok(())
     }
 
@@ -114,8 +156,7 @@ impl FoundStates {
         if self.len() >= limit {
             return Ok(Visit::Full);
         }
-        self.push(alloc, state)?;
-        self.witnesses.push(from, pid)?;
+        self.push(alloc, from, pid, state)?;
         Ok(Visit::New)
     }
 }

@@ -1,17 +1,15 @@
 -- A cached transition is valid for every step with its key, and stays valid when more is stored.
-use Rattle.std.proofs.Common.{◌≡◌, ◌≢◌, ◌∙◌, sym, ap, ap₂, subst, ℕ, zero, suc, ◌⊎◌, inl, inr, List, [], ◌∷◌, map, Option, None, Some, option_map, slice_get, refl}
+use Rattle.std.proofs.Common.{◌≡◌, ◌≢◌, ◌∙◌, sym, ap, ap₂, subst, ℕ, zero, suc, ◌==◌, if◌then◌else◌, ◌⊎◌, inl, inr, List, [], ◌∷◌, get_or, map, Some, slice_get, refl}
 use Rattle.std.specs.List.{AllByRecursion}
-use Rattle.std.proofs.lemmas.Option.{slice_get-map}
 use Rattle.pv_model.specs.Machine.{Observer, Bytes, program_of, State, step}
 use Rattle.pv_laws_states.specs.States.{IsValid}
-use Rattle.pv_laws_states.proofs.BySteps.{step-keeps_whole}
 use Rattle.pv_laws_steps.specs.Seen.{seen, with_insides}
 use Rattle.pv_laws_steps.proofs.SeenSteps.{steps-by_seen}
 use Rattle.pv_state_encoding.specs.Encoded.{Encoded, encoded, seen_of}
 use Rattle.pv_rows.proofs.Afters.{AppearsAt, AreAfter, IsEdit as IsGroupEdit, AreEdits as AreGroupEdits, all-after, all-edited, all-stored}
-use Rattle.pv_rows.proofs.Apart.{same-word, stored-now, word-now, words-now}
+use Rattle.pv_rows.proofs.Apart.{rows-now, same-word, stored-now, word-now, words-now}
 use Rattle.pv_rows.proofs.Seeing.{same-seen}
-use Rattle.pv_rows.proofs.Words.{owner-word, same-seen_words, selves}
+use Rattle.pv_rows.proofs.Words.{owner-word, row-back, same-seen_words, selves}
 use Rattle.pv_rows.specs.Cached.{DependsOnSeen, IsStep}
 use Rattle.pv_rows.specs.Rows.{AreWordsOf, IsRowOf}
 use Rattle.pv_rows.specs.Steps.{AreEdits, IsEdit, edited, seen_word, step_key, texts_of}
@@ -93,6 +91,52 @@ step-again observe depends t key it is s pid row whole there same =
 -- ---- when more is stored
 
 module _ (t now : Stored) (grew : Grew t now) where
+  -- a stored group keeps its row
+  row-now : (c : Encoded) → IsStored t c → get_or now.groups (word_of t c) [] ≡ get_or t.groups (word_of t c) []
+  row-now c stored =
+      ap (λ n. get_or now.groups n []) (sym (word-now t now grew c stored)) ∙ row-back now c (stored-now t now grew c stored) ∙ rows-now t now grew c stored ∙ sym (row-back t c stored)
+
   owner-now : (c : Encoded) → IsStored t c → owner_of now (word_of t c) ≡ owner_of t (word_of t c)
-  owner-now c stored =
-      ap (owner_of now) (sym (word-now t now grew c stored)) ∙ owner-word now c (stored-now t now grew c stored) ∙ sym (owner-word t c stored)
+  owner-now c stored = ap (λ (row : List ℕ). get_or row 0 0) (row-now c stored)
+
+  seen-now : (pid : ℕ) (c : Encoded) → IsStored t c → seen_word now pid (word_of t c) ≡ seen_word t pid (word_of t c)
+  seen-now pid c stored = ap (by_row pid (word_of t c)) (row-now c stored)
+    where
+      -- the word on which a step depends, given the row of the group
+      by_row : ℕ → ℕ → List ℕ → ℕ
+      by_row own word row = if get_or row 0 0 == own then word else if get_or row 0 0 == 0 then word else get_or row 1 0
+
+  seen_words-now : (pid : ℕ) (cs : List Encoded) → AllByRecursion (IsStored t) cs → map (seen_word now pid) (map (word_of t) cs) ≡ map (seen_word t pid) (map (word_of t) cs)
+  seen_words-now pid [] stored = refl
+  seen_words-now pid (c ∷ cs) stored = ap₂ (λ (n : ℕ) (ns : List ℕ). n ∷ ns) (seen-now pid c stored.0) (seen_words-now pid cs stored.1)
+
+  edit-now : (pid : ℕ) (before : List ℕ) (c : Encoded) (e : Edit) → IsStored t c → IsEdit t pid before (word_of t c) e → IsEdit now pid before (word_of t c) e
+  edit-now pid before c (Keep place) stored it = (it.0, λ none. it.1 (sym (owner-now c stored) ∙ none), λ own. it.2 (sym (owner-now c stored) ∙ own))
+  edit-now pid before c (Put word) stored (same, inl none) = (same, inl (owner-now c stored ∙ none))
+  edit-now pid before c (Put word) stored (same, inr own) = (same, inr (owner-now c stored ∙ own))
+
+  edits-now : (pid : ℕ) (before : List ℕ) (cs : List Encoded) (es : List Edit) → AllByRecursion (IsStored t) cs → AreEdits t pid before (map (word_of t) cs) es → AreEdits now pid before (map (word_of t) cs) es
+  edits-now pid before [] [] stored are = tt
+  edits-now pid before [] (e ∷ es) stored are = absurd are
+  edits-now pid before (c ∷ cs) [] stored are = absurd are
+  edits-now pid before (c ∷ cs) (e ∷ es) stored are = (edit-now pid before c e stored.0 are.0, edits-now pid before cs es stored.1 are.1)
+
+  pub step-now : (observe : Observer Bytes) (key : List ℕ) (it : CachedStep) → IsStep observe t key it → IsStep observe now key it
+  step-now observe key it is =
+      record {
+        state = is.state;
+        pid = is.pid;
+        whole = is.whole;
+        before = is.before;
+        before_is = words-now t now grew (encoded is.state) is.before is.before_is;
+        after = is.after;
+        after_is = words-now t now grew (encoded (step program_of is.state is.pid).after) is.after is.after_is;
+        key_is =
+            is.key_is ∙ ap (λ (ws : List ℕ). is.pid ∷ ws)
+            (ap (map (seen_word t is.pid)) is.before_is.are ∙ sym (seen_words-now is.pid (encoded is.state) is.before_is.stored) ∙ ap (map (seen_word now is.pid)) (sym is.before_is.are));
+        texts_are = is.texts_are;
+        edits_are =
+            subst (λ (ws : List ℕ). AreEdits now is.pid is.before ws it.edits.items) (sym is.after_is.are)
+            (edits-now is.pid is.before (encoded (step program_of is.state is.pid).after) it.edits.items is.after_is.stored
+            (subst (λ (ws : List ℕ). AreEdits t is.pid is.before ws it.edits.items) is.after_is.are is.edits_are));
+      }

@@ -58,19 +58,19 @@ module _ (t now : Stored) (grew : Grew t now) where
   outside-now : (c : Encoded) → IsStored t c → outside_number now c ≡ outside_number t c
   outside-now c stored = ap (λ n. if c.owner == 0 then 0 else n) (plain-number-now c.outside stored.outside)
 
-  row-of-now : (c : Encoded) → IsStored t c → row_of now c ≡ row_of t c
-  row-of-now c stored =
+  pub rows-now : (c : Encoded) → IsStored t c → row_of now c ≡ row_of t c
+  rows-now c stored =
       ap (λ n. group_row now c.owner n c.group) (outside-now c stored) ∙ row-now c.owner (outside_number t c) c.group stored.parts
 
   -- a stored group keeps its word
   pub word-now : (c : Encoded) → IsStored t c → word_of now c ≡ word_of t c
-  word-now c stored = ap (number_in now.groups) (row-of-now c stored) ∙ number-now t.groups now.groups grew.groups (row_of t c) stored.row
+  word-now c stored = ap (number_in now.groups) (rows-now c stored) ∙ number-now t.groups now.groups grew.groups (row_of t c) stored.row
 
   pub stored-now : (c : Encoded) → IsStored t c → IsStored now c
   stored-now c stored = record {
     parts = all-now t.parts now.parts grew.parts c.group stored.parts;
     outside = plain-stored-now c.outside stored.outside;
-    row = subst (IsAmong now.groups) (sym (row-of-now c stored)) (among-now t.groups now.groups grew.groups (row_of t c) stored.row);
+    row = subst (IsAmong now.groups) (sym (rows-now c stored)) (among-now t.groups now.groups grew.groups (row_of t c) stored.row);
   }
 
   pub words-now : (cs : List Encoded) (words : List ℕ) → AreWordsOf t cs words → AreWordsOf now cs words

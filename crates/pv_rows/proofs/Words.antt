@@ -38,7 +38,7 @@ selves s whole = (λ none. refl, selves-records s.last_process s.processes (tree
 -- ---- a stored group
 
 module _ (t : Stored) where
-  row-back : (c : Encoded) → IsStored t c → get_or t.groups (word_of t c) [] ≡ row_of t c
+  pub row-back : (c : Encoded) → IsStored t c → get_or t.groups (word_of t c) [] ≡ row_of t c
   row-back c stored = get-number t.groups (row_of t c) stored.row
 
   pub owner-word : (c : Encoded) → IsStored t c → owner_of t (word_of t c) ≡ c.owner

@@ -341,6 +341,22 @@ impl Tables {
         self.end_part(alloc)
     }
 
+    // Appends the last part of the tree after a step, which has no node in use.
+    fn push_last_after(
+        &mut self,
+        alloc: Global,
+        old: u32,
+        compared: Compared,
+        end: u16,
+    ) -> Result<(), AllocError> {
+        if compared.before == compared.after {
+            let part = self.part_of(old, compared.parts);
+            return self.put_part(part);
+        }
+        self.push_unused(end - compared.after)?;
+        self.end_part(alloc)
+    }
+
     // Returns the word of the tree after a step, in an image of the same sizes. `old` is the word before it.
     fn tree_after(
         &mut self,
@@ -373,8 +389,7 @@ impl Tables {
                 compared.parts += 1;
             }
         }
-        self.push_unused(end - compared.after)?;
-        self.end_part(alloc)?;
+        self.push_last_after(alloc, old, compared, end)?;
         self.end(alloc)
     }
 }

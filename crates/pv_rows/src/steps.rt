@@ -1,5 +1,5 @@
 //! Cached transitions between rows.
-ghost use Rattle.std.specs.Prelude.{◌≡◌, [], map, IfOk, IfSome, OnOk};
+ghost use Rattle.std.specs.Prelude.{◌≡◌, [], length, map, IfOk, IfSome, OnOk};
 ghost use Rattle.pv_rows.specs.Steps.{AreEdits, IsAdded, IsCached, IsEdit, edited, seen_word, step_key};
 
 use crate::tables::Tables;
@@ -32,6 +32,7 @@ pub struct CachedSteps {
     pub keys: Rows,
     /// The transition of each key.
     pub steps: Vec<CachedStep>,
+    pub ghost aligned: { length keys ≡ length steps.items },
 }
 
 impl CachedSteps {
@@ -60,8 +61,9 @@ impl CachedSteps {
     pub fn add(&mut self, alloc: Global, key: &[u32], step: CachedStep) -> Result<(), AllocError>
         ensures { OnOk result (IsAdded self.old self.new key.now step) }
     {
+        self.steps.reserve(1)?;
         if self.keys.number(alloc, key)? == self.steps.len() {
-            self.steps.push(step)?;
+            self.steps.push_reserved(step);
         }
         Ok(())
     }

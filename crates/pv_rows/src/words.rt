@@ -1,5 +1,5 @@
 //! Tables of rows of words in insertion order.
-ghost use Rattle.std.specs.Prelude.{◌≡◌, ◌++◌, ◌∷◌, [], length, position, bytes_eq, slice_get, if◌then◌else◌, IfOk, IfSome, OnErr, OnOk, Some};
+ghost use Rattle.std.specs.Prelude.{◌≡◌, ◌++◌, ◌∷◌, [], length, position, bytes_eq, slice_get, take, if◌then◌else◌, IfOk, IfSome, OnErr, OnOk, Some};
 ghost use Rattle.std.specs.List.{list_any, position_or_len};
 
 use indexmap::IndexSet;
@@ -62,6 +62,13 @@ impl Rows {
     {
         let (number, _) = self.set.insert_full(row)?;
         Ok(number)
+    }
+
+    /// Removes all rows after the first `count`.
+    pub fn truncate(&mut self, count: usize)
+        ensures { self.new ≡ take count self.old }
+    {
+        self.set.truncate(count);
     }
 
     /// Returns the index of a row, and appends a copy of it first if the set does not contain it.
