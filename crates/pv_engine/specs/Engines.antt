@@ -1,8 +1,12 @@
 -- The data of an engine, and its moves.
-use Rattle.std.specs.Prelude.{◌≡◌, ℕ, ◌<◌, ◌≤◌, true, false, Bool, if◌then◌else◌, List, [], ◌∷◌, ◌++◌, get_or, length, map, bytes_eq, position, slice_get, Some, zip}
+use Rattle.std.specs.Prelude.{◌≡◌, ℕ, ◌<◌, ◌≤◌, false, Bool, IsTrue, List, [], ◌∷◌, ◌++◌, get_or, length, map, bytes_eq, position, slice_get, Some, zip}
 use Rattle.std.specs.Global.{Vec}
 use Rattle.std.specs.List.{AllByRecursion, list_any}
 use Rattle.pv_engine.specs.Plan.{Visited, bound_at, bytes_at, live_at, moving_at, reported_steps, state_at, visited_after_steps, visited_at, with_found_at, witness_at}
+use Rattle.pv_engine.specs.Endings.{ending_keys}
+use Rattle.pv_engine.specs.Found.{rows_of}
+use Rattle.pv_engine.specs.Witnesses.{longer}
+use Rattle.pv_engine.specs.declared.engine.Engine.{Engine}
 use Rattle.pv_engine.specs.declared.found.Visit.{Visit}
 use Rattle.pv_engine.specs.declared.found.Visit.TheVariants.{Known, Full, New}
 use Rattle.pv_model.specs.Machine.{Observer, Bytes, program_of, State}
@@ -30,6 +34,35 @@ moving_of e number = moving_at program_of e.first (bound_at e.visited number) (w
 abbrev pub keys_of : (ℕ → State → Bytes) → State → List ℕ → List (List ℕ) → List Bytes
 keys_of key s bounds witnesses = map (λ p. key p.0 (state_at program_of s p.1)) (zip bounds witnesses)
 
+-- the data of an engine
+abbrev pub data_of : {O F : Type 0} → (ℕ → State → Bytes) → Engine O F → Searching
+data_of key e = record {
+  first = e.machines.checkpoints;
+  visited = record {
+    bounds = e.found.bounds.items;
+    keys = keys_of key e.machines.checkpoints e.found.bounds.items e.found.witnesses;
+    witnesses = e.found.witnesses;
+    reported = e.reported;
+    endings = ending_keys e.tables.stored e.endings;
+    complete = e.complete;
+  };
+}
+
+-- the key of a step from state `number` was written
+abbrev pub HasKey : {O F : Type 0} → Engine O F → ℕ → ℕ → Type 0
+HasKey e number pid = e.step_key.items ≡ step_key e.tables.stored pid (get_or (rows_of e.found) number [])
+
+-- each of the texts was observed before
+abbrev pub AreReported : {O F : Type 0} → Engine O F → List Bytes → Type 0
+AreReported e texts = AllByRecursion (λ t. IsTrue (list_any (bytes_eq t) e.reported)) texts
+
+-- the row after a step from state `number` was written, and these texts were observed of the step
+pub record IsNext {O F : Type 0} (observe : Observer Bytes) (key : ℕ → State → Bytes) (knows : F → Stored → State → Type 0) (e : Engine O F) (number pid : ℕ) (texts : List Bytes) : Type 0 where
+  pub within : number < length e.found.witnesses
+  pub row : IsRowOf e.tables.stored (stepped (state_of (data_of key e) number) pid).after e.next.items
+  pub known : knows e.form e.tables.stored (stepped (state_of (data_of key e) number) pid).after
+  pub texts_are : texts ≡ observe (state_of (data_of key e) number) pid (stepped (state_of (data_of key e) number) pid)
+
 module _ (observe : Observer Bytes) (key : ℕ → State → Bytes) (bound : State → ℕ → ℕ) (limit : ℕ) where
   -- the engine took a step of a process from state `number`, and the bytes that the step writes
   pub record HasMoved (number pid : ℕ) (old new : Searching) : Type 0 where
@@ -53,10 +86,15 @@ IsVisited limit keys k (Known number) = position (bytes_eq k) keys ≡ Some numb
 IsVisited limit keys k Full = (list_any (bytes_eq k) keys ≡ false) × (limit ≤ length keys)
 IsVisited limit keys k New = (list_any (bytes_eq k) keys ≡ false) × (length keys < limit)
 
--- the result of `take`: the state after the step was visited, and its texts are recorded
-pub record HasTaken (observe : Observer Bytes) (key : ℕ → State → Bytes) (bound : State → ℕ → ℕ) (limit number pid : ℕ) (old new : Searching) (found : Visit) : Type 0 where
-  pub moved : HasMoved observe key bound limit number pid old new
-  pub found_is : IsVisited limit old.visited.keys (key (bound (state_of old number) pid) (stepped (state_of old number) pid).after) found
+-- the key of the state after a step of a process from state `number`
+abbrev pub key_after : (ℕ → State → Bytes) → (State → ℕ → ℕ) → Searching → ℕ → ℕ → Bytes
+key_after key bound e number pid = key (bound (state_of e number) pid) (stepped (state_of e number) pid).after
+
+-- the state after a step of a process from state `number` was visited
+pub record HasTaken (key : ℕ → State → Bytes) (bound : State → ℕ → ℕ) (limit : ℕ) (old new : Searching) (number pid : ℕ) (found : Visit) : Type 0 where
+  pub first : new.first ≡ old.first
+  pub visited : record new.visited { reported = old.visited.reported } ≡ with_found_at key limit old.visited (bound (state_of old number) pid) (longer old.visited.witnesses number pid) (stepped (state_of old number) pid).after
+  pub found_is : IsVisited limit old.visited.keys (key_after key bound old number pid) found
 
 -- the result of a search, from the data of the plan
 pub record IsResult (visited : Visited) (states : ℕ) (complete : Bool) (endings : ℕ) (texts : List Bytes) : Type 0 where

@@ -1,13 +1,9 @@
 //! The engine of all searches.
-ghost use Rattle.std.specs.Prelude.{◌≡◌, ◌<◌, length, IfOk, IfSome, OnOk};
-ghost use Rattle.pv_engine.specs.Engines.{HasMoved, HasMovedAll, HasTaken, live_of, state_of, text_of_move, text_of_moves};
+ghost use Rattle.std.specs.Prelude.{◌≡◌, IfOk, OnOk};
 ghost use Rattle.pv_engine.specs.Endings.{endings_with};
-ghost use Rattle.pv_engine.specs.Plan.{first_visited, may_step, reported_from, visited_from};
-ghost use Rattle.pv_model.specs.Machine.{program_of};
+ghost use Rattle.pv_engine.specs.Invariants.{IsRight};
+ghost use Rattle.pv_engine.specs.Plan.{may_step};
 ghost use Rattle.pv_rows.specs.Steps.{owners};
-ghost use Rattle.pv_rows.specs.Texts.{texts_in};
-ghost use Rattle.pv_step_lines.specs.OfSession.Running.{FailsBy, stepped};
-ghost use Rattle.pv_streams.specs.Sinks.{WritesOr};
 
 use crate::first_machine::FirstMachine;
 use crate::form::Form;
@@ -24,7 +20,6 @@ use pv_rows::{CachedStep, CachedSteps, Keys, Rows, Tables, edited_row};
 use pv_step_lines::session::Stop;
 use pv_streams::Sink;
 use std::alloc::{AllocError, Global};
-use std::marker::Model;
 use std::rc::Rc;
 
 /// A search of the states that are reachable from the first state of a machine, with an observer of its steps and a form.
@@ -53,28 +48,7 @@ pub struct Engine<'a, O: Observer + Drop, F: Form + Drop> {
     step_key: Vec<u32>,
     next: Vec<u32>,
     next_key: Vec<u32>,
-}
-
-impl<'a, O: Observer + Drop, F: Form + Drop> Model for Engine<'a, O, F> {
-    ghost use Rattle.pv_engine.specs.Engines.{Searching, keys_of};
-    ghost use Rattle.pv_engine.specs.Endings.{ending_keys};
-    ghost use Rattle.pv_engine.specs.Invariants.{IsRight};
-
-    ghost Value = { Searching };
-
-    ghost view = { λ e. record {
-      first = e.machines.checkpoints;
-      visited = record {
-        bounds = e.found.bounds.items;
-        keys = keys_of F.key e.machines.checkpoints e.found.bounds.items e.found.witnesses;
-        witnesses = e.found.witnesses;
-        reported = e.reported;
-        endings = ending_keys e.tables.stored e.endings;
-        complete = e.complete;
-      };
-    } };
-
-    ghost invariant = { λ e. IsRight O.observe F.words (F.knows e.form) e.machines.checkpoints e.tables.stored e.found e.steps e.reported e.endings };
+    ghost right: { IsRight O.observe F.words (F.knows form) machines.checkpoints tables.stored found steps reported endings },
 }
 
 /// The result of a step from a visited state.
@@ -135,6 +109,14 @@ fn shared(alloc: Global, texts: Vec<Vec<u8>>) -> Result<Rc<Vec<Vec<u8>>>, AllocE
 }
 
 impl<'a, O: Observer + Drop, F: Form + Drop> Engine<'a, O, F> {
+    ghost use Rattle.std.specs.Prelude.{◌<◌, length, IfSome};
+    ghost use Rattle.pv_engine.specs.Engines.{AreReported, HasKey, HasMoved, HasMovedAll, HasTaken, IsNext, IsVisited, data_of, key_after, live_of, state_of, text_of_move, text_of_moves};
+    ghost use Rattle.pv_engine.specs.Plan.{first_visited, reported_from, visited_from};
+    ghost use Rattle.pv_model.specs.Machine.{program_of};
+    ghost use Rattle.pv_rows.specs.Texts.{texts_in};
+    ghost use Rattle.pv_step_lines.specs.OfSession.Running.{FailsBy, stepped};
+    ghost use Rattle.pv_streams.specs.Sinks.{WritesOr};
+
     /// Returns a search that has visited the first state of a machine only.
     ///
     /// # Errors
@@ -146,8 +128,8 @@ impl<'a, O: Observer + Drop, F: Form + Drop> Engine<'a, O, F> {
         form: F,
         first_machine: &'a FirstMachine,
     ) -> Result<Engine<'a, O, F>, StepFault>
-        ensures first { IfOk result (λ engine. engine.first ≡ first_machine.now) }
-        ensures visited { IfOk result (λ engine. engine.visited ≡ first_visited F.key first_machine.now) }
+        ensures first { IfOk result (λ engine. (data_of F.key engine).first ≡ first_machine.now) }
+        ensures visited { IfOk result (λ engine. (data_of F.key engine).visited ≡ first_visited F.key first_machine.now) }
     {
         let state = first_machine.machine().parts();
         let mut form = form;
@@ -185,30 +167,30 @@ impl<'a, O: Observer + Drop, F: Form + Drop> Engine<'a, O, F> {
 
     /// Returns the number of visited states.
     pub fn len(&self) -> u32
-        ensures { result ≡ length self.now.visited.keys }
+        ensures { result ≡ length (data_of F.key self.now).visited.keys }
     {
         self.found.len()
     }
 
     /// Returns whether no state was left out.
     pub fn is_complete(&self) -> bool
-        ensures { result ≡ self.now.visited.complete }
+        ensures { result ≡ (data_of F.key self.now).visited.complete }
     {
         self.complete
     }
 
     /// Returns the number of different trees in which no process is live.
     pub fn endings(&self) -> usize
-        ensures { result ≡ length self.now.visited.endings }
+        ensures { result ≡ length (data_of F.key self.now).visited.endings }
     {
         self.endings.len()
     }
 
     /// Returns the texts observed, each once, the witnesses of the visited states, and whether no state was left out.
     pub fn into_parts(self) -> (Keys, Witnesses, bool)
-        ensures texts { result.0 ≡ self.visited.reported }
-        ensures witnesses { result.1 ≡ self.visited.witnesses }
-        ensures complete { result.2 ≡ self.visited.complete }
+        ensures texts { result.0 ≡ (data_of F.key self).visited.reported }
+        ensures witnesses { result.1 ≡ (data_of F.key self).visited.witnesses }
+        ensures complete { result.2 ≡ (data_of F.key self).visited.complete }
     {
         let Engine {
             reported,
@@ -225,8 +207,8 @@ impl<'a, O: Observer + Drop, F: Form + Drop> Engine<'a, O, F> {
     ///
     /// `NoMemory`, if there is no memory.
     pub fn live(&self, alloc: Global, number: u32) -> Result<Vec<u32>, StepFault>
-        requires { number < length self.now.visited.witnesses }
-        ensures { IfOk result (λ pids. pids.items ≡ live_of self.now number) }
+        requires { number < length self.now.found.witnesses }
+        ensures { IfOk result (λ pids. pids.items ≡ live_of (data_of F.key self.now) number) }
     {
         Ok(live_in(alloc, &self.tables, self.found.row(number))?)
     }
@@ -239,9 +221,9 @@ impl<'a, O: Observer + Drop, F: Form + Drop> Engine<'a, O, F> {
     ///
     /// `NoMemory`, if there is no memory.
     pub fn machine(&mut self, alloc: Global, number: u32) -> Result<Position, StepFault>
-        requires { number < length self.old.visited.witnesses }
-        ensures unchanged { self.new ≡ self.old }
-        ensures at { IfOk result (λ machine. machine ≡ state_of self.old number) }
+        requires { number < length self.old.found.witnesses }
+        ensures unchanged { data_of F.key self.new ≡ data_of F.key self.old }
+        ensures at { IfOk result (λ machine. machine ≡ state_of (data_of F.key self.old) number) }
     {
         self.machines.take(alloc, number, &self.found.witnesses)
     }
@@ -252,9 +234,9 @@ impl<'a, O: Observer + Drop, F: Form + Drop> Engine<'a, O, F> {
     ///
     /// `NoMemory`, if there is no memory.
     pub fn copy(&mut self, alloc: Global, number: u32) -> Result<Position, StepFault>
-        requires { number < length self.old.visited.witnesses }
-        ensures unchanged { self.new ≡ self.old }
-        ensures at { IfOk result (λ machine. machine ≡ state_of self.old number) }
+        requires { number < length self.old.found.witnesses }
+        ensures unchanged { data_of F.key self.new ≡ data_of F.key self.old }
+        ensures at { IfOk result (λ machine. machine ≡ state_of (data_of F.key self.old) number) }
     {
         let machine = self.machine(alloc, number)?;
         let copy = self.machines.copy(alloc, &machine)?;
@@ -264,7 +246,7 @@ impl<'a, O: Observer + Drop, F: Form + Drop> Engine<'a, O, F> {
 
     /// Takes a machine back, to be reused.
     pub fn release(&mut self, machine: Position)
-        ensures { self.new ≡ self.old }
+        ensures { data_of F.key self.new ≡ data_of F.key self.old }
     {
         self.machines.release(machine);
     }
@@ -274,9 +256,10 @@ impl<'a, O: Observer + Drop, F: Form + Drop> Engine<'a, O, F> {
     // Writes the key of a step from state `number`, and the row after the step, if its transition is cached. Returns the
     // texts observed of the step.
     fn follow(&mut self, number: u32, pid: u32) -> Result<Option<Rc<Vec<Vec<u8>>>>, StepFault>
-        requires { number < length self.old.visited.witnesses }
-        ensures unchanged { self.new ≡ self.old }
-        ensures recalled { IfOk result (λ made. IfSome made (λ texts. IsRecalled self.new number pid (texts_in texts.value.items))) }
+        requires { number < length self.old.found.witnesses }
+        ensures unchanged { data_of F.key self.new ≡ data_of F.key self.old }
+        ensures key { OnOk result (HasKey self.new number pid) }
+        ensures recalled { IfOk result (λ made. IfSome made (λ texts. IsNext O.observe F.key F.knows self.new number pid (texts_in texts.value.items) × AreReported self.new (texts_in texts.value.items))) }
     {
         let row = self.found.row(number);
         self.step_key.clear();
@@ -292,9 +275,10 @@ impl<'a, O: Observer + Drop, F: Form + Drop> Engine<'a, O, F> {
     // Makes a step of a process with the machine in state `number`, and writes the row after it. Returns the texts observed
     // of the step.
     fn make(&mut self, alloc: Global, number: u32, pid: u32) -> Result<Vec<Vec<u8>>, StepFault>
-        requires { number < length self.old.visited.witnesses }
-        ensures unchanged { self.new ≡ self.old }
-        ensures made { IfOk result (λ texts. IsNext self.new number pid (texts_in texts.items)) }
+        requires { number < length self.old.found.witnesses }
+        ensures unchanged { data_of F.key self.new ≡ data_of F.key self.old }
+        ensures key { HasKey self.old number pid → HasKey self.new number pid }
+        ensures made { IfOk result (λ texts. IsNext O.observe F.key F.knows self.new number pid (texts_in texts.items)) }
     {
         let before = self.machines.take(alloc, number, &self.found.witnesses)?;
         let mut after = self.machines.copy(alloc, &before)?;
@@ -323,10 +307,12 @@ impl<'a, O: Observer + Drop, F: Form + Drop> Engine<'a, O, F> {
         pid: u32,
         texts: Vec<Vec<u8>>,
     ) -> Result<Rc<Vec<Vec<u8>>>, StepFault>
-        requires within { number < length self.old.visited.witnesses }
-        requires made { IsNext self.old number pid (texts_in texts.items) }
-        requires reported { AllByRecursion (λ t. IsTrue (list_any (bytes_eq t) self.old.visited.reported)) (texts_in texts.items) }
-        ensures { IsUnchangedBut self.old self.new }
+        requires key { HasKey self.old number pid }
+        requires made { IsNext O.observe F.key F.knows self.old number pid (texts_in texts.items) }
+        requires reported { AreReported self.old (texts_in texts.items) }
+        ensures unchanged { data_of F.key self.new ≡ data_of F.key self.old }
+        ensures texts { IfOk result (λ made. texts_in made.value.items ≡ texts_in texts.items) }
+        ensures made { OnOk result (IsNext O.observe F.key F.knows self.new number pid (texts_in texts.items)) }
     {
         let texts = shared(alloc, texts)?;
         let row = self.found.row(number);
@@ -349,8 +335,8 @@ impl<'a, O: Observer + Drop, F: Form + Drop> Engine<'a, O, F> {
         number: u32,
         pid: u32,
     ) -> Result<Visit, StepFault>
-        requires { IsNextRow self.old number pid }
-        ensures { IfOk result (HasVisited F.key F.bound limit self.old self.new number pid) }
+        requires { IsNext O.observe F.key F.knows self.old number pid (O.observe (state_of (data_of F.key self.old) number) pid (stepped (state_of (data_of F.key self.old) number) pid)) }
+        ensures { IfOk result (HasTaken F.key F.bound limit (data_of F.key self.old) (data_of F.key self.new) number pid) }
     {
         let bound = self.form.bound(&self.tables, self.found.row(number), pid);
         self.next_key.clear();
@@ -389,10 +375,10 @@ impl<'a, O: Observer + Drop, F: Form + Drop> Engine<'a, O, F> {
         number: u32,
         pid: u32,
     ) -> Result<Taken, StepFault>
-        requires { number < length self.old.visited.witnesses }
-        ensures first { self.new.first ≡ self.old.first }
-        ensures texts { IfOk result (λ taken. texts_in taken.texts.value.items ≡ O.observe (state_of self.old number) pid (stepped (state_of self.old number) pid)) }
-        ensures found { IfOk result (λ taken. HasTaken F.key F.bound limit self.old self.new number pid taken.found) }
+        requires { number < length self.old.found.witnesses }
+        ensures texts { IfOk result (λ taken. texts_in taken.texts.value.items ≡ O.observe (state_of (data_of F.key self.old) number) pid (stepped (state_of (data_of F.key self.old) number) pid)) }
+        ensures visited { OnOk result (HasMoved O.observe F.key F.bound limit number pid (data_of F.key self.old) (data_of F.key self.new)) }
+        ensures found { IfOk result (λ taken. IsVisited limit (data_of F.key self.old).visited.keys (key_after F.key F.bound (data_of F.key self.old) number pid) taken.found) }
     {
         let texts = match self.follow(number, pid)? {
             Some(texts) => texts,
@@ -418,9 +404,9 @@ impl<'a, O: Observer + Drop, F: Form + Drop> Engine<'a, O, F> {
         pid: u32,
         out: &mut W,
     ) -> Result<(), Stop>
-        requires { number < length self.old.visited.witnesses }
-        ensures visited { OnOk result (HasMoved O.observe F.key F.bound limit number pid self.old self.new) }
-        ensures written { WritesOr W.Sink FailsBy (text_of_move O.observe number pid self.old) out.old out.new result }
+        requires { number < length self.old.found.witnesses }
+        ensures visited { OnOk result (HasMoved O.observe F.key F.bound limit number pid (data_of F.key self.old) (data_of F.key self.new)) }
+        ensures written { WritesOr W.Sink FailsBy (text_of_move O.observe F.key F.bound limit number pid (data_of F.key self.old)) out.old out.new result }
     {
         if self.follow(number, pid)?.is_none() {
             let texts = self.make(alloc, number, pid)?;
@@ -447,9 +433,9 @@ impl<'a, O: Observer + Drop, F: Form + Drop> Engine<'a, O, F> {
         number: u32,
         out: &mut W,
     ) -> Result<(), Stop>
-        requires { number < length self.old.visited.witnesses }
-        ensures visited { OnOk result (HasMovedAll O.observe F.key F.bound limit number self.old self.new) }
-        ensures written { WritesOr W.Sink FailsBy (text_of_moves O.observe F.key F.bound limit number self.old) out.old out.new result }
+        requires { number < length self.old.found.witnesses }
+        ensures visited { OnOk result (HasMovedAll O.observe F.key F.bound limit number (data_of F.key self.old) (data_of F.key self.new)) }
+        ensures written { WritesOr W.Sink FailsBy (text_of_moves O.observe F.key F.bound limit number (data_of F.key self.old)) out.old out.new result }
     {
         let bound = self.found.bound(number);
         let pids = self.live(alloc, number)?;
@@ -476,8 +462,8 @@ impl<'a, O: Observer + Drop, F: Form + Drop> Engine<'a, O, F> {
         progress: &mut P,
         out: &mut W,
     ) -> Result<(), Stop>
-        ensures visited { OnOk result (self.new.visited ≡ visited_from O.observe F.key F.bound limit program_of self.old.first limit 0 self.old.visited) }
-        ensures written { WritesOr W.Sink FailsBy (reported_from O.observe F.key F.bound limit program_of self.old.first limit 0 self.old.visited) out.old out.new result }
+        ensures visited { OnOk result ((data_of F.key self.new).visited ≡ visited_from O.observe F.key F.bound limit program_of (data_of F.key self.old).first limit 0 (data_of F.key self.old).visited) }
+        ensures written { WritesOr W.Sink FailsBy (reported_from O.observe F.key F.bound limit program_of (data_of F.key self.old).first limit 0 (data_of F.key self.old).visited) out.old out.new result }
     {
         for number in 0..limit {
             let found = self.found.len();

@@ -2,7 +2,7 @@
 ghost use Rattle.std.specs.Prelude.{◌≡◌, ◌≤◌, bytes_eq, IfOk, OnOk};
 ghost use Rattle.std.specs.List.{list_any};
 ghost use Rattle.pv_engine.specs.Plan.{all_reported, all_visited, first_visited};
-ghost use Rattle.pv_engine.specs.Engines.{IsResult};
+ghost use Rattle.pv_engine.specs.Engines.{IsResult, data_of};
 ghost use Rattle.pv_engine.specs.Observing.{no_text};
 ghost use Rattle.pv_step_lines.specs.OfSession.Running.{FailsBy};
 ghost use Rattle.pv_streams.specs.Sinks.{WritesOr};
@@ -49,9 +49,9 @@ fn search_all<O: Observer + Drop, F: Form + Drop, W: Sink, P: Progress>(
     progress: &mut P,
     out: &mut W,
 ) -> Result<(), Stop>
-    requires { engine.old.visited ≡ first_visited F.key engine.old.first }
-    ensures visited { OnOk result (engine.new.visited ≡ all_visited O.observe F.key F.bound states engine.old.first) }
-    ensures written { WritesOr W.Sink FailsBy (all_reported O.observe F.key F.bound states engine.old.first) out.old out.new result }
+    requires { (data_of F.key engine.old).visited ≡ first_visited F.key (data_of F.key engine.old).first }
+    ensures visited { OnOk result ((data_of F.key engine.new).visited ≡ all_visited O.observe F.key F.bound states (data_of F.key engine.old).first) }
+    ensures written { WritesOr W.Sink FailsBy (all_reported O.observe F.key F.bound states (data_of F.key engine.old).first) out.old out.new result }
 {
     let end = engine.search(alloc, states, progress, out);
     progress.end();
@@ -107,8 +107,8 @@ pub fn search_states<'a, F: Form + Drop, P: Progress>(
     form: F,
     progress: &mut P,
 ) -> Result<Engine<'a, Unobserved, F>, StepFault>
-    ensures first { IfOk result (λ engine. engine.first ≡ first_machine.now) }
-    ensures visited { IfOk result (λ engine. engine.visited ≡ all_visited no_text F.key F.bound states first_machine.now) }
+    ensures first { IfOk result (λ engine. (data_of F.key engine).first ≡ first_machine.now) }
+    ensures visited { IfOk result (λ engine. (data_of F.key engine).visited ≡ all_visited no_text F.key F.bound states first_machine.now) }
 {
     let mut engine = Engine::new(alloc, Unobserved, form, first_machine)?;
     match search_all(alloc, states, &mut engine, progress, &mut Unheard) {

@@ -25,14 +25,16 @@ pub struct Side<'a, O: Observer + Drop> {
 }
 
 impl<'a, O: Observer + Drop> Model for Side<'a, O> {
+    ghost use Rattle.pv_engine.specs.Engines.{data_of};
+    ghost use Rattle.pv_engine.specs.Forms.{whole_key};
     ghost use Rattle.pv_engine.specs.Sides.{SideStates};
     ghost use Rattle.pv_laws_states.specs.States.{IsValid};
 
     ghost Value = { SideStates };
 
-    ghost view = { λ s. record { first = s.engine.first; keys = s.engine.visited.keys } };
+    ghost view = { λ s. record { first = (data_of whole_key s.engine).first; keys = (data_of whole_key s.engine).visited.keys } };
 
-    ghost invariant = { λ s. IsValid s.engine.first };
+    ghost invariant = { λ s. IsValid (data_of whole_key s.engine).first };
 }
 
 /// The result of a step of a process in a visited state.

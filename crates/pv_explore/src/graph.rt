@@ -2,7 +2,8 @@
 ghost use Rattle.std.specs.Prelude.{◌≡◌, ◌<◌, ◌≤◌, [], Some, codes, length, IfOk, OnOk};
 ghost use Rattle.std.specs.Fmt.{decimal};
 ghost use Rattle.pv_explore.specs.Vertices.{all_steps_at, all_vertices, leads_of, listed_bytes, step_of, vertex_at};
-ghost use Rattle.pv_engine.specs.Engines.{AreSameStates, state_of};
+ghost use Rattle.pv_engine.specs.Engines.{AreSameStates, data_of, state_of};
+ghost use Rattle.pv_engine.specs.Forms.{whole_key};
 ghost use Rattle.pv_engine.specs.Plan.{witness_at};
 ghost use Rattle.pv_model.specs.Answers.Graph.{leads_to_text, unreported};
 ghost use Rattle.pv_model.specs.Machine.{explained_step, is_complete, graph_lines, answer_bytes, answer_line, answer_line_bytes, lines_of, program_of, listing};
@@ -140,9 +141,9 @@ fn write_step<W: Sink>(
     line_buffer: &mut LineBuffer,
     out: &mut W,
 ) -> Result<(), Stop>
-    requires { number < length graph.old.visited.witnesses }
-    ensures unchanged { OnOk result (AreSameStates graph.old graph.new) }
-    ensures written { WritesOr W.Sink FailsBy (answer_bytes (step_of graph.old.visited.keys (state_of graph.old number) pid)) out.old out.new result }
+    requires { number < length graph.old.found.witnesses }
+    ensures unchanged { OnOk result (AreSameStates (data_of whole_key graph.old) (data_of whole_key graph.new)) }
+    ensures written { WritesOr W.Sink FailsBy (answer_bytes (step_of (data_of whole_key graph.old).visited.keys (state_of (data_of whole_key graph.old) number) pid)) out.old out.new result }
 {
     let states = graph.len();
     let taken = graph.take(alloc, states, number, pid)?;
@@ -161,9 +162,9 @@ fn write_steps<W: Sink>(
     line_buffer: &mut LineBuffer,
     out: &mut W,
 ) -> Result<(), Stop>
-    requires { number < length graph.old.visited.witnesses }
-    ensures unchanged { OnOk result (AreSameStates graph.old graph.new) }
-    ensures written { WritesOr W.Sink FailsBy (answer_bytes (all_steps_at graph.old.visited.keys graph.old.first (witness_at graph.old.visited number))) out.old out.new result }
+    requires { number < length graph.old.found.witnesses }
+    ensures unchanged { OnOk result (AreSameStates (data_of whole_key graph.old) (data_of whole_key graph.new)) }
+    ensures written { WritesOr W.Sink FailsBy (answer_bytes (all_steps_at (data_of whole_key graph.old).visited.keys (data_of whole_key graph.old).first (witness_at (data_of whole_key graph.old).visited number))) out.old out.new result }
 {
     let pids = graph.live(alloc, number)?;
     let live = pids.as_slice();
@@ -195,9 +196,9 @@ fn write_vertex<W: Sink>(
     line_buffer: &mut LineBuffer,
     out: &mut W,
 ) -> Result<(), Stop>
-    requires { number < length graph.old.visited.witnesses }
-    ensures unchanged { OnOk result (AreSameStates graph.old graph.new) }
-    ensures written { WritesOr W.Sink FailsBy (answer_bytes (vertex_at graph.old.visited.keys graph.old.first tree number (witness_at graph.old.visited number))) out.old out.new result }
+    requires { number < length graph.old.found.witnesses }
+    ensures unchanged { OnOk result (AreSameStates (data_of whole_key graph.old) (data_of whole_key graph.new)) }
+    ensures written { WritesOr W.Sink FailsBy (answer_bytes (vertex_at (data_of whole_key graph.old).visited.keys (data_of whole_key graph.old).first tree number (witness_at (data_of whole_key graph.old).visited number))) out.old out.new result }
 {
     let machine = graph.copy(alloc, number)?;
     write_number(out, number as usize)?;
@@ -215,8 +216,8 @@ fn write_vertices<W: Sink>(
     tree: bool,
     out: &mut W,
 ) -> Result<(), Stop>
-    requires { length graph.old.visited.witnesses ≤ states }
-    ensures { WritesOr W.Sink FailsBy (answer_bytes (all_vertices graph.old.visited graph.old.first tree)) out.old out.new result }
+    requires { length graph.old.found.witnesses ≤ states }
+    ensures { WritesOr W.Sink FailsBy (answer_bytes (all_vertices (data_of whole_key graph.old).visited (data_of whole_key graph.old).first tree)) out.old out.new result }
 {
     let mut line_buffer = new_line_buffer(alloc)?;
     for number in 0..states {
