@@ -1,18 +1,20 @@
 -- The bytes written of observations are those of the first observations, and those of `explore` its lines.
-use Rattle.std.proofs.Common.{◌≡◌, ◌<◌, ◌∙◌, sym, ap, ap₂, ℕ, zero, suc, ◌+◌, Bool, true, false, not, ◌||◌, cond, if◌then◌else◌, ◌==◌, nat_lt, ◌/◌, ◌%◌, bytes_eq, List, [], ◌∷◌, ◌++◌, length, map, flat_map, replicate, codes, append_assoc, append-nil, refl, arith}
+use Rattle.std.proofs.Common.{◌≡◌, ◌<◌, ◌≤◌, ◌∙◌, sym, ap, ap₂, ℕ, zero, suc, ◌+◌, Bool, true, false, not, ◌||◌, cond, if◌then◌else◌, ◌==◌, nat_lt, ◌/◌, ◌%◌, bytes_eq, List, [], ◌∷◌, ◌++◌, length, map, flat_map, replicate, codes, append_assoc, append-nil, refl, arith}
 use Rattle.std.specs.Prelude.{◌-◌}
 use Rattle.std.specs.Fmt.{decimal, digits, digits_onto, digit_glyph}
 use Rattle.std.specs.List.{list_any}
 use Rattle.std.proofs.lemmas.Bool.Decides.{nat_tests}
 use Rattle.std.proofs.lemmas.Grind.{flat_map-append}
-use Rattle.std.proofs.lemmas.List.{map-append}
+use Rattle.std.proofs.lemmas.List.{length-map, map-append}
 use Rattle.std.proofs.lemmas.List.Folds.{list_any-append}
 use Rattle.pv_step_lines.proofs.CallLines.{trace-bytes}
-use Rattle.pv_engine.specs.Observing.{is_shown, observation_bytes, observed_bytes, trace_text, IsSearched}
-use Rattle.pv_engine.specs.Plan.{Visited, added_to, move_bytes, new_bytes, reported_after, result_lines}
-use Rattle.pv_engine.proofs.Planned.{Finds, items, tree_key-many, written}
-use Rattle.pv_model.specs.Machine.{Found, Move, endings_line, endings, moves_of, move_text, new_ones, states_found, witness_text, AnswerLine, answer_bytes, answer_line_bytes, of_trace, Observation, Observer, observations, observed, Bytes, is_empty, program_of, State, Line, text_line, trace_bytes}
-use Rattle.pv_model.specs.Answers.Explore.{done_line, explore_lines, moves, move_lines, reported_moves}
+use Rattle.pv_engine.specs.Observing.{is_shown, observation_bytes, trace_text}
+use Rattle.pv_engine.specs.Plan.{all_reported, all_visited, tree_key}
+use Rattle.pv_engine.specs.Reporting.{added_to, move_bytes, new_bytes, reported_after}
+use Rattle.pv_engine.specs.Results.{found_with, is_complete_with, key_of, moves_with, observations_from, observations_with}
+use Rattle.pv_engine.proofs.Planned.{items, plan-finds, written}
+use Rattle.pv_model.specs.Machine.{Found, Move, endings, move_text, new_ones, witness_text, answer_bytes, answer_line_bytes, of_trace, Observation, Observer, first_observations, observed, Bytes, is_empty, program_of, State, Line, text_line, trace_bytes}
+use Rattle.pv_model.specs.Answers.Explore.{move_lines}
 use Rattle.pv_model.specs.Trace.{pad_left, pad_right}
 
 -- ---- lists with the same members
@@ -184,45 +186,39 @@ explored had seen have (m ∷ ms) = by (λ h k all. explored h k all ms) (move_t
             (rest (had ++ move_text m ∷ []) (move_text m ∷ seen) (text-added had seen (move_text m) have))
             ∙ sym (flat_map-append answer_line_bytes (move_lines m) (flat_map move_lines (new_ones move_text (move_text m ∷ seen) ms)))
 
-module _ (limit : ℕ) (s : State) where
+module _ (key : ℕ → State → Bytes) (bound : State → ℕ → ℕ) (limit : ℕ) (s : State) where
+  -- ---- the result of a search
+
+  module _ (observe : Observer Bytes) where
+    -- the texts that no earlier step has, each with its step
+    abbrev pub first_with : List (Observation Bytes)
+    first_with = first_observations (λ t. t) (observations_with key bound program_of s observe limit)
+
+    pub bytes-written : 1 ≤ limit → all_reported observe key bound limit s ≡ flat_map observation_bytes first_with
+    bytes-written some =
+        (plan-finds observe key bound program_of limit s some).bytes_are ∙ (written-first [] [] (λ t. refl) (observations_with key bound program_of s observe limit)).0
+
+    pub texts-recorded : 1 ≤ limit → (all_visited observe key bound limit s).reported ≡ map (λ o. o.item) first_with
+    texts-recorded some =
+        (plan-finds observe key bound program_of limit s some).reported_are ∙ (written-first [] [] (λ t. refl) (observations_with key bound program_of s observe limit)).1
+
+    pub states-many : 1 ≤ limit → length (all_visited observe key bound limit s).keys ≡ length (found_with key bound program_of s limit)
+    states-many some = ap length (plan-finds observe key bound program_of limit s some).keeps.keys ∙ length-map (found_with key bound program_of s limit) (key_of key bound program_of s)
+
+    pub endings-many : 1 ≤ limit → length (all_visited observe key bound limit s).endings ≡ length (endings (found_with key bound program_of s limit))
+    endings-many some = ap length (plan-finds observe key bound program_of limit s some).keeps.endings ∙ length-map (endings (found_with key bound program_of s limit)) tree_key
+
+    pub all-complete : 1 ≤ limit → (all_visited observe key bound limit s).complete ≡ is_complete_with key bound program_of s limit
+    all-complete some = (plan-finds observe key bound program_of limit s some).keeps.complete
+
+  -- ---- the texts of `explore`
+
   one-each : (ms : List Move) → flat_map (λ m. map (observed m) (trace_bytes m.stepped.lines ∷ [])) ms ≡ map text_observed ms
   one-each [] = refl
   one-each (m ∷ ms) = ap (λ os. text_observed m ∷ os) (one-each ms)
 
-  pub all-moves : (found : List Found) → flat_map (λ f. flat_map (λ m. map (observed m) (trace_bytes m.stepped.lines ∷ [])) (moves_of program_of f)) found ≡ map text_observed (flat_map (moves_of program_of) found)
+  pub all-moves : (found : List Found) → flat_map (observations_from key bound program_of s trace_text) found ≡ map text_observed (flat_map (moves_with key bound program_of s) found)
   all-moves [] = refl
-  all-moves (f ∷ found) = ap₂ (λ (a b : List (Observation Bytes)). a ++ b) (one-each (moves_of program_of f)) (all-moves found) ∙ sym (map-append text_observed (moves_of program_of f) (flat_map (moves_of program_of) found))
-
-  -- ---- the result of a search
-
-  module _ (observe : Observer Bytes) where
-    pub bytes-observed : written [] (observations observe program_of limit s) ≡ observed_bytes observe limit s
-    unfolding observed_bytes
-    bytes-observed = (written-first [] [] (λ t. refl) (observations observe program_of limit s)).0
-
-    pub is-searched : (bytes : Bytes) (visited : Visited) → Finds observe program_of limit s bytes visited → (states : ℕ) (complete : Bool) (ends : ℕ) (texts : List Bytes) → states ≡ length visited.keys → complete ≡ visited.complete
-        → ends ≡ length visited.endings → texts ≡ visited.reported → IsSearched observe limit s states complete ends texts
-    is-searched bytes visited it states complete ends texts states_are complete_is ends_are texts_are = record {
-      states_are = states_are ∙ (tree_key-many limit (states_found program_of limit s) (moves program_of limit s) visited it.keeps).0;
-      complete_is = complete_is ∙ it.keeps.complete;
-      endings_are = ends_are ∙ (tree_key-many limit (states_found program_of limit s) (moves program_of limit s) visited it.keeps).1;
-      texts_are = texts_are ∙ it.reported_are ∙ (written-first [] [] (λ t. refl) (observations observe program_of limit s)).1;
-    }
-
-  -- the bytes of the trace lines and of the last lines are those of `explore`
-  abbrev pub last_lines : List AnswerLine
-  last_lines = done_line program_of limit s ∷ endings_line (length (endings (states_found program_of limit s))) ∷ []
-
-  pub explore-bytes : observed_bytes trace_text limit s ++ answer_bytes last_lines ≡ answer_bytes (explore_lines program_of limit s)
-  unfolding explore_lines
-  explore-bytes =
-      let ms : List Move = moves program_of limit s in
-      ap (λ bs. bs ++ answer_bytes last_lines) (sym (bytes-observed trace_text) ∙ ap (written []) (all-moves (states_found program_of limit s)) ∙ explored [] ([] ∷ []) empty ms)
-      ∙ sym (flat_map-append answer_line_bytes (flat_map move_lines (reported_moves ms)) last_lines)
-    where
-      empty : HaveEmpty [] ([] ∷ [])
-      empty [] = refl
-      empty (b ∷ bs) = refl
-
-  pub last-bytes : (states : ℕ) (complete : Bool) (ends : ℕ) (texts : List Bytes) → IsSearched trace_text limit s states complete ends texts → answer_bytes (result_lines states complete ends) ≡ answer_bytes last_lines
-  last-bytes states complete ends texts it = λ i. answer_bytes (result_lines (it.states_are i) (it.complete_is i) (it.endings_are i))
+  all-moves (f ∷ found) =
+      ap₂ (λ (a b : List (Observation Bytes)). a ++ b) (one-each (moves_with key bound program_of s f)) (all-moves found)
+      ∙ sym (map-append text_observed (moves_with key bound program_of s f) (flat_map (moves_with key bound program_of s) found))

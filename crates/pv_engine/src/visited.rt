@@ -1,6 +1,6 @@
 //! The states that a search visited, one at a time.
 ghost use Rattle.std.specs.Prelude.{◌≡◌, ◌≤◌, length, option_map, slice_get, IfOk};
-ghost use Rattle.pv_engine.specs.Visiting.{found_of, visited_states, visits_of};
+ghost use Rattle.pv_engine.specs.Visiting.{found_of, visits_of, visits_with};
 
 use crate::checkpoints::Checkpoints;
 use crate::first_machine::FirstMachine;
@@ -72,7 +72,8 @@ impl<'a> SearchedStates<'a> {
         form: F,
         progress: &mut P,
     ) -> Result<SearchedStates<'a>, StepFault>
-        ensures { IfOk result (λ visits. visits ≡ visits_by F.key F.bound states first_machine.now) }
+        requires { 1 ≤ states }
+        ensures { IfOk result (λ visits. visits ≡ visits_with F.key F.bound states first_machine.now) }
     {
         let engine = search_states(alloc, first_machine, states, form, progress)?;
         let (_, witnesses, complete) = engine.into_parts();
