@@ -1,24 +1,28 @@
 -- The forms of a search, and the form that visits each state.
-use Rattle.std.specs.Prelude.{◌≡◌, ◌↔◌, ℕ, List}
+use Rattle.std.specs.Prelude.{◌≡◌, ℕ, List, map}
 use Rattle.std.specs.List.{AllByRecursion}
+use Rattle.std.proofs.Common.{◌∙◌, sym, ap}
 use Rattle.pv_engine.specs.Plan.{state_key}
 use Rattle.pv_engine.specs.declared.form.Whole.{Whole}
-use Rattle.pv_model.specs.Machine.{Bytes, State}
-use Rattle.pv_rows.specs.OfStateEncoding.Encoded.{encoded}
-use Rattle.pv_rows.specs.Rows.{state_row}
+use Rattle.pv_model.specs.Machine.{state_numbers, Bytes, State}
+use Rattle.pv_laws_steps.proofs.OfLawsAnswers.StateDecoding.{same-state_numbers}
+use Rattle.pv_rows.proofs.OfStateEncoding.Apart.{packed-apart}
+use Rattle.pv_rows.proofs.Seeing.{groups-encoded, same-groups}
+use Rattle.pv_rows.specs.OfStateEncoding.Encoded.{Encoded, encoded}
 use Rattle.pv_rows.specs.Tables.{Stored, IsStored}
 
--- a state with what its words stand for: all of it is stored
+-- all groups of a state are stored
 abbrev pub IsKept : Stored → State → Type 0
 IsKept t s = AllByRecursion (IsStored t) (encoded s)
 
--- these are the words of the key of a state
-pub record IsKeyOf (words : Stored → ℕ → State → List ℕ) (t : Stored) (bound : ℕ) (s : State) (key : List ℕ) : Type 0 where
-  pub is : key ≡ words t bound s
+-- the parts of groups
+abbrev pub parts_of : List Encoded → List (List Bytes)
+parts_of cs = map (λ c. c.group) cs
 
--- over tables that have all of both states, the words are equal exactly if the keys are
-abbrev pub AreApart : (ℕ → State → Bytes) → (Stored → ℕ → State → List ℕ) → Type 0
-AreApart key words = (t : Stored) (b c : ℕ) (s u : State) → IsKept t s → IsKept t u → (words t b s ≡ words t c u) ↔ (key b s ≡ key c u)
+-- the groups of two keys are equal exactly if the keys are
+pub record AreApart (key : ℕ → State → Bytes) (groups : ℕ → State → List Encoded) : Type 0 where
+  pub same_key : (b c : ℕ) (s u : State) → parts_of (groups b s) ≡ parts_of (groups c u) → key b s ≡ key c u
+  pub same_groups : (b c : ℕ) (s u : State) → key b s ≡ key c u → groups b s ≡ groups c u
 
 -- ---- the form that visits each state
 
@@ -31,5 +35,11 @@ whole_bound s pid = 0
 abbrev pub whole_knows : Whole → Stored → State → Type 0
 whole_knows form t s = IsKept t s
 
-abbrev pub whole_words : Stored → ℕ → State → List ℕ
-whole_words t bound s = state_row t s
+abbrev pub whole_groups : ℕ → State → List Encoded
+whole_groups bound s = encoded s
+
+pub whole_apart : AreApart whole_key whole_groups
+whole_apart = record {
+  same_key = λ b c s u same. ap state_key (same-groups s u (sym (groups-encoded s) ∙ same ∙ groups-encoded u));
+  same_groups = λ b c s u same. ap encoded (same-state_numbers s u (packed-apart (state_numbers s) (state_numbers u) same));
+}

@@ -7,9 +7,9 @@ use Rattle.pv_engine.specs.declared.found.FoundStates.{FoundStates}
 use Rattle.pv_laws_states.specs.States.{IsValid}
 use Rattle.pv_model.specs.Machine.{Observer, Bytes, program_of, State, Tree}
 use Rattle.pv_rows.specs.Cached.{AreSteps}
-use Rattle.pv_rows.specs.Rows.{IsRowOf}
+use Rattle.pv_rows.specs.Rows.{AreWordsOf, IsRowOf}
 use Rattle.pv_rows.specs.Steps.{IsCached, texts_of}
-use Rattle.pv_rows.specs.OfStateEncoding.Encoded.{plain, tree_group}
+use Rattle.pv_rows.specs.OfStateEncoding.Encoded.{Encoded, plain, tree_group}
 use Rattle.pv_rows.specs.Tables.{Stored, IsStored, word_of}
 use Rattle.pv_rows.specs.declared.steps.CachedStep.{CachedStep}
 use Rattle.pv_rows.specs.declared.steps.CachedSteps.{CachedSteps}
@@ -24,13 +24,15 @@ pub record IsEnding (t : Stored) (row : List ℕ) : Type 0 where
   pub row_is : row ≡ word_of t (plain (tree_group tree)) ∷ []
   pub stored : IsStored t (plain (tree_group tree))
 
-module _ (observe : Observer Bytes) (words : Stored → ℕ → State → List ℕ) (knows : Stored → State → Type 0) (first : State) (t : Stored) where
+module _ (observe : Observer Bytes) (groups : ℕ → State → List Encoded) (knows : Stored → State → Type 0) (first : State) (t : Stored) where
   -- the row and the key of each visited state are those of the end of its witness
   pub record IsFoundAt (found : FoundStates) (number : ℕ) : Type 0 where
     pub row : List ℕ
     pub row_at : slice_get (rows_of found) number ≡ Some row
     pub row_is : IsRowOf t (state_in first found number) row
-    pub key_at : slice_get found.keys number ≡ Some (words t (slice_index found.bounds.items number) (state_in first found number))
+    pub key : List ℕ
+    pub key_at : slice_get found.keys number ≡ Some key
+    pub key_is : AreWordsOf t (groups (slice_index found.bounds.items number) (state_in first found number)) key
     pub known : knows t (state_in first found number)
 
   -- everything that an engine stores is right

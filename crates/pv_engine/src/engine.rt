@@ -48,7 +48,7 @@ pub struct Engine<'a, O: Observer + Drop, F: Form + Drop> {
     step_key: Vec<u32>,
     next: Vec<u32>,
     next_key: Vec<u32>,
-    ghost right: { IsRight O.observe F.words (F.knows form) machines.checkpoints tables.stored found steps reported endings },
+    ghost right: { IsRight O.observe F.groups (F.knows form) machines.checkpoints tables.stored found steps reported endings },
 }
 
 /// The result of a step from a visited state.

@@ -1,8 +1,8 @@
 //! Forms of a search: which visited states it identifies, and which process must make the next step.
 ghost use Rattle.std.specs.Prelude.{◌≡◌, [], OnOk};
-ghost use Rattle.pv_engine.specs.Forms.{IsLearned};
+ghost use Rattle.pv_engine.specs.Forms.{AreApart};
 ghost use Rattle.pv_rows.specs.Tables.{Grew};
-ghost use Rattle.pv_rows.specs.Rows.{IsRowOf};
+ghost use Rattle.pv_rows.specs.Rows.{AreWordsOf, IsRowOf};
 
 use pv_model::StepFault;
 use pv_rows::Tables;
@@ -15,6 +15,7 @@ pub trait Form {
     ghost use Rattle.std.specs.Prelude.{ℕ, List};
     ghost use Rattle.pv_model.specs.Bytes.{Bytes};
     ghost use Rattle.pv_model.specs.State.{State};
+    ghost use Rattle.pv_rows.specs.OfStateEncoding.Encoded.{Encoded};
     ghost use Rattle.pv_rows.specs.Tables.{Stored};
 
     /// The bytes that identify a visited state, given the process that must make the next step, or 0.
@@ -26,8 +27,8 @@ pub trait Form {
     /// Whether what the form stores of the groups of a state is stored.
     ghost knows: { Self → Stored → State → Type 0 };
 
-    /// The words of the key of a state, given the process that must make the next step, or 0.
-    ghost words: { Stored → ℕ → State → List ℕ };
+    /// The groups whose words are the key of a state, given the process that must make the next step, or 0.
+    ghost groups: { ℕ → State → List Encoded };
 
     /// Stores what the form needs of the groups of a row. `state` is the state of the row.
     ///
@@ -67,10 +68,10 @@ pub trait Form {
         requires empty { key.old.items ≡ [] }
         ensures grew { Grew tables.old.stored tables.new.stored }
         ensures known { (s : State) → knows self.old tables.old.stored s → knows self.new tables.new.stored s }
-        ensures key { (s : State) → IsRowOf tables.old.stored s row.now → knows self.old tables.old.stored s → OnOk result (IsKeyOf Self.words tables.new.stored bound s key.new.items) };
+        ensures key { (s : State) → IsRowOf tables.old.stored s row.now → knows self.old tables.old.stored s → OnOk result (AreWordsOf tables.new.stored (groups bound s) key.new.items) };
 
-    /// Two keys are equal exactly if the words are.
-    ghost apart: { AreApart key words };
+    /// The groups of two keys are equal exactly if the keys are.
+    ghost apart: { AreApart key groups };
 }
 
 /// The form of the search that visits each state: the key of a state is its row.
@@ -78,7 +79,7 @@ pub trait Form {
 pub struct Whole;
 
 impl Form for Whole {
-    ghost use Rattle.pv_engine.specs.Forms.{whole_key, whole_bound, whole_knows, whole_words, whole_apart};
+    ghost use Rattle.pv_engine.specs.Forms.{whole_key, whole_bound, whole_knows, whole_groups, whole_apart};
 
     ghost key = { whole_key };
 
@@ -86,7 +87,7 @@ impl Form for Whole {
 
     ghost knows = { whole_knows };
 
-    ghost words = { whole_words };
+    ghost groups = { whole_groups };
 
     ghost apart = { whole_apart };
 

@@ -6,12 +6,12 @@ use Rattle.pv_step_lines.specs.Parts.{source_of}
 use Rattle.pv_step_lines.specs.declared.making.MadeStep.{MadeStep}
 use Rattle.pv_step_lines.proofs.Made.{left-by}
 use Rattle.pv_step_lines.proofs.MadeLines.{made-is}
-use Rattle.pv_explore.specs.Plan.{state_key}
+use Rattle.pv_engine.specs.Plan.{state_key}
 use Rattle.pv_explore.specs.Vertices.{step_of}
 use Rattle.pv_model.specs.Machine.{explained_step, answer_bytes, answer_line, answer_line_bytes, Bytes, program_of, State}
 use Rattle.pv_model.specs.Answers.Graph.{leads_to_text, unreported}
-use Rattle.pv_step_cache.specs.OfStateEncoding.Groups.{joined, state_groups}
-use Rattle.pv_step_cache.proofs.OfStateEncoding.Grouping.{state-joined}
+use Rattle.pv_explore.specs.OfStateEncoding.Groups.{joined, state_groups}
+use Rattle.pv_state_encoding.proofs.Grouping.{state-joined}
 
 -- the lines omit the origins of entries
 unreported-is : (s : State) (pid : ℕ) → explained_step program_of (source_of []) s pid ≡ explained_step program_of unreported s pid

@@ -1,17 +1,19 @@
--- The form of the reduced search: its key, and the words of the key from the row of a state.
-use Rattle.std.specs.Prelude.{◌≡◌, ℕ, ◌∷◌, [], ◌++◌, List, flat_map, get_or, length, map, Option, None, Some}
+-- The form of the reduced search: its key, and the groups of the key.
+use Rattle.std.specs.Prelude.{◌≡◌, ℕ, ◌∷◌, [], ◌++◌, List, flat_map, map, slice_get, Some}
+use Rattle.std.specs.Global.{Vec}
 use Rattle.std.specs.List.{AllByRecursion}
 use Rattle.pv_engine.specs.Forms.{IsKept}
 use Rattle.pv_laws_classes.specs.Canonical.{index_in}
 use Rattle.pv_laws_classes.specs.Liveness.{cleared_record, is_live_below}
 use Rattle.pv_laws_classes.specs.Reduced.{bound_by, representative}
 use Rattle.pv_laws_classes.specs.Renumbering.{renumbered_record}
-use Rattle.pv_model.specs.Machine.{file_numbers, option_numbers, at_number, state_numbers, Bytes, Process, ProcessRecord, live, ended_record, State}
+use Rattle.pv_laws_classes.specs.Together.{is_inside_next}
+use Rattle.pv_model.specs.Machine.{file_numbers, option_numbers, Numbered, at_number, state_numbers, Bytes, OpenFile, Process, ProcessRecord, live, ended_record, State}
 use Rattle.pv_reduced.specs.Keys.{files_of, with_references}
 use Rattle.pv_reduced.specs.declared.form.Reduced.{Reduced}
 use Rattle.pv_reduced.specs.declared.shapes.Shape.{Shape}
-use Rattle.pv_rows.specs.Tables.{Stored, IsPlainStored, number_in, plain_row, word_of}
-use Rattle.pv_state_encoding.specs.Encoded.{counts_group, encoded_record, plain, tree_group}
+use Rattle.pv_rows.specs.Tables.{Stored, IsAmong, IsPlainStored, number_in, part_number, plain_row, word_of}
+use Rattle.pv_state_encoding.specs.Encoded.{Encoded, counts_group, encoded_record, files_group, plain, tree_group}
 use Rattle.pv_state_encoding.specs.Groups.{record_parts}
 use Rattle.pv_state_encoding.specs.Packed.{packed_all}
 
@@ -47,31 +49,57 @@ all_files s = flat_map (λ r. files_of_record r.1) s.processes
 abbrev pub order_of : State → List ℕ
 order_of s = with_references [] (all_files s)
 
--- ---- the words of the key
+-- ---- the groups of the key
+
+-- the bound and the indices of the open files in their order, and the open files in this order
+abbrev pub indices_group : ℕ → State → List Bytes
+indices_group bound s = packed_all (bound ∷ map (index_in (order_of s)) (all_files s)) ∷ []
+
+abbrev pub entries_group : State → List Bytes
+entries_group s = map (λ n. packed_all (option_numbers file_numbers (at_number s.files n))) (order_of s)
+
+-- the counts, the shapes of the processes, the open files, and the tree
+abbrev pub reduced_groups : ℕ → State → List Encoded
+reduced_groups bound s =
+    plain (counts_group s) ∷ (map (λ r. plain (shape_parts r)) s.processes
+    ++ plain (indices_group bound s) ∷ plain (entries_group s) ∷ plain (tree_group s.tree) ∷ [])
+
+-- ---- what is stored
 
 module _ (t : Stored) where
-  abbrev pub plain_word : List Bytes → ℕ
-  plain_word g = number_in t.groups (plain_row t g)
-
-  -- the word of a process: that of its shape if it is live, and otherwise that of its group
-  abbrev pub process_word : ℕ × ProcessRecord → ℕ
-  process_word (pid, live p) = plain_word (shape_parts (pid, live p))
-  process_word (pid, ended_record parent status) = word_of t (encoded_record (pid, ended_record parent status))
-
-  -- the bound and the indices of the open files in their order, and the open files in this order
-  abbrev pub indices_group : ℕ → State → List Bytes
-  indices_group bound s = packed_all (bound ∷ map (index_in (order_of s)) (all_files s)) ∷ []
-
-  abbrev pub entries_group : State → List Bytes
-  entries_group s = map (λ n. packed_all (option_numbers file_numbers (at_number s.files n))) (order_of s)
-
-  abbrev pub reduced_words : ℕ → State → List ℕ
-  reduced_words bound s =
-      word_of t (plain (counts_group s)) ∷ (map process_word s.processes
-      ++ plain_word (indices_group bound s) ∷ plain_word (entries_group s) ∷ word_of t (plain (tree_group s.tree)) ∷ [])
-
   -- the shape of a live process is stored
   pub record IsShapeOf (pid : ℕ) (p : Process) (shape : Shape) : Type 0 where
-    pub word_is : shape.word ≡ plain_word (shape_parts (pid, live p))
+    pub word_is : shape.word ≡ number_in t.groups (plain_row t (shape_parts (pid, live p)))
     pub stored : IsPlainStored t (shape_parts (pid, live p))
     pub files_are : shape.files.items ≡ own_files p
+    pub on_registers_is : shape.on_registers ≡ is_inside_next (Some p)
+
+  -- the shape of a live process is known
+  pub record HasShape (form : Reduced) (pid : ℕ) (p : Process) : Type 0 where
+    pub shape : Shape
+    pub at : slice_get form.shapes.items (word_of t (encoded_record (pid, live p))) ≡ Some (Some shape)
+    pub is : IsShapeOf pid p shape
+
+  abbrev pub HasShapeOf : Reduced → ℕ × ProcessRecord → Type 0
+  HasShapeOf form (pid, live p) = HasShape form pid p
+  HasShapeOf form (pid, ended_record parent status) = Unit {0}
+
+  -- the numbers of the parts of open files
+  pub record AreEntriesOf (files : Numbered OpenFile) (numbers : List ℕ) : Type 0 where
+    pub are : numbers ≡ map (λ o. part_number t (packed_all (option_numbers file_numbers o))) files
+    pub stored : AllByRecursion (λ o. IsAmong t.parts (packed_all (option_numbers file_numbers o))) files
+
+  -- the numbers of the parts of the open files of a state are known
+  pub record HasEntries (form : Reduced) (s : State) : Type 0 where
+    pub entries : Vec ℕ
+    pub at : slice_get form.entries.items (word_of t (plain (files_group s))) ≡ Some (Some entries)
+    pub are : AreEntriesOf s.files entries.items
+
+-- what the form stores of the groups of a state is known
+pub record KnowsReduced (form : Reduced) (t : Stored) (s : State) : Type 0 where
+  pub kept : IsKept t s
+  pub shapes : AllByRecursion (HasShapeOf t form) s.processes
+  pub entries : HasEntries t form s
+
+abbrev pub reduced_knows : Reduced → Stored → State → Type 0
+reduced_knows form t s = KnowsReduced form t s

@@ -162,7 +162,7 @@ impl Reduced {
 }
 
 impl Form for Reduced {
-    ghost use Rattle.pv_reduced.specs.Forms.{reduced_key, reduced_bound, reduced_knows, reduced_words, reduced_apart};
+    ghost use Rattle.pv_reduced.specs.Forms.{reduced_key, reduced_bound, reduced_knows, reduced_groups, reduced_apart};
 
     ghost key = { reduced_key };
 
@@ -170,7 +170,7 @@ impl Form for Reduced {
 
     ghost knows = { reduced_knows };
 
-    ghost words = { reduced_words };
+    ghost groups = { reduced_groups };
 
     ghost apart = { reduced_apart };
 

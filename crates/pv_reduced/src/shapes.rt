@@ -196,7 +196,7 @@ pub(crate) struct Shape {
 
 // Returns whether the next step of a process is on registers.
 fn is_on_registers(processes: &Processes, pid: u32) -> bool
-    ensures { result ≡ runs_on_registers (process_in processes.now pid) }
+    ensures { result ≡ is_inside_next (process_in processes.now pid) }
 {
     let mut texts = CallTexts::new();
     matches!(processes.fetch(pid, &mut texts), Fetched::Register)
