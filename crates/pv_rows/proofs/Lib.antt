@@ -2,7 +2,8 @@
 -- a state with outside views are what a step depends on), Apart (two rows are equal exactly if the states are; rows when
 -- more is stored), Words (what the word of a stored group says of it), Afters (the edits determine the state after a
 -- step), Again (a cached transition is valid for every step with its key),
--- Compared (the words after a step, from those before it).
+-- Programs (a step that is no execve(2) leaves its process its program), Compared (the words after a step, from those
+-- before it).
 pub mod Numbers
 pub mod KeyLists
 pub mod Seeing
@@ -10,6 +11,7 @@ pub mod Apart
 pub mod Words
 pub mod Afters
 pub mod Again
+pub mod Programs
 pub mod Compared
 pub use Rattle.pv_state_encoding.proofs.OfAnswers
 pub use Rattle.pv_laws_steps.proofs.OfLawsAnswers
