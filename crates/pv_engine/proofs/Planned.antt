@@ -216,7 +216,7 @@ module _ (key : ℕ → State → Bytes) (bound : State → ℕ → ℕ) (progra
 
   pub record Keeps (found : List Found) (made : List Move) (visited : Visited) : Type 0 where
     pub bounds : visited.bounds ≡ map (bound_of key bound program_of s) found
-    pub keys : visited.keys ≡ map key_of key bound program_of s found
+    pub keys : visited.keys ≡ map (key_of key bound program_of s) found
     pub witnesses : visited.witnesses ≡ map witness_of_found found
     pub endings : visited.endings ≡ map tree_key (endings found)
     pub complete : visited.complete ≡ list_all (λ m. is_known_with key bound program_of s m found) made
