@@ -1,10 +1,11 @@
 -- The forms of a search, and the form that visits each state.
-use Rattle.std.specs.Prelude.{◌≡◌, ℕ, List, map}
+use Rattle.std.specs.Prelude.{◌≡◌, ◌⊎◌, ℕ, List, map, Contains}
 use Rattle.std.specs.List.{AllByRecursion}
 use Rattle.std.proofs.Common.{◌∙◌, sym, ap}
 use Rattle.pv_engine.specs.Plan.{state_key}
 use Rattle.pv_engine.specs.declared.form.Whole.{Whole}
 use Rattle.pv_model.specs.Machine.{state_numbers, Bytes, State}
+use Rattle.pv_laws_states.specs.States.{IsValid}
 use Rattle.pv_laws_steps.proofs.OfLawsAnswers.StateDecoding.{same-state_numbers}
 use Rattle.pv_rows.proofs.OfStateEncoding.Apart.{packed-apart}
 use Rattle.pv_rows.proofs.Seeing.{groups-encoded, same-groups}
@@ -19,10 +20,19 @@ IsKept t s = AllByRecursion (IsStored t) (encoded s)
 abbrev pub parts_of : List Encoded → List (List Bytes)
 parts_of cs = map (λ c. c.group) cs
 
--- the groups of two keys are equal exactly if the keys are
+-- the groups of two keys of valid states are equal exactly if the keys are
 pub record AreApart (key : ℕ → State → Bytes) (groups : ℕ → State → List Encoded) : Type 0 where
-  pub same_key : (b c : ℕ) (s u : State) → parts_of (groups b s) ≡ parts_of (groups c u) → key b s ≡ key c u
-  pub same_groups : (b c : ℕ) (s u : State) → key b s ≡ key c u → groups b s ≡ groups c u
+  pub same_key : (b c : ℕ) (s u : State) → IsValid s → IsValid u → parts_of (groups b s) ≡ parts_of (groups c u) → key b s ≡ key c u
+  pub same_groups : (b c : ℕ) (s u : State) → IsValid s → IsValid u → key b s ≡ key c u → groups b s ≡ groups c u
+
+-- each process of a state is one of two others, and the open files are those of the second
+pub record IsMixedOf (s u v : State) : Type 0 where
+  pub processes : AllByRecursion (λ r. Contains s.processes r ⊎ Contains u.processes r) v.processes
+  pub files : v.files ≡ u.files
+
+-- a form that knows two states knows each state that is mixed of these
+abbrev pub AreKnownTogether : {F : Type 0} → (F → Stored → State → Type 0) → Type 0
+AreKnownTogether {F} knows = (form : F) (t : Stored) (s u v : State) → knows form t s → knows form t u → IsKept t v → IsMixedOf s u v → knows form t v
 
 -- ---- the form that visits each state
 
@@ -40,6 +50,9 @@ whole_groups bound s = encoded s
 
 pub whole_apart : AreApart whole_key whole_groups
 whole_apart = record {
-  same_key = λ b c s u same. ap state_key (same-groups s u (sym (groups-encoded s) ∙ same ∙ groups-encoded u));
-  same_groups = λ b c s u same. ap encoded (same-state_numbers s u (packed-apart (state_numbers s) (state_numbers u) same));
+  same_key = λ b c s u whole whole_u same. ap state_key (same-groups s u (sym (groups-encoded s) ∙ same ∙ groups-encoded u));
+  same_groups = λ b c s u whole whole_u same. ap encoded (same-state_numbers s u (packed-apart (state_numbers s) (state_numbers u) same));
 }
+
+pub whole_together : AreKnownTogether whole_knows
+whole_together form t s u v knows_s knows_u kept mixed = kept

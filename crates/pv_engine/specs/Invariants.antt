@@ -5,7 +5,7 @@ use Rattle.pv_engine.specs.Found.{rows_of}
 use Rattle.pv_engine.specs.Plan.{state_at}
 use Rattle.pv_engine.specs.declared.found.FoundStates.{FoundStates}
 use Rattle.pv_laws_states.specs.States.{IsValid}
-use Rattle.pv_model.specs.Machine.{Observer, Bytes, program_of, State, Tree}
+use Rattle.pv_model.specs.Machine.{Observer, Bytes, program_of, State, step, Tree}
 use Rattle.pv_rows.specs.Cached.{AreSteps}
 use Rattle.pv_rows.specs.Rows.{AreWordsOf, IsRowOf}
 use Rattle.pv_rows.specs.Steps.{IsCached, texts_of}
@@ -44,5 +44,6 @@ module _ (observe : Observer Bytes) (groups : ℕ → State → List Encoded) (k
     pub keys : length found.keys ≡ length found.witnesses
     pub few : length found.witnesses < 2 ^ 32
     pub steps_are : AreSteps observe t steps
+    pub steps_known : (key : List ℕ) (it : CachedStep) (is : IsCached steps key it) → knows t (step program_of (steps_are key it is).state (steps_are key it is).pid).after
     pub texts : (key : List ℕ) (it : CachedStep) → IsCached steps key it → AllByRecursion (λ text. IsTrue (list_any (bytes_eq text) reported)) (texts_of it)
     pub endings_are : AllByRecursion (IsEnding t) endings

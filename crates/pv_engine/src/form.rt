@@ -1,6 +1,6 @@
 //! Forms of a search: which visited states it identifies, and which process must make the next step.
 ghost use Rattle.std.specs.Prelude.{◌≡◌, [], OnOk};
-ghost use Rattle.pv_engine.specs.Forms.{AreApart};
+ghost use Rattle.pv_engine.specs.Forms.{AreApart, AreKnownTogether};
 ghost use Rattle.pv_rows.specs.Tables.{Grew};
 ghost use Rattle.pv_rows.specs.Rows.{AreWordsOf, IsRowOf};
 
@@ -72,6 +72,9 @@ pub trait Form {
 
     /// The groups of two keys are equal exactly if the keys are.
     ghost apart: { AreApart key groups };
+
+    /// The state after a cached step is known if the state before it is, and that after the step that was made.
+    ghost together: { AreKnownTogether knows };
 }
 
 /// The form of the search that visits each state: the key of a state is its row.
@@ -79,7 +82,7 @@ pub trait Form {
 pub struct Whole;
 
 impl Form for Whole {
-    ghost use Rattle.pv_engine.specs.Forms.{whole_key, whole_bound, whole_knows, whole_groups, whole_apart};
+    ghost use Rattle.pv_engine.specs.Forms.{whole_key, whole_bound, whole_knows, whole_groups, whole_apart, whole_together};
 
     ghost key = { whole_key };
 
@@ -90,6 +93,8 @@ impl Form for Whole {
     ghost groups = { whole_groups };
 
     ghost apart = { whole_apart };
+
+    ghost together = { whole_together };
 
     fn learn(
         &mut self,

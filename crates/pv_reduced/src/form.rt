@@ -162,7 +162,7 @@ impl Reduced {
 }
 
 impl Form for Reduced {
-    ghost use Rattle.pv_reduced.specs.Forms.{reduced_key, reduced_bound, reduced_knows, reduced_groups, reduced_apart};
+    ghost use Rattle.pv_reduced.specs.Forms.{reduced_key, reduced_bound, reduced_knows, reduced_groups, reduced_apart, reduced_together};
 
     ghost key = { reduced_key };
 
@@ -173,6 +173,8 @@ impl Form for Reduced {
     ghost groups = { reduced_groups };
 
     ghost apart = { reduced_apart };
+
+    ghost together = { reduced_together };
 
     fn learn(
         &mut self,
