@@ -1,5 +1,5 @@
 -- The form of the reduced search: its key, and the groups of the key.
-use Rattle.std.specs.Prelude.{◌≡◌, ℕ, ◌∷◌, [], ◌++◌, List, flat_map, map, slice_get, Some}
+use Rattle.std.specs.Prelude.{◌≡◌, ℕ, ◌∷◌, [], ◌++◌, List, flat_map, map, slice_get, Contains, Option, Some, option_and_then}
 use Rattle.std.specs.Global.{Vec}
 use Rattle.std.specs.List.{AllByRecursion}
 use Rattle.pv_engine.specs.Forms.{IsKept}
@@ -13,7 +13,7 @@ use Rattle.pv_reduced.specs.Keys.{files_of, with_references}
 use Rattle.pv_reduced.specs.declared.form.Reduced.{Reduced}
 use Rattle.pv_reduced.specs.declared.shapes.Shape.{Shape}
 use Rattle.pv_rows.specs.Tables.{Stored, IsAmong, IsPlainStored, number_in, part_number, plain_row, word_of}
-use Rattle.pv_state_encoding.specs.Encoded.{Encoded, counts_group, encoded_record, files_group, plain, tree_group}
+use Rattle.pv_state_encoding.specs.Encoded.{Encoded, counts_group, encoded, encoded_record, files_group, plain, tree_group}
 use Rattle.pv_state_encoding.specs.Groups.{record_parts}
 use Rattle.pv_state_encoding.specs.Packed.{packed_all}
 
@@ -55,18 +55,39 @@ order_of s = with_references [] (all_files s)
 abbrev pub indices_group : ℕ → State → List Bytes
 indices_group bound s = packed_all (bound ∷ map (index_in (order_of s)) (all_files s)) ∷ []
 
-abbrev pub entries_group : State → List Bytes
-entries_group s = map (λ n. packed_all (option_numbers file_numbers (at_number s.files n))) (order_of s)
+abbrev pub entries_in : Numbered OpenFile → List ℕ → List Bytes
+entries_in files order = map (λ n. packed_all (option_numbers file_numbers (at_number files n))) order
 
--- the counts, the shapes of the processes, the open files, and the tree
+abbrev pub entries_group : State → List Bytes
+entries_group s = entries_in s.files (order_of s)
+
+-- the counts and the shapes of the processes, the open files, and the tree
+abbrev pub shape_groups : State → List Encoded
+shape_groups s = plain (counts_group s) ∷ map (λ r. plain (shape_parts r)) s.processes
+
+abbrev pub file_groups : ℕ → State → List Encoded
+file_groups bound s = plain (indices_group bound s) ∷ plain (entries_group s) ∷ []
+
 abbrev pub reduced_groups : ℕ → State → List Encoded
-reduced_groups bound s =
-    plain (counts_group s) ∷ (map (λ r. plain (shape_parts r)) s.processes
-    ++ plain (indices_group bound s) ∷ plain (entries_group s) ∷ plain (tree_group s.tree) ∷ [])
+reduced_groups bound s = shape_groups s ++ file_groups bound s ++ plain (tree_group s.tree) ∷ []
 
 -- ---- what is stored
 
+-- the value at a place of a list of optional values, if there is one
+abbrev pub known_at : {X : Type 0} → List (Option X) → ℕ → Option X
+known_at all place = option_and_then (slice_get all place) (λ o. o)
+
+-- the order of the open files of a state, and the part of their indices
+pub record HasOrderOf (form : Reduced) (bound : ℕ) (s : State) : Type 0 where
+  pub order : form.order.items ≡ order_of s
+  pub indices : indices_group bound s ≡ form.indices.items ∷ []
+
 module _ (t : Stored) where
+  -- a word is that of a group of a state, all of whose groups are stored
+  pub record IsStoredWord (s : State) (word : ℕ) : Type 0 where
+    pub kept : IsKept t s
+    pub within : Contains (map (word_of t) (encoded s)) word
+
   -- the shape of a live process is stored
   pub record IsShapeOf (pid : ℕ) (p : Process) (shape : Shape) : Type 0 where
     pub word_is : shape.word ≡ number_in t.groups (plain_row t (shape_parts (pid, live p)))
@@ -77,12 +98,16 @@ module _ (t : Stored) where
   -- the shape of a live process is known
   pub record HasShape (form : Reduced) (pid : ℕ) (p : Process) : Type 0 where
     pub shape : Shape
-    pub at : slice_get form.shapes.items (word_of t (encoded_record (pid, live p))) ≡ Some (Some shape)
+    pub at : known_at form.shapes.items (word_of t (encoded_record (pid, live p))) ≡ Some shape
     pub is : IsShapeOf pid p shape
 
   abbrev pub HasShapeOf : Reduced → ℕ × ProcessRecord → Type 0
   HasShapeOf form (pid, live p) = HasShape form pid p
   HasShapeOf form (pid, ended_record parent status) = Unit {0}
+
+  -- the shape is known of each live process whose group has a word
+  abbrev pub HasShapesAt : Reduced → State → ℕ → Type 0
+  HasShapesAt form s word = AllByRecursion (λ r. word_of t (encoded_record r) ≡ word → HasShapeOf form r) s.processes
 
   -- the numbers of the parts of open files
   pub record AreEntriesOf (files : Numbered OpenFile) (numbers : List ℕ) : Type 0 where
@@ -92,7 +117,7 @@ module _ (t : Stored) where
   -- the numbers of the parts of the open files of a state are known
   pub record HasEntries (form : Reduced) (s : State) : Type 0 where
     pub entries : Vec ℕ
-    pub at : slice_get form.entries.items (word_of t (plain (files_group s))) ≡ Some (Some entries)
+    pub at : known_at form.entries.items (word_of t (plain (files_group s))) ≡ Some entries
     pub are : AreEntriesOf s.files entries.items
 
 -- what the form stores of the groups of a state is known

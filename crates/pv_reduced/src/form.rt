@@ -1,6 +1,14 @@
 //! The form of the reduced search: it identifies states that are equal but for the numbers of open files and for dead
 //! variables.
-ghost use Rattle.std.specs.Prelude.{◌≡◌, IfOk, OnOk};
+ghost use Rattle.std.specs.Prelude.{◌≡◌, ◌≢◌, ℕ, ◌∷◌, ◌++◌, [], map, IfOk, IfSome, IfNone, OnOk, None, Some};
+ghost use Rattle.pv_laws_classes.specs.Canonical.{index_in};
+ghost use Rattle.pv_model.specs.Machine.{Numbered, OpenFile, State};
+ghost use Rattle.pv_reduced.specs.Forms.{AreEntriesOf, HasEntries, HasOrderOf, HasShapesAt, IsStoredWord, KnowsReduced, entries_in, file_groups, known_at, shape_groups};
+ghost use Rattle.pv_reduced.specs.Keys.{with_references};
+ghost use Rattle.pv_rows.specs.Rows.{AreAppended};
+ghost use Rattle.pv_rows.specs.Tables.{Grew, IsNumberOf, word_of};
+ghost use Rattle.pv_state_encoding.specs.Encoded.{counts_group, encoded_record, files_group, plain};
+ghost use Rattle.pv_state_encoding.specs.Packed.{IsAdded};
 
 use crate::live_tables::LiveTables;
 use crate::order::{index_in, push_reference};
@@ -28,7 +36,10 @@ pub(crate) struct Reduced {
 }
 
 // Stores a value at a place of a list of optional values, and appends places first if need be.
-fn put<X: Drop>(all: &mut Vec<Option<X>>, place: usize, value: X) -> Result<(), AllocError> {
+fn put<X: Drop>(all: &mut Vec<Option<X>>, place: usize, value: X) -> Result<(), AllocError>
+    ensures there { OnOk result (known_at all.new.items place ≡ Some value) }
+    ensures others { (k : ℕ) → k ≢ place → known_at all.new.items k ≡ known_at all.old.items k }
+{
     while all.len() <= place {
         all.push(None)?;
     }
@@ -37,7 +48,10 @@ fn put<X: Drop>(all: &mut Vec<Option<X>>, place: usize, value: X) -> Result<(), 
 }
 
 // Returns the value at a place of a list of optional values, if there is one.
-fn value_at<X>(all: &[Option<X>], place: u32) -> Option<&X> {
+fn value_at<X>(all: &[Option<X>], place: u32) -> Option<&X>
+    ensures some { IfSome result (λ value. known_at all.now place ≡ Some value.now) }
+    ensures none { IfNone result (known_at all.now place ≡ None) }
+{
     match all.get(place as usize) {
         Some(Some(value)) => Some(value),
         _ => None,
@@ -49,7 +63,10 @@ fn push_files(
     order: &mut Vec<usize>,
     indices: &mut Vec<u8>,
     shape: &Shape,
-) -> Result<(), AllocError> {
+) -> Result<(), AllocError>
+    ensures order { OnOk result (order.new.items ≡ with_references order.old.items shape.now.files.items) }
+    ensures indices { OnOk result (IsAdded (map (index_in order.new.items) shape.now.files.items) indices.old.items indices.new.items) }
+{
     for file in shape.files.as_slice() {
         push_reference(order, *file)?;
         push_number(indices, index_in(order, *file) as u64)?;
@@ -63,7 +80,10 @@ fn entries_group(
     tables: &mut Tables,
     entries: &[u32],
     order: &[usize],
-) -> Result<u32, AllocError> {
+) -> Result<u32, AllocError>
+    ensures grew { Grew tables.old.stored tables.new.stored }
+    ensures group { (files : Numbered OpenFile) → AreEntriesOf tables.old.stored files entries.now → IfOk result (λ number. IsNumberOf tables.new.stored (plain (entries_in files order.now)) number) }
+{
     tables.begin(0, 0)?;
     for file in order {
         tables.put_part(entries.get(*file).copied().unwrap_or(0))?;
@@ -73,7 +93,10 @@ fn entries_group(
 
 impl Reduced {
     /// Returns the form before a search.
-    pub(crate) fn new(alloc: Global) -> Reduced {
+    pub(crate) fn new(alloc: Global) -> Reduced
+        ensures shapes { result.shapes.items ≡ [] }
+        ensures entries { result.entries.items ≡ [] }
+    {
         Reduced {
             tables: LiveTables::new(alloc),
             shapes: Vec::new(alloc),
@@ -90,7 +113,12 @@ impl Reduced {
         tables: &mut Tables,
         word: u32,
         state: &Parts,
-    ) -> Result<(), AllocError> {
+    ) -> Result<(), AllocError>
+        requires { IsStoredWord tables.old.stored state.now word }
+        ensures grew { Grew tables.old.stored tables.new.stored }
+        ensures known { (s : State) → KnowsReduced self.old tables.old.stored s → KnowsReduced self.new tables.new.stored s }
+        ensures learned { OnOk result (HasShapesAt tables.new.stored self.new state.now word) }
+    {
         let pid = tables.owner(word);
         if pid == 0 || value_at(&self.shapes, word).is_some() || !state.processes().live(pid) {
             return Ok(());
@@ -106,7 +134,12 @@ impl Reduced {
         tables: &mut Tables,
         word: u32,
         state: &Parts,
-    ) -> Result<(), AllocError> {
+    ) -> Result<(), AllocError>
+        requires { IsNumberOf tables.old.stored (plain (files_group state.now)) word }
+        ensures grew { Grew tables.old.stored tables.new.stored }
+        ensures known { (s : State) → KnowsReduced self.old tables.old.stored s → KnowsReduced self.new tables.new.stored s }
+        ensures learned { OnOk result (HasEntries tables.new.stored self.new state.now) }
+    {
         if value_at(&self.entries, word).is_some() {
             return Ok(());
         }
@@ -121,7 +154,11 @@ impl Reduced {
         bound: u32,
         words: &[u32],
         key: &mut Vec<u32>,
-    ) -> Result<(), AllocError> {
+    ) -> Result<(), AllocError>
+        ensures unchanged { (self.new.shapes ≡ self.old.shapes) × (self.new.entries ≡ self.old.entries) }
+        ensures words { (s : State) → KnowsReduced self.old tables.now.stored s → words.now ≡ map (word_of tables.now.stored) (plain (counts_group s) ∷ map encoded_record s.processes) → OnOk result (key.new.items ≡ key.old.items ++ map (word_of tables.now.stored) (shape_groups s)) }
+        ensures files { (s : State) → KnowsReduced self.old tables.now.stored s → words.now ≡ map (word_of tables.now.stored) (plain (counts_group s) ∷ map encoded_record s.processes) → OnOk result (HasOrderOf self.new bound s) }
+    {
         self.order.clear();
         self.indices.clear();
         push_number(&mut self.indices, u64::from(bound))?;
@@ -146,7 +183,10 @@ impl Reduced {
         tables: &mut Tables,
         files: u32,
         key: &mut Vec<u32>,
-    ) -> Result<(), AllocError> {
+    ) -> Result<(), AllocError>
+        ensures grew { Grew tables.old.stored tables.new.stored }
+        ensures words { (bound : ℕ) (s : State) → KnowsReduced self.now tables.old.stored s → HasOrderOf self.now bound s → files ≡ word_of tables.old.stored (plain (files_group s)) → OnOk result (AreAppended tables.new.stored (file_groups bound s) key.old.items key.new.items) }
+    {
         tables.begin(0, 0)?;
         tables.push_part(alloc, &self.indices)?;
         let indices = tables.end(alloc)?;

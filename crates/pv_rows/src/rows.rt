@@ -1,8 +1,8 @@
 //! The row of a state, and the row of the state after a step.
-ghost use Rattle.std.specs.Prelude.{◌≡◌, ◌<◌, ◌≤◌, ℕ, true, List, [], ◌∷◌, ◌++◌, map, option_map, IsSome, IfOk, IfSome, OnOk};
+ghost use Rattle.std.specs.Prelude.{◌≡◌, ◌<◌, ◌≤◌, ◌-◌, ℕ, true, List, [], ◌∷◌, ◌++◌, length, map, replicate, option_map, IsSome, IfOk, IfSome, OnOk};
 ghost use Rattle.std.specs.FinMap.Entries.{find};
 ghost use Rattle.std.specs.Ordering.{nat_cmp};
-ghost use Rattle.pv_model.specs.Machine.{next, process_at};
+ghost use Rattle.pv_model.specs.Machine.{next, process_at, Tree as Image};
 ghost use Rattle.pv_rows.specs.Building.{AreCompared, buffer_part, counts_of, loads, node_part, program_part};
 ghost use Rattle.pv_rows.specs.Rows.{AreAppended, IsKept, IsRowOf, IsStepOf, IsWordOf};
 ghost use Rattle.pv_rows.specs.Tables.{Grew, IsNumberOf, IsPart};
@@ -168,6 +168,7 @@ impl Tables {
             let program = self.part_of(old, PROGRAM);
             return self.put_part(program);
         }
+        self.part.clear();
         push_program(&mut self.part, step.after.processes().program(step.pid))?;
         self.end_part(alloc)
     }
@@ -190,6 +191,7 @@ impl Tables {
             let buffer = self.part_of(old, BUFFER);
             return self.put_part(buffer);
         }
+        self.part.clear();
         push_bytes(&mut self.part, after.record(step.pid).context.buffer())?;
         self.end_part(alloc)
     }
@@ -336,23 +338,29 @@ impl Tables {
             let part = self.part_of(old, compared.parts);
             return self.put_part(part);
         }
+        self.part.clear();
         self.push_unused(node - compared.after)?;
         push_used(&mut self.part, after, node)?;
         self.end_part(alloc)
     }
 
-    // Appends the last part of the tree after a step, which has no node in use.
+    // Appends the last part of the tree after a step, which has no node in use. `end` is the number of nodes.
     fn push_last_after(
         &mut self,
         alloc: Global,
         old: u32,
         compared: Compared,
         end: u16,
-    ) -> Result<(), AllocError> {
+    ) -> Result<(), AllocError>
+        requires { compared.after ≤ end }
+        ensures grew { Grew self.old.stored self.new.stored }
+        ensures row { (t u : Image) → IsNumberOf self.old.stored (plain (tree_group t)) old → length t.nodes ≡ end → AreCompared t u end compared → OnOk result (IsPart self.new.stored (replicate (end - compared.after) 0) self.old.row self.new.row) }
+    {
         if compared.before == compared.after {
             let part = self.part_of(old, compared.parts);
             return self.put_part(part);
         }
+        self.part.clear();
         self.push_unused(end - compared.after)?;
         self.end_part(alloc)
     }

@@ -1,6 +1,6 @@
 //! The numbers of parts and groups.
 ghost use Rattle.std.specs.Prelude.{◌≡◌, ◌+◌, ◌<◌, ◌∷◌, ◌++◌, [], IfOk, OnOk};
-ghost use Rattle.pv_rows.specs.Tables.{Grew, IsGroup, IsPart, outside_of, owner_of, word_at};
+ghost use Rattle.pv_rows.specs.Tables.{Grew, IsGroup, IsPart, IsPartNumber, outside_of, owner_of, word_at};
 
 use crate::keys::Keys;
 use crate::words::Rows;
@@ -58,11 +58,6 @@ impl Tables {
             part: Vec::new(alloc),
             row: Vec::new(alloc),
         }
-    }
-
-    /// Returns the number of stored groups.
-    pub fn len(&self) -> usize {
-        self.groups.len()
     }
 
     // ---- a group that is built

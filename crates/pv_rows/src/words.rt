@@ -1,5 +1,5 @@
 //! Tables of rows of words in insertion order.
-ghost use Rattle.std.specs.Prelude.{◌≡◌, ◌++◌, ◌∷◌, [], length, position, bytes_eq, slice_get, take, if◌then◌else◌, IfOk, IfSome, OnErr, OnOk, Some};
+ghost use Rattle.std.specs.Prelude.{◌≡◌, ◌++◌, ◌∷◌, [], length, position, bytes_eq, slice_get, take, if◌then◌else◌, IfNone, IfOk, IfSome, OnErr, OnOk, None, Some};
 ghost use Rattle.std.specs.List.{list_any, position_or_len};
 
 use indexmap::IndexSet;
@@ -46,7 +46,8 @@ impl Rows {
 
     /// Returns the row with an index, if there is one.
     pub fn at(&self, number: usize) -> Option<&[u32]>
-        ensures { IfSome result (λ row. slice_get self.now number ≡ Some row.now) }
+        ensures some { IfSome result (λ row. slice_get self.now number ≡ Some row.now) }
+        ensures none { IfNone result (slice_get self.now number ≡ None) }
     {
         match self.set.get_index(number) {
             Some(row) => Some(row.as_slice()),
