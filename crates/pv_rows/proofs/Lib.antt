@@ -3,7 +3,7 @@
 -- more is stored), Words (what the word of a stored group says of it), Afters (the edits determine the state after a
 -- step), Again (a cached transition is valid for every step with its key),
 -- Programs (a step that is no execve(2) leaves its process its program), Compared (the words after a step, from those
--- before it).
+-- before it), Trees (the nodes of a tree as parts, one at a time).
 pub mod Numbers
 pub mod KeyLists
 pub mod Seeing
@@ -13,6 +13,7 @@ pub mod Afters
 pub mod Again
 pub mod Programs
 pub mod Compared
+pub mod Trees
 pub use Rattle.pv_state_encoding.proofs.OfAnswers
 pub use Rattle.pv_laws_steps.proofs.OfLawsAnswers
 pub use Rattle.pv_laws_steps.proofs.OfLawsRuns

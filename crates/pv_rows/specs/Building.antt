@@ -1,7 +1,7 @@
 -- Groups that are being built, part by part.
-use Rattle.std.specs.Prelude.{◌≡◌, ℕ, ◌-◌, ◌<◌, ◌≤◌, Bool, true, false, List, [], ◌∷◌, ◌++◌, length, replicate, take, None}
+use Rattle.std.specs.Prelude.{◌≡◌, ℕ, suc, ◌-◌, ◌≤◌, Bool, true, false, List, [], ◌∷◌, ◌++◌, drop, length, replicate}
 use Rattle.pv_model.specs.declared.call.Call.TheVariants.{Execve}
-use Rattle.pv_model.specs.Machine.{bytes_numbers, instruction_numbers, list_numbers, option_numbers, at_number, Bytes, Next, calls_for, Process, State, Tree}
+use Rattle.pv_model.specs.Machine.{bytes_numbers, instruction_numbers, list_numbers, option_numbers, Numbered, at_number, Bytes, Next, calls_for, Process, Node, Tree}
 use Rattle.pv_model.specs.Answers.Numbers.{node_numbers}
 use Rattle.pv_state_encoding.specs.Encoded.{outside}
 use Rattle.pv_state_encoding.specs.Groups.{node_parts, process_parts, tree_part}
@@ -50,11 +50,15 @@ pub record HasSizes (b : Building) (t : Tree) : Type 0 where
 abbrev pub node_part : Tree → ℕ → ℕ → Bytes
 node_part t first node = replicate (node - first) 0 ++ packed_all (option_numbers node_numbers (at_number t.nodes node))
 
--- two trees are compared up to a node: the parts of the first tree that end before it, and the first node of the next
--- part of each tree
-pub record AreCompared (before after : Tree) (node : ℕ) (c : Compared) : Type 0 where
-  pub parts : c.parts ≡ length (node_parts [] (take c.before before.nodes))
-  pub before_below : c.before ≤ node
-  pub before_unused : (k : ℕ) → c.before ≤ k → k < node → at_number before.nodes k ≡ None
-  pub after_below : c.after ≤ node
-  pub after_unused : (k : ℕ) → c.after ≤ k → k < node → at_number after.nodes k ≡ None
+-- the parts before a node, and the part in progress, which begins with node `first`, are followed by those from the node on
+pub record LeavesParts (nodes : Numbered Node) (node first : ℕ) (done : List Bytes) : Type 0 where
+  pub first_below : first ≤ node
+  pub is : done ++ node_parts (replicate (node - first) 0) (drop node nodes) ≡ node_parts [] nodes
+
+-- the parts of the tree before a step are known up to a node: their number, with the part of the sizes, and the first node
+-- of the part in progress; the part in progress of the tree after the step begins with a node that is no later
+pub record AreCompared (before : Tree) (node : ℕ) (c : Compared) : Type 0 where
+  pub done : List Bytes
+  pub parts : c.parts ≡ suc (length done)
+  pub old : LeavesParts before.nodes node c.before done
+  pub new_below : c.after ≤ node

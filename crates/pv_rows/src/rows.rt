@@ -2,7 +2,7 @@
 ghost use Rattle.std.specs.Prelude.{◌≡◌, ◌<◌, ◌≤◌, ◌-◌, ℕ, true, List, [], ◌∷◌, ◌++◌, length, map, replicate, option_map, IsSome, IfOk, IfSome, OnOk};
 ghost use Rattle.std.specs.FinMap.Entries.{find};
 ghost use Rattle.std.specs.Ordering.{nat_cmp};
-ghost use Rattle.pv_model.specs.Machine.{next, process_at, Tree as Image};
+ghost use Rattle.pv_model.specs.Machine.{next, at_number, process_at, Tree as Image};
 ghost use Rattle.pv_rows.specs.Building.{AreCompared, buffer_part, counts_of, loads, node_part, program_part};
 ghost use Rattle.pv_rows.specs.Rows.{AreAppended, IsKept, IsRowOf, IsStepOf, IsWordOf};
 ghost use Rattle.pv_rows.specs.Tables.{Grew, IsNumberOf, IsPart};
@@ -330,7 +330,7 @@ impl Tables {
         node: u16,
     ) -> Result<(), AllocError>
         requires old { IsNumberOf self.old.stored (plain (tree_group before.now.tree)) old }
-        requires compared { AreCompared before.now.tree after.now.tree node compared }
+        requires compared { AreCompared before.now.tree node compared × IsSome (at_number after.now.tree.nodes node) }
         ensures grew { Grew self.old.stored self.new.stored }
         ensures row { OnOk result (IsPart self.new.stored (node_part after.now.tree compared.after node) self.old.row self.new.row) }
     {
@@ -354,7 +354,7 @@ impl Tables {
     ) -> Result<(), AllocError>
         requires { compared.after ≤ end }
         ensures grew { Grew self.old.stored self.new.stored }
-        ensures row { (t u : Image) → IsNumberOf self.old.stored (plain (tree_group t)) old → length t.nodes ≡ end → AreCompared t u end compared → OnOk result (IsPart self.new.stored (replicate (end - compared.after) 0) self.old.row self.new.row) }
+        ensures row { (t : Image) → IsNumberOf self.old.stored (plain (tree_group t)) old → length t.nodes ≡ end → AreCompared t end compared → OnOk result (IsPart self.new.stored (replicate (end - compared.after) 0) self.old.row self.new.row) }
     {
         if compared.before == compared.after {
             let part = self.part_of(old, compared.parts);
