@@ -1,6 +1,7 @@
 pub mod Live
 pub mod Keys
 pub mod Forms
+pub mod Known
 pub mod Lines
 pub mod Kinds
 pub mod SeenProcess

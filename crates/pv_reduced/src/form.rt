@@ -202,7 +202,8 @@ impl Reduced {
 }
 
 impl Form for Reduced {
-    ghost use Rattle.pv_reduced.specs.Forms.{reduced_key, reduced_bound, reduced_knows, reduced_groups, reduced_apart, reduced_together};
+    ghost use Rattle.pv_reduced.specs.Forms.{reduced_key, reduced_bound, reduced_knows, reduced_groups, reduced_apart};
+    ghost use Rattle.pv_reduced.specs.Known.{reduced_together};
 
     ghost key = { reduced_key };
 
