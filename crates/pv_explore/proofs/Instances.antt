@@ -12,7 +12,7 @@ use Rattle.pv_model.specs.Answers.Search
 use Rattle.pv_laws_trees.proofs.Entries.{bytes_eq-same, bytes_eq-itself}
 
 -- equal keys are of equal states
-turned : (a b : Bytes) → bytes_eq a b ≡ bytes_eq b a
+pub turned : (a b : Bytes) → bytes_eq a b ≡ bytes_eq b a
 turned a b =
     both_ways (bytes_eq a b) (bytes_eq b a)
     (λ is. ap (bytes_eq b) (bytes_eq-same a b is) ∙ bytes_eq-itself b)

@@ -1,5 +1,6 @@
--- Lemmas about the reduced search: Lively (the computation of live variables, and their tables), Ordering (the order of
+-- Lemmas about the reduced search: Instances (it is that of the engine with the form `Reduced`), Lively (the computation of live variables, and their tables), Ordering (the order of
 -- open files), Keying (the encoding of a representative).
+pub mod Instances
 pub mod Lively
 pub mod Ordering
 pub mod Keying
