@@ -65,15 +65,14 @@ module _ (t : Stored) where
     pub row : IsAmong t.groups (group_row t owner outside (seen_of pid c))
     pub parts : AllByRecursion (IsAmong t.parts) (seen_of pid c)
 
+  abbrev word_by : Encoded → Bool → ℕ
+  word_by c b = if b then word_of t c else outside_of t (word_of t c)
+
   pub seen-is : (pid : ℕ) (c : Encoded) → IsStored t c → IsSelf c → IsSeen pid c
   seen-is pid c stored self = by (c.owner == pid) refl (c.owner == 0) refl
     where
-      word : Bool → ℕ
-      word b = if b then word_of t c else outside_of t (word_of t c)
-
-      word-by : (b : Bool) → (c.owner == pid) ≡ b → seen_word t pid (word_of t c) ≡ word b
-      unfolding word
-      word-by b is = ap word (ap (λ n. n == pid) (owner-word c stored) ∙ is)
+      word-by : (b : Bool) → (c.owner == pid) ≡ b → seen_word t pid (word_of t c) ≡ word_by c b
+      word-by b is = ap (word_by c) (ap (λ n. n == pid) (owner-word c stored) ∙ is)
 
       own : seen_of pid c ≡ c.group → seen_word t pid (word_of t c) ≡ word_of t c → IsSeen pid c
       own group_is word_is = record {
@@ -85,7 +84,6 @@ module _ (t : Stored) where
       }
 
       by : (a : Bool) → (c.owner == pid) ≡ a → (b : Bool) → (c.owner == 0) ≡ b → IsSeen pid c
-      unfolding word
       by true same b is = own (ap (λ a. if a then c.group else c.outside) same) (word-by true same)
       by false other true none =
           own (ap (λ a. if a then c.group else c.outside) other ∙ self (eqb-true c.owner 0 none)) (word-by false other ∙ outside-plain c stored none)
