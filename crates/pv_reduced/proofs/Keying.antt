@@ -123,9 +123,9 @@ cleared-bytes bound first (b ∷ bs) = by (nat_lt first bound) refl (cleared-byt
         ∙ ap (λ k. replicate k 0) all
         ∙ ap (λ n. take n (b ∷ bs) ++ replicate (suc (length bs) - n) 0) (sym none)
 
-pub added_buffer : (found : LiveLine) (program : Program) (line : ℕ) (buffer : Bytes) (count long rest : ℕ) (a b c d : Bytes) → found ≡ live_line program line → count ≡ min found.bytes (length buffer) → long ≡ length buffer → rest ≡ length buffer - count → a ≡ []
-    → IsAdded (long ∷ []) a b → IsAdded (take count buffer) b c → IsAdded (replicate rest 0) c d → d ≡ packed_all (bytes_numbers (cleared_buffer is_live_below program line buffer))
-added_buffer found program line buffer count long rest a b c d is count_is long_is rest_is none first second third =
+pub added_buffer : (found : LiveLine) (program : Program) (line : ℕ) (buffer : Bytes) (count long rest : ℕ) (a b c d : Bytes) → found ≡ live_line program line → count ≡ min found.bytes (length buffer) → long ≡ length buffer → rest ≡ length buffer - count
+    → IsAdded (long ∷ []) a b → IsAdded (take count buffer) b c → IsAdded (replicate rest 0) c d → IsAdded (bytes_numbers (cleared_buffer is_live_below program line buffer)) a d
+added_buffer found program line buffer count long rest a b c d is count_is long_is rest_is first second third =
     let bound : ℕ = live_bytes program line in
     let bytes : Bytes = cleared_from (λ k. nat_lt k bound) 0 0 buffer in
     let bound_is : found.bytes ≡ bound = ap (λ (l : LiveLine). l.bytes) is in
@@ -133,8 +133,7 @@ added_buffer found program line buffer count long rest a b c d is count_is long_
     let whole : take count buffer ++ replicate rest 0 ≡ bytes =
     ap₂ (λ (xs : Bytes) (k : ℕ). xs ++ replicate k 0) (same bound least (cases_lt (bound - 0) (length buffer))) (omega (arith, rest_is, least)) ∙ sym (cleared-bytes bound 0 buffer) in
     let many : long ≡ length bytes = long_is ∙ sym (length-cleared (λ k. nat_lt k bound) 0 0 buffer) in
-    added_whole (bytes_numbers bytes) a d none
-    (added_then (subst (λ (k : ℕ). IsAdded (k ∷ []) a b) many first) (subst (λ (ns : Numbers). IsAdded ns b d) whole (added_both second third)))
+    added_then (subst (λ (k : ℕ). IsAdded (k ∷ []) a b) many first) (subst (λ (ns : Numbers). IsAdded ns b d) whole (added_both second third))
   where
     same : (bound : ℕ) → count ≡ min bound (length buffer) → (bound - 0 < length buffer) ⊎ (length buffer ≤ bound - 0) → take count buffer ≡ take (bound - 0) buffer
     same bound least (inl less) = let is : count ≡ bound - 0 = omega (arith, least, less) in ap (λ k. take k buffer) is
