@@ -1,17 +1,16 @@
 //! The shapes of processes: dead variables are zero, and the open files have the numbers 0, 1, 2 .. in the order in which
 //! the process refers to them first.
-ghost use Rattle.std.specs.Prelude.{ℕ, pos, false, ◌≡◌, ◌<◌, ◌≤◌, if◌then◌else◌, ◌∷◌, ◌++◌, [], flat_map, option_map, replicate, length, slice_index_or, IsSome, Some, IfOk, OnOk};
-ghost use Rattle.std.specs.FinMap.Entries.{find};
-ghost use Rattle.std.specs.Ordering.{nat_cmp};
+ghost use Rattle.std.specs.Prelude.{ℕ, pos, false, ◌≡◌, ◌<◌, ◌≤◌, if◌then◌else◌, ◌∷◌, ◌++◌, [], flat_map, option_map, replicate, length, slice_index_or, IsSome, IfSome, Some, IfOk, OnOk};
 ghost use Rattle.pv_laws_classes.specs.Canonical.{index_in};
 ghost use Rattle.pv_laws_classes.specs.Liveness.{cleared_buffer, cleared_registers, is_live_below};
 ghost use Rattle.pv_laws_classes.specs.Renumbering.{renumbered_descriptors};
-ghost use Rattle.pv_model.specs.declared.limits.TheConstants.{OPEN_FILES};
 ghost use Rattle.pv_model.specs.Machine.{bytes_numbers, descriptor_numbers, file_numbers, list_numbers, option_numbers, at_number, Program as Instructions};
 ghost use Rattle.pv_state_encoding.specs.OfProcs.ProcessTable.{process_in};
-ghost use Rattle.pv_reduced.specs.Keys.{files_in, held_under, location_under, parts_under, promised_under, reduced_parts};
+ghost use Rattle.pv_laws_classes.specs.Together.{is_inside_next};
+ghost use Rattle.pv_reduced.specs.Forms.{AreEntriesOf, IsShapeOf};
+ghost use Rattle.pv_reduced.specs.Keys.{held_under, location_under, promised_under};
 ghost use Rattle.pv_reduced.specs.Live.{live_line};
-ghost use Rattle.pv_state_encoding.specs.Groups.{counts_part, files_part, parts_of};
+ghost use Rattle.pv_rows.specs.Tables.{Grew};
 ghost use Rattle.pv_state_encoding.specs.Packed.{IsAdded, packed_all};
 
 use crate::live_tables::LiveTables;
