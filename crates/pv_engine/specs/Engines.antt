@@ -63,6 +63,12 @@ pub record IsNext {O F : Type 0} (observe : Observer Bytes) (key : ℕ → State
   pub known : knows e.form e.tables.stored (stepped (state_of (data_of key e) number) pid).after
   pub texts_are : texts ≡ observe (state_of (data_of key e) number) pid (stepped (state_of (data_of key e) number) pid)
 
+-- a step from state `number` was made: its key and the row after it were written, and its texts were observed before
+pub record IsMadeFrom {O F : Type 0} (observe : Observer Bytes) (key : ℕ → State → Bytes) (knows : F → Stored → State → Type 0) (e : Engine O F) (number pid : ℕ) (texts : List Bytes) : Type 0 where
+  pub key_is : HasKey e number pid
+  pub next : IsNext observe key knows e number pid texts
+  pub reported : AreReported e texts
+
 module _ (observe : Observer Bytes) (key : ℕ → State → Bytes) (bound : State → ℕ → ℕ) (limit : ℕ) where
   -- the engine took a step of a process from state `number`, and the bytes that the step writes
   pub record HasMoved (number pid : ℕ) (old new : Searching) : Type 0 where

@@ -110,7 +110,7 @@ fn shared(alloc: Global, texts: Vec<Vec<u8>>) -> Result<Rc<Vec<Vec<u8>>>, AllocE
 
 impl<'a, O: Observer + Drop, F: Form + Drop> Engine<'a, O, F> {
     ghost use Rattle.std.specs.Prelude.{◌<◌, length, IfSome};
-    ghost use Rattle.pv_engine.specs.Engines.{AreReported, HasKey, HasMoved, HasMovedAll, HasTaken, IsNext, IsVisited, data_of, key_after, live_of, state_of, text_of_move, text_of_moves};
+    ghost use Rattle.pv_engine.specs.Engines.{AreReported, HasKey, HasMoved, HasMovedAll, HasTaken, IsMadeFrom, IsNext, IsVisited, data_of, key_after, live_of, state_of, text_of_move, text_of_moves};
     ghost use Rattle.pv_engine.specs.Plan.{first_visited, reported_from, visited_from};
     ghost use Rattle.pv_model.specs.Machine.{program_of};
     ghost use Rattle.pv_rows.specs.Texts.{texts_in};
@@ -307,9 +307,7 @@ impl<'a, O: Observer + Drop, F: Form + Drop> Engine<'a, O, F> {
         pid: u32,
         texts: Vec<Vec<u8>>,
     ) -> Result<Rc<Vec<Vec<u8>>>, StepFault>
-        requires key { HasKey self.old number pid }
-        requires made { IsNext O.observe F.key F.knows self.old number pid (texts_in texts.items) }
-        requires reported { AreReported self.old (texts_in texts.items) }
+        requires { IsMadeFrom O.observe F.key F.knows self.old number pid (texts_in texts.items) }
         ensures unchanged { data_of F.key self.new ≡ data_of F.key self.old }
         ensures texts { IfOk result (λ made. texts_in made.value.items ≡ texts_in texts.items) }
         ensures made { OnOk result (IsNext O.observe F.key F.knows self.new number pid (texts_in texts.items)) }

@@ -198,8 +198,7 @@ impl Tables {
 
     // Returns the word of the process that made a step and is live before and after it. `old` is its word before it.
     fn own_after(&mut self, alloc: Global, step: StepOf<'_>, old: u32) -> Result<u32, AllocError>
-        requires step { IsStepOf self.old.stored step }
-        requires live { IsSome (process_at step.after.now step.pid) }
+        requires step { IsStepOf self.old.stored step × IsSome (process_at step.after.now step.pid) }
         requires old { IsNumberOf self.old.stored (live_encoded step.pid (process_at step.before.now step.pid)) old }
         ensures grew { Grew self.old.stored self.new.stored }
         ensures number { IfOk result (IsNumberOf self.new.stored (live_encoded step.pid (process_at step.after.now step.pid))) }
