@@ -1,8 +1,10 @@
--- Lemmas about the reduced search: Instances (it is that of the engine with the form `Reduced`), Lively (the computation of live variables, and their tables), Ordering (the order of
--- open files), Keying (the encoding of a representative).
+-- Lemmas about the reduced search: Instances (it is that of the engine with the form `Reduced`), Lively (the computation
+-- of live variables, and their tables), Ordering and Orders (the order of open files), Keying (the encoding of a process
+-- with zero in dead variables).
 pub mod Instances
 pub mod Lively
 pub mod Ordering
+pub mod Orders
 pub mod Keying
 pub use Rattle.pv_state_encoding.proofs.OfAnswers
 pub use Rattle.pv_explore.proofs as OfExplore
