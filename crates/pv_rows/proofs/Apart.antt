@@ -26,7 +26,7 @@ module _ (t : Stored) where
   same-word c d stored same =
       same-group c.owner d.owner (outside_number t c) (outside_number t d) c.group d.group stored.parts (same-number t.groups (row_of t c) (row_of t d) stored.row same)
 
-  same-words : (cs ds : List Encoded) → AllByRecursion (IsStored t) ds → map (word_of t) cs ≡ map (word_of t) ds → map (λ c. c.group) cs ≡ map (λ c. c.group) ds
+  pub same-words : (cs ds : List Encoded) → AllByRecursion (IsStored t) ds → map (word_of t) cs ≡ map (word_of t) ds → map (λ c. c.group) cs ≡ map (λ c. c.group) ds
   same-words [] [] stored same = refl
   same-words [] (d ∷ ds) stored same = cc
   same-words (c ∷ cs) [] stored same = cc
