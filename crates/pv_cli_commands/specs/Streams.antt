@@ -11,22 +11,6 @@ use Rattle.pv_cli_commands.specs.Created.{IsCreated, IsEmptied}
 abbrev pub FailsToTake : {W : Type 0} → Writing W → W → W → Type 0
 FailsToTake writing before after = Rose (writing.failures before) (writing.failures after)
 
--- an image and a schedule: their sources, or the names of their files
-pub record Inputs (A : Type 0) : Type 0 where
-  pub image : A
-  pub schedule : A
-
-abbrev pub inputs_of : {A : Type 0} → A → A → Inputs A
-inputs_of image schedule = record { image = image; schedule = schedule }
-
--- the sinks of a trace and of an image
-pub record Outputs (W O : Type 0) : Type 0 where
-  pub trace : W
-  pub image : O
-
-abbrev pub outputs_of : {W O : Type 0} → W → O → Outputs W O
-outputs_of trace image = record { trace = trace; image = image }
-
 -- all files, a file that is read, and a file that is written
 pub record Disk (F R V : Type 0) : Type 1 where
   pub files : Filing F R V

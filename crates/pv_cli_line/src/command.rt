@@ -6,14 +6,15 @@ ghost use Rattle.pv_cli_line.specs.Line.{AreFaultyTurns, IsAsked, IsValidIn, Ref
 ghost use Rattle.pv_cli_line.specs.Parser.{pvsim_app};
 ghost use Rattle.pv_cli_line.specs.Program.{is_number};
 
-use crate::matches::{Parsed, found_in};
+use crate::matches::{NoCommand, found_in};
 use crate::parser::parser;
 use crate::superfluous::{Superfluous, superfluous_in};
 use crate::texts::is_verbose;
 use clap::error::ErrorKind;
 use clap::{ArgMatches, Command as Parser, Error as ParserError};
 use pv_cli_commands::questions::is_turns;
-use pv_cli_commands::{Command, RunInput, ScheduleInput};
+use pv_cli_commands::questions::Question;
+use pv_cli_commands::{Command, InputFile, ScheduleInput};
 use std::alloc::{AllocError, Global};
 use std::convert::AsStr;
 use thiserror::Error;
@@ -80,14 +81,7 @@ fn turns_of(command: Command<'_>) -> Option<&str>
 {
     match command {
         Command::Ask {
-            run: RunInput::Image {
-                schedule: ScheduleInput::Turns(turns),
-                ..
-            }
-            | RunInput::Manifest {
-                schedule: ScheduleInput::Turns(turns),
-                ..
-            },
+            schedule: ScheduleInput::Turns(turns),
             ..
         } => Some(turns),
         _ => None,
@@ -146,10 +140,10 @@ fn checked<'a>(
 fn expected(matches: &ArgMatches<'_>) -> &'static str {
     match matches.subcommand() {
         Some(("compare", _)) => {
-            "expected IMAGE and OTHER, or --bundle FILE and a second bundle in place of IMAGE; only one of them may be '-'"
+            "expected FILE and OTHER, or --bundle FILE and a second bundle in place of FILE; only one of them may be '-'"
         }
         _ => {
-            "expected IMAGE and its further arguments, or one of --bundle FILE and --source FILE in place of IMAGE and SCHEDULE"
+            "expected FILE and its further arguments, or one of --bundle FILE and --source FILE in place of FILE; one of SCHEDULE, --by and --turns; and '-' only once"
         }
     }
 }
@@ -182,11 +176,11 @@ fn parsed<'a, S: AsStr>(alloc: Global, words: &'a [S]) -> Result<CommandLine<'a>
     let mut parser = parser(alloc)?;
     let matches = parser.try_get_matches_from_mut(words)?;
     match found_in(&matches) {
-        Some(Parsed::Command(command)) => {
-            checked(alloc, &mut parser, command, is_verbose(&matches))
+        Ok(command) => checked(alloc, &mut parser, command, is_verbose(&matches)),
+        Err(NoCommand::Number) => Err(LineFault::Number),
+        Err(NoCommand::Words) => {
+            Err(LineFault::Parser(no_command(alloc, &mut parser, &matches)?))
         }
-        Some(Parsed::Number) => Err(LineFault::Number),
-        None => Err(LineFault::Parser(no_command(alloc, &mut parser, &matches)?)),
     }
 }
 
@@ -210,7 +204,12 @@ pub fn command_line_of<'a, S: AsStr>(
 {
     if words.len() <= 1 {
         return Ok(CommandLine {
-            command: Command::RunTree("-"),
+            command: Command::Ask {
+                question: Question::Trace,
+                input: InputFile::Bundle("-"),
+                schedule: ScheduleInput::Own,
+                steps: None,
+            },
             is_verbose: true,
         });
     }

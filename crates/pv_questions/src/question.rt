@@ -2,16 +2,7 @@
 
 use pv_policy::reduced::SearchKind;
 
-/// A question about the run of a schedule.
-#[derive(Clone, Copy)]
-pub struct RunQuestion<'a> {
-    /// The question.
-    pub question: Question<'a>,
-    /// The number of steps after which the schedule is cut. Without a number, the whole schedule is run.
-    pub steps: Option<u32>,
-}
-
-/// A question about a run.
+/// A question about the tree of an input, or about a run of the machine that boots on it.
 #[derive(Clone, Copy)]
 pub enum Question<'a> {
     /// The trace of the run.
@@ -34,63 +25,56 @@ pub enum Question<'a> {
         granted: bool,
     },
     /// The verdict on the file at a path after the run, or on all files.
-    Audit(Option<&'a [u8]>),
+    Audit(Option<&'a str>),
     /// The same verdicts, with a line for each reason of each process if a file is exposed.
-    Reasons(Option<&'a [u8]>),
-}
-
-/// A question about a tree.
-#[derive(Clone, Copy)]
-pub enum TreeQuestion<'a> {
+    Reasons(Option<&'a str>),
     /// A line for each name of the tree.
     Listing,
     /// The bytes of the file at a path. The path is walked from the root; links are followed, and no unveil table
     /// applies.
-    File(&'a [u8]),
-    /// A fair schedule of the machine that boots on the tree.
+    File(&'a str),
+    /// A fair schedule.
     Turns {
         /// The maximum number of steps in a turn: 0 counts as 1.
         slice: u32,
         /// The maximum number of steps in all turns together.
         steps: u32,
     },
-    /// A search of the states of the machine that boots on the tree.
-    Search {
-        /// What the search answers.
-        search: Search,
+    /// What can happen under all schedules.
+    Explore {
+        /// The search.
+        kind: SearchKind,
         /// The maximum number of visited states: 0 counts as 1.
         states: u32,
     },
-}
-
-/// The format of an input that has a tree.
-#[derive(Clone, Copy)]
-pub enum Format {
-    /// An image.
-    Image,
-    /// A manifest, which may be a bundle.
-    Manifest,
-}
-
-/// What a search of all schedules answers.
-#[derive(Clone, Copy)]
-pub enum Search {
-    /// What can happen.
-    Explore(SearchKind),
-    /// Which process can access what.
-    Access(SearchKind),
+    /// Which process can access what under all schedules.
+    Access {
+        /// The search.
+        kind: SearchKind,
+        /// The maximum number of visited states: 0 counts as 1.
+        states: u32,
+    },
     /// What an attacker gains who takes over a process, at each line of its program.
-    Exposure(SearchKind),
-    /// What each program needs of its sandbox, and what it holds and never uses.
+    Exposure {
+        /// The search.
+        kind: SearchKind,
+        /// The maximum number of visited states: 0 counts as 1.
+        states: u32,
+    },
+    /// What each program needs of its sandbox under all schedules, and what it holds and never uses.
     Policy {
         /// The search.
         kind: SearchKind,
         /// Whether the calls that a promise or a table refused are left out.
         granted: bool,
+        /// The maximum number of visited states: 0 counts as 1.
+        states: u32,
     },
     /// The state graph.
     Graph {
         /// Whether each state is written with its tree and the permissions of its processes.
         tree: bool,
+        /// The maximum number of visited states: 0 counts as 1.
+        states: u32,
     },
 }

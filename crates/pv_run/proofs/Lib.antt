@@ -1,9 +1,6 @@
 -- Lemmas about runs from bytes to bytes: Starting (the checks of the input), Begun (a run, complete or up to a point),
--- Left (the machine after it), Written (the image after it), Made (manifests), Audited (audits), Unwritten (the output
--- that is not written when a run stops).
-pub mod Audited
+-- Written (the image after it), Made (manifests), Unwritten (the output that is not written when a run stops).
 pub mod Begun
-pub mod Left
 pub mod Made
 pub mod Starting
 pub mod Unwritten
