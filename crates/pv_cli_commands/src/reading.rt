@@ -82,9 +82,14 @@ pub(crate) fn first_named<'a>(command: Command<'a>) -> Option<Named<'a>>
 }
 
 // Returns the file that is the schedule of an image, if an audit names it in the place of its path.
-fn misplaced<'a>(question: Question<'a>, schedule: ScheduleInput<'a>, format: Format) -> Option<&'a str> {
+fn misplaced<'a>(
+    question: Question<'a>,
+    schedule: ScheduleInput<'a>,
+    format: Format,
+) -> Option<&'a str> {
     match (question, schedule, format) {
-        (Question::Audit(path) | Question::Reasons(path), ScheduleInput::Own, Format::Image) => path,
+        (Question::Audit(path) | Question::Reasons(path), ScheduleInput::Own, Format::Image) =>
+            path,
         _ => None,
     }
 }
@@ -126,7 +131,9 @@ pub(crate) fn second_named<'a>(command: Command<'a>, format: Format) -> Option<N
 {
     match command {
         Command::Ask {
-            question, schedule, ..
+            question,
+            schedule,
+            ..
         } => match settled_schedule(question, schedule, format) {
             ScheduleInput::File(name) => Some(Named {
                 has_input: true,
@@ -154,7 +161,12 @@ pub(crate) fn of_source(stop: SourceStop, written: Target) -> Failure {
 }
 
 // Returns the translation of a source, or reports its lines in error under a name.
-fn translated<E: Sink>(alloc: Global, name: &str, source: &[u8], errors: &mut E) -> Result<Input, Failure> {
+fn translated<E: Sink>(
+    alloc: Global,
+    name: &str,
+    source: &[u8],
+    errors: &mut E,
+) -> Result<Input, Failure> {
     let bytes = match translate(alloc, name.as_bytes(), source, errors) {
         Ok(bytes) => bytes,
         Err(stop) => return Err(of_source(stop, Target::Errors)),
@@ -167,7 +179,12 @@ fn translated<E: Sink>(alloc: Global, name: &str, source: &[u8], errors: &mut E)
 }
 
 // Returns the input that a file with these bytes is.
-fn input_of<E: Sink>(alloc: Global, named: Named<'_>, bytes: Vec<u8>, errors: &mut E) -> Result<Input, Failure> {
+fn input_of<E: Sink>(
+    alloc: Global,
+    named: Named<'_>,
+    bytes: Vec<u8>,
+    errors: &mut E,
+) -> Result<Input, Failure> {
     match named.form {
         Form::Given(format) => Ok(Input { format, bytes }),
         Form::Source => translated(alloc, named.name, &bytes, errors),

@@ -10,10 +10,10 @@ use crate::lines::{push_line, push_reason, push_shown};
 use crate::names::{Names, Wanted, names_of};
 use crate::places::{push_path, push_process};
 use crate::readings::{push_directory, push_readings};
-use pv_cli_commands::questions::{Format, Input, Inputs, Question, Turns, Unshown, answer, is_source};
-use pv_cli_commands::{
-    Command, Failure, Files, InputFile, Origin, Refusal, ScheduleInput, Target,
+use pv_cli_commands::questions::{
+    Format, Input, Inputs, Question, Turns, Unshown, answer, is_source,
 };
+use pv_cli_commands::{Command, Failure, Files, InputFile, Origin, Refusal, ScheduleInput, Target};
 use pv_model::{Layout, Version};
 use pv_source::{Faults, faults_of};
 use pv_streams::{Gathered, SOURCE_BYTES, Sink, read_whole, write_through};
@@ -314,9 +314,17 @@ const NEITHER: &str =
     "is neither an image (it does not begin with PVIMAGE1 or PVIMAGE2) nor a source (it does not begin with a line 'image BLOCKS INODES')";
 
 // Appends that a file is neither an image nor a source, and what it is.
-fn push_neither(alloc: Global, out: &mut Vec<u8>, name: &str, kind: Kind) -> Result<(), AllocError> {
+fn push_neither(
+    alloc: Global,
+    out: &mut Vec<u8>,
+    name: &str,
+    kind: Kind,
+) -> Result<(), AllocError> {
     match kind.words() {
-        Some(words) => push_line(out, format!(in alloc; "{name} {NEITHER}; {words}")?.as_str()),
+        Some(words) => push_line(
+            out,
+            format!(in alloc; "{name} {NEITHER}; {words}")?.as_str(),
+        ),
         None => push_line(out, format!(in alloc; "{name} {NEITHER}")?.as_str()),
     }
 }
@@ -495,7 +503,12 @@ fn push_target<F: Files>(
 ) -> Result<(), AllocError> {
     match (target, names.out) {
         (Target::Output, _) => push_line(out, "standard output"),
-        (Target::File, Some(name)) => push_reason(alloc, out, name, files.write_reason(alloc, name)),
+        (Target::File, Some(name)) => push_reason(
+            alloc,
+            out,
+            name,
+            files.write_reason(alloc, name),
+        ),
         (Target::Directory, Some(name)) => {
             let wanted = "expected a directory that is empty or does not exist";
             push_line(out, format!(in alloc; "{name}: {wanted}")?.as_str())
@@ -517,7 +530,13 @@ fn push_origin<F: Files>(
         (Origin::Directory, Command::ImportDirectory { directory, .. }) => {
             push_directory(alloc, out, files, directory)
         }
-        _ => push_readings(alloc, out, files, names.first_file(), second_file(alloc, files, names, command)),
+        _ => push_readings(
+            alloc,
+            out,
+            files,
+            names.first_file(),
+            second_file(alloc, files, names, command),
+        ),
     }
 }
 

@@ -174,7 +174,9 @@ fn asked<'a>(
     run: Run<'a>,
 ) -> Result<Command<'a>, NoCommand> {
     let Run {
-        input, schedule, ..
+        input,
+        schedule,
+        ..
     } = run;
     let steps = steps_in(inner)?;
     Ok(Command::Ask {
@@ -306,9 +308,7 @@ fn search_in<'a>(inner: &ArgMatches<'a>, name: &str) -> Result<Command<'a>, NoCo
 }
 
 // Returns the two inputs of `compare`: two words, or a bundle and a word.
-fn compared_in<'a>(
-    inner: &ArgMatches<'a>,
-) -> Result<(InputFile<'a>, InputFile<'a>), NoCommand> {
+fn compared_in<'a>(inner: &ArgMatches<'a>) -> Result<(InputFile<'a>, InputFile<'a>), NoCommand> {
     let file = required(inner, "FILE")?;
     match (inner.get_str("bundle"), inner.get_str("OTHER")) {
         (Some("-"), None) if file == "-" => Err(NoCommand::Words),

@@ -128,7 +128,15 @@ fn starts<F: Files>(alloc: Global, files: &F, input: InputFile<'_>) -> bool {
     };
     let (mut notes, mut turns) = (Vec::new(alloc), Gathered::new(alloc));
     let question = Question::Turns { slice: 1, steps: 1 };
-    answer(alloc, question, inputs, &mut notes, &mut Unshown, &mut turns).is_ok()
+    answer(
+        alloc,
+        question,
+        inputs,
+        &mut notes,
+        &mut Unshown,
+        &mut turns,
+    )
+    .is_ok()
 }
 
 // Returns the files of a comparison. The one at fault comes first.
@@ -139,8 +147,13 @@ fn compared_named<'a, F: Files>(
     second: InputFile<'a>,
 ) -> Names<'a> {
     let words = "a manifest or bundle";
-    let is_second = starts(alloc, files, first) || file_of(first).is_none() && !starts(alloc, files, second);
-    let (at_fault, other) = if is_second { (second, first) } else { (first, second) };
+    let is_second = starts(alloc, files, first)
+        || file_of(first).is_none() && !starts(alloc, files, second);
+    let (at_fault, other) = if is_second {
+        (second, first)
+    } else {
+        (first, second)
+    };
     Names {
         second: file_of(other),
         ..input_named(at_fault, words)
@@ -154,7 +167,10 @@ fn asked_named<'a>(
     schedule: ScheduleInput<'a>,
 ) -> Names<'a> {
     let second = match schedule {
-        ScheduleInput::File("-") | ScheduleInput::Own | ScheduleInput::Turns(_) | ScheduleInput::Fair => None,
+        ScheduleInput::File("-")
+        | ScheduleInput::Own
+        | ScheduleInput::Turns(_)
+        | ScheduleInput::Fair => None,
         ScheduleInput::File(name) => Some(name),
     };
     let takes_manifest = matches!(

@@ -2,8 +2,8 @@
 ghost use Rattle.pv_cli_line.specs.Messages.{WritesMore};
 
 use crate::lines::push_excerpt;
-use crate::parser::parser;
 use crate::matches::reached_in;
+use crate::parser::parser;
 use crate::texts::{count_of, is_verbose, size_of, states_of, version_of};
 use clap::ArgMatches;
 use pv_streams::{Sink, write_through};

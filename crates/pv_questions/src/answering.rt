@@ -76,7 +76,12 @@ pub(crate) fn flushed<W: Sink>(end: Result<End, Failure>, out: &mut W) -> Result
 }
 
 // Writes the trace of a run.
-fn write_trace<W: Sink>(alloc: Global, question: Question<'_>, inputs: Inputs, out: &mut W) -> Result<End, Failure> {
+fn write_trace<W: Sink>(
+    alloc: Global,
+    question: Question<'_>,
+    inputs: Inputs,
+    out: &mut W,
+) -> Result<End, Failure> {
     let Run { mut session, turns } = started(alloc, question, inputs)?;
     run_schedule(alloc, &mut session, &turns, out)?;
     Ok(End::Complete)
@@ -110,7 +115,11 @@ fn write_needs<W: Sink>(
 }
 
 // Writes the permissions of each live process, or of the one with a number.
-fn write_permissions<W: Sink>(session: &Session, pid: Option<u32>, out: &mut W) -> Result<(), Failure> {
+fn write_permissions<W: Sink>(
+    session: &Session,
+    pid: Option<u32>,
+    out: &mut W,
+) -> Result<(), Failure> {
     let parts = session.parts();
     let Some(pid) = pid else {
         return Ok(write_reach(out, parts)?);
@@ -187,7 +196,12 @@ fn write_names<W: Sink>(alloc: Global, input: Input, out: &mut W) -> Result<End,
 }
 
 // Writes the bytes of the file at a path in the tree of an input.
-fn write_contents<W: Sink>(alloc: Global, path: &str, input: Input, out: &mut W) -> Result<End, Failure> {
+fn write_contents<W: Sink>(
+    alloc: Global,
+    path: &str,
+    input: Input,
+    out: &mut W,
+) -> Result<End, Failure> {
     let store = store_of(alloc, input, false)?;
     match file_at(store.tree(), path.as_bytes()) {
         Ok(node) => {
@@ -227,9 +241,11 @@ fn write_search<W: Sink, P: Progress>(
         Question::Exposure { kind, states } => {
             write_exposure(alloc, kind, machine, states.max(1), progress, out)?
         }
-        Question::Policy { kind, granted, states } => {
-            write_policy(alloc, kind, granted, machine, states.max(1), progress, out)?
-        }
+        Question::Policy {
+            kind,
+            granted,
+            states,
+        } => { write_policy(alloc, kind, granted, machine, states.max(1), progress, out)? }
         Question::Graph { tree, states } => {
             write_graph(alloc, machine, states.max(1), tree, progress, out)?
         }

@@ -52,7 +52,12 @@ fn fair_text(alloc: Global, input: &Input) -> Result<Vec<u8>, Failure>
 }
 
 // Returns the start of the run of a schedule on the tree of an input.
-fn ready_under(alloc: Global, input: Input, schedule: &[u8], listed: bool) -> Result<Ready, Failure> {
+fn ready_under(
+    alloc: Global,
+    input: Input,
+    schedule: &[u8],
+    listed: bool,
+) -> Result<Ready, Failure> {
     let store = store_of(alloc, input, listed)?;
     Ok(start_on(alloc, store, schedule)?)
 }
