@@ -20,7 +20,7 @@ fn of_export(fault: ExportFault) -> Failure {
 // Makes the tree of an input in the directory with a name.
 pub(crate) fn export_input<F: Directories, E: Sink>(
     alloc: Global,
-    files: &F,
+    files: &mut F,
     input: Input,
     directory: &str,
     errors: &mut E,

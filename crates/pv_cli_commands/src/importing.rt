@@ -39,7 +39,7 @@ fn of_import(stop: ImportStop) -> Failure {
 // Makes the image of a directory and of some entries, in a file.
 fn import_entries<F: Files + Directories, E: Sink>(
     alloc: Global,
-    files: &F,
+    files: &mut F,
     wanted: Wanted<'_>,
     given: &[Entry],
     errors: &mut E,
@@ -60,12 +60,12 @@ fn import_entries<F: Files + Directories, E: Sink>(
 // Makes the image of a directory, and of the entries of a manifest or bundle if one is given.
 pub(crate) fn import_directory<F: Files + Directories, E: Sink>(
     alloc: Global,
-    files: &F,
+    files: &mut F,
     wanted: Wanted<'_>,
     source: Option<Input>,
     errors: &mut E,
 ) -> Result<(), Failure>
-    ensures { ImportsDirectory (disk_of F.Files F.Reader.Source F.Writer.Sink) E.Sink (F.entries files.now) wanted.entry source errors.old errors.new result }
+    ensures { ImportsDirectory (disk_of F.Files F.Reader.Source F.Writer.Sink) E.Sink (F.entries files.old) wanted.entry source errors.old errors.new result }
 {
     let Some(source) = source else {
         return import_entries(alloc, files, wanted, &[], errors);

@@ -2,6 +2,7 @@
 ghost use Rattle.std.specs.Prelude.{◌≡◌, ◌≢◌, IfErr};
 ghost use Rattle.pv_cli_commands.specs.Commands.{Flushes, KeepsErrors, Performs, ReadsFiles, WritesFile};
 ghost use Rattle.pv_cli_commands.specs.OfQuestions.Failures.{status_of};
+ghost use Rattle.pv_cli_commands.specs.Created.{CreatesOnly, directory_made, file_written};
 ghost use Rattle.pv_cli_commands.specs.Streams.{disk_of, host_of};
 
 use crate::command::{Command, ScheduleInput};
@@ -154,11 +155,16 @@ pub fn perform<
     ensures flushed { Flushes O.Sink system.old.output system.new.output result }
     ensures failed { IfErr result (λ failure. status_of failure ≢ 0) }
 
+    // A writer was returned for no other file than the one that the command names, and for no other directory.
+    ensures created { CreatesOnly (file_written command.entry) (F.created system.old.files) (F.created system.new.files) }
+    ensures targets { CreatesOnly (directory_made command.entry) (F.targets system.old.files) (F.targets system.new.files) }
+    ensures known { (F.bytes system.new.files ≡ F.bytes system.old.files) × (F.entries system.new.files ≡ F.entries system.old.files) }
+
     // The rest of the system is unchanged.
     ensures unread { ReadsFiles command.entry → system.new.input ≡ system.old.input }
     ensures silent { WritesFile command.entry → system.new.output ≡ system.old.output }
     ensures unreported { KeepsErrors command.entry → system.new.errors ≡ system.old.errors }
-    ensures rest { system.new ≡ record system.old { input = system.new.input; output = system.new.output; errors = system.new.errors } }
+    ensures rest { system.new ≡ record system.old { files = system.new.files; input = system.new.input; output = system.new.output; errors = system.new.errors } }
 {
     let inputs = read_inputs(alloc, command, system)?;
     perform_on(alloc, command, inputs, system, notes, progress)

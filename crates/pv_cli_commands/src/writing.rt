@@ -15,7 +15,7 @@ use std::alloc::Global;
 // Makes the image of a manifest, in the file with a name.
 pub(crate) fn make_file<F: Files>(
     alloc: Global,
-    files: &F,
+    files: &mut F,
     manifest: Input,
     image: &str,
 ) -> Result<(), Failure>
@@ -28,7 +28,7 @@ pub(crate) fn make_file<F: Files>(
 // Runs a schedule on an image, and writes the image after the run to the file with a name.
 pub(crate) fn run_files<F: Files, W: Sink>(
     alloc: Global,
-    files: &F,
+    files: &mut F,
     inputs: Inputs,
     out: &str,
     trace: &mut W,
@@ -59,7 +59,7 @@ fn of_old_image(fault: ImageFault) -> Failure {
 // Makes an image of version 2 from an image of version 1, in the file with a name.
 pub(crate) fn migrate_file<F: Files>(
     alloc: Global,
-    files: &F,
+    files: &mut F,
     image: Input,
     out: &str,
     blocks: u32,
