@@ -1,13 +1,9 @@
--- Alike: a manifest alone, a bundle with this manifest, and the image that is made of it. Appended: texts that are
--- appended piece by piece. ByRuns: a text written run by run. Cuts: a schedule that is cut. Handed: what is written and
--- flushed is the report of a text. LiveNumbers: the numbers of the live processes. Manifests: the manifest of a bundle,
--- or a manifest alone. NumbersBelow: a test of the numbers below a bound. ReasonRows: the reasons of processes in the
--- order of their numbers. WitnessTurns: the text of a witness parses as its turns.
-pub mod Alike
+-- Appended: texts that are appended piece by piece. Cuts: a schedule that is cut. LiveNumbers: the numbers of the live
+-- processes. Manifests: the manifest of a bundle, or a manifest alone. NumbersBelow: a test of the numbers below a bound.
+-- ReasonRows: the reasons of processes in the order of their numbers. WitnessTurns: the text of a witness parses as its
+-- turns.
 pub mod Appended
-pub mod ByRuns
 mod Cuts
-pub mod Handed
 pub mod LiveNumbers
 pub mod Manifests
 pub mod NumbersBelow

@@ -19,11 +19,11 @@ use std::alloc::Global;
 /// - `WriteImage`: a write failed. `image` received a prefix of the bytes.
 ///
 /// After any other error nothing was written.
-pub fn make_image<W: Sink>(alloc: Global, manifest: &[u8], image: &mut W) -> Result<(), RunFault>
-    requires { length manifest.now ≤ SOURCE_BYTES }
-    ensures { MakesImage W.Sink manifest.now image.old image.new result }
+pub fn make_image<W: Sink>(alloc: Global, bytes: &[u8], image: &mut W) -> Result<(), RunFault>
+    requires { length bytes.now ≤ SOURCE_BYTES }
+    ensures { MakesImage W.Sink bytes.now image.old image.new result }
 {
-    let manifest = Manifest::parse(alloc, manifest)?;
+    let manifest = Manifest::parse(alloc, bytes)?;
     let store = build(alloc, &manifest)?;
     store.invariant();
     write_image(alloc, store.tree(), image)

@@ -3,7 +3,7 @@ use Rattle.std.proofs.lemmas.Result.{on_ok_weaker}
 use Rattle.pv_source.specs.Given.{text_of_source}
 use Rattle.pv_source.proofs.ReportedLines.{no_fault, read_right}
 use Rattle.pv_source.proofs.WrittenReports.{begins_faults, invalid_source, reports_faults}
-use Rattle.pv_source.proofs.source.write_bytes.Goals as goal
+use Rattle.pv_source.proofs.source.write_source.Goals as goal
 
 pub returns-then-is_empty : goal.returns-then-is_empty
 returns-then-is_empty g c =

@@ -2,7 +2,7 @@ use Rattle.std.proofs.Common.{◌∙◌, inr, rules}
 use Rattle.std.proofs.lemmas.Result.{IfOk-weaker}
 use Rattle.pv_source.proofs.ReportedLines.{no_fault, read_right}
 use Rattle.pv_source.proofs.WrittenReports.{begins_faults, invalid_source, reports_faults}
-use Rattle.pv_source.proofs.translation.translated.Goals as goal
+use Rattle.pv_source.proofs.translation.translate.Goals as goal
 
 pub returns-then-is_empty : goal.returns-then-is_empty
 returns-then-is_empty g c =
