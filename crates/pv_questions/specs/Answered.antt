@@ -75,6 +75,12 @@ pub record IsWritten {W : Type 0} (sink : Writing W) (answer : Answer) (old new 
   -- a refusal touches no sink
   pub untouched : IfErr result (λ failure. IsRefusal failure → new ≡ old)
 
+-- the text of an answer, or a part of it, was written
+pub record WritesPart {W : Type 0} (sink : Writing W) (answer : Answer) (old new : W) (result : Result (Unit {0}) Failure) : Type 0 where
+  pub outcome : Outcome answer (sink.written old) (sink.written new) result
+  pub failed : result ≡ Err (Write Output) → Rose (sink.failures old) (sink.failures new)
+  pub untouched : IfErr result (λ failure. IsRefusal failure → new ≡ old)
+
 -- the result of flushing: that of the end, or a failed write, which was counted
 abbrev pub FlushesTo : Result End Failure → Result (Unit {0}) Failure → Type 0 → Type 0
 FlushesTo end (Err (Write target)) Counted = (end ≡ Err (Write target)) ⊎ ((target ≡ Output) × Counted)

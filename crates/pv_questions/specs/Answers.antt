@@ -1,5 +1,6 @@
 -- The answer to a question: a text with the result that it reports, or a refusal.
-use Rattle.std.specs.Prelude.{◌≡◌, ℕ, max, Bool, true, if◌then◌else◌, List, [], ◌∷◌, Option, None, Some, is_some, not, ◌&&◌, option_map, Result, Ok, Err}
+use Rattle.std.specs.Prelude.{◌≡◌, ⊤, ℕ, max, Bool, true, if◌then◌else◌, List, [], ◌∷◌, Option, None, Some, is_some, not, ◌&&◌, option_map, Result, Ok, Err}
+use Rattle.std.specs.Borrow.{Bor}
 use Rattle.pv_compare.specs.Answering.{compared_of}
 use Rattle.pv_compare.specs.declared.compare.Compared.{Compared}
 use Rattle.pv_compare.specs.declared.compare.Compared.TheVariants.{Same, Incomplete as NotComplete, Different as Differs}
@@ -51,9 +52,12 @@ of_text text = Ok (record { text = text; end = Complete })
 abbrev pub of_lines : List AnswerLine → Answer
 of_lines lines = of_text (answer_bytes lines)
 
+abbrev pub end_of_search : Bool → End
+end_of_search complete = if complete then Complete else Incomplete
+
 -- the answer of a search, which leaves a state out or not
 abbrev pub of_search : List AnswerLine → Bool → Answer
-of_search lines complete = Ok (record { text = answer_bytes lines; end = if complete then Complete else Incomplete })
+of_search lines complete = Ok (record { text = answer_bytes lines; end = end_of_search complete })
 
 -- ---- the start of a run
 
@@ -103,6 +107,31 @@ abbrev pub of_file : Result Bytes AuditFault → Answer
 of_file (Ok text) = of_text text
 of_file (Err fault) = Err (Refused (refusal.NotFile fault))
 
+-- the answers about a state with a process, and with a path
+abbrev pub reach_answer : State → Option ℕ → Answer
+reach_answer s None = of_lines (reach_lines s)
+reach_answer s (Some pid) = of_process (reach_of_one s pid)
+
+abbrev pub audit_answer : State → Option (Bor Bytes) → Answer
+audit_answer s None = of_text (report s)
+audit_answer s (Some path) = of_verdict (audit s path.now)
+
+-- the question is about the state after a run, or a search
+abbrev pub IsOfState : Question → Type 0
+IsOfState asked.State = ⊤
+IsOfState (asked.Reach pid) = ⊤
+IsOfState (asked.Audit path) = ⊤
+IsOfState (asked.Reasons path) = ⊤
+IsOfState question = ⊥
+
+abbrev pub IsSearch : Question → Type 0
+IsSearch (asked.Explore kind states) = ⊤
+IsSearch (asked.Access kind states) = ⊤
+IsSearch (asked.Exposure kind states) = ⊤
+IsSearch (asked.Policy kind granted states) = ⊤
+IsSearch (asked.Graph tree states) = ⊤
+IsSearch question = ⊥
+
 module _ (format : Format) (bytes : Bytes) (turned : Turns) (steps : Option ℕ) where
   -- the answer about a run, about the state after it, about a tree, and about a machine, after the checks
   abbrev pub of_run_by : (Started → Answer) → Answer
@@ -121,13 +150,11 @@ module _ (format : Format) (bytes : Bytes) (turned : Turns) (steps : Option ℕ)
   abbrev pub answer_by : Question → Answer
   answer_by asked.Trace = of_run_by (λ it. of_text (text_of it))
   answer_by asked.State = of_state_by (λ s. of_lines (state_lines s))
-  answer_by (asked.Reach None) = of_state_by (λ s. of_lines (reach_lines s))
-  answer_by (asked.Reach (Some pid)) = of_state_by (λ s. of_process (reach_of_one s pid))
+  answer_by (asked.Reach pid) = of_state_by (λ s. reach_answer s pid)
   answer_by (asked.Explain errors allowed) =
       of_run_by (λ it. of_lines (explained_lines (record { errors = errors; allowed = allowed }) (steps_of it.schedule) it.state))
   answer_by (asked.Needs granted) = of_run_by (λ it. of_lines (lines_of_demands program_of granted (steps_of it.schedule) it.state))
-  answer_by (asked.Audit None) = of_state_by (λ s. of_text (report s))
-  answer_by (asked.Audit (Some path)) = of_state_by (λ s. of_verdict (audit s path.now))
+  answer_by (asked.Audit path) = of_state_by (λ s. audit_answer s path)
   answer_by (asked.Reasons path) = of_state_by (λ s. of_audit (audit_reasons s (option_map (λ p. p.now) path)))
   answer_by asked.Listing = of_tree_by (λ t. of_text (listing t))
   answer_by (asked.File path) = of_tree_by (λ t. of_file (cat_of t path.now))

@@ -1,10 +1,12 @@
 //! Answers, from bytes to bytes.
 //!
 //! `answer` has a function for each question. It writes the answer, and `answer` flushes it once.
-ghost use Rattle.std.specs.Prelude.{◌≡◌, ◌≤◌, length, Ok, OnOk, Err, None};
-ghost use Rattle.pv_questions.specs.Answered.{Answered, Flushes, IsWritten, KeepsOutput, StopsExactly, writes_late};
-ghost use Rattle.pv_questions.specs.Answers.{answer_to, noted_by, run_started};
+ghost use Rattle.std.specs.Prelude.{◌≡◌, Ok, OnOk, Err, None, option_map};
+ghost use Rattle.pv_questions.specs.Answered.{Answered, Flushes, IsWritten, KeepsOutput, StopsExactly, WritesPart, result_of, writes_late};
+ghost use Rattle.pv_questions.specs.Answers.{IsOfState, IsSearch, answer_by, answer_to, audit_answer, end_of_search, noted_by, of_audit, reach_answer, run_started};
+ghost use Rattle.pv_questions.specs.Reasons.{audit_reasons, reasons_at};
 ghost use Rattle.pv_questions.specs.declared.failure.Failure.TheVariants.{Memory};
+ghost use Rattle.pv_questions.specs.declared.input.Turns.TheVariants.{Own};
 
 use crate::failure::{Failure, Refusal, Target};
 use crate::file::{file_at, write_file};
@@ -40,7 +42,9 @@ pub(crate) enum End {
 
 impl End {
     // Returns the end of the answer of a search.
-    fn of_search(is_complete: bool) -> End {
+    fn of_search(is_complete: bool) -> End
+        ensures { result ≡ end_of_search is_complete }
+    {
         if is_complete {
             End::Complete
         } else {
@@ -49,7 +53,9 @@ impl End {
     }
 
     // Returns the result of a command that wrote the text.
-    fn result(self) -> Result<(), Failure> {
+    fn result(self) -> Result<(), Failure>
+        ensures { result_of self result }
+    {
         match self {
             End::Complete => Ok(()),
             End::Incomplete => Err(Failure::Incomplete),
@@ -76,13 +82,11 @@ pub(crate) fn flushed<W: Sink>(end: Result<End, Failure>, out: &mut W) -> Result
 }
 
 // Writes the trace of a run.
-fn write_trace<W: Sink>(
-    alloc: Global,
-    question: Question<'_>,
-    inputs: Inputs,
-    out: &mut W,
-) -> Result<End, Failure> {
-    let Run { mut session, turns } = started(alloc, question, inputs)?;
+fn write_trace<W: Sink>(alloc: Global, inputs: Inputs, out: &mut W) -> Result<End, Failure>
+    ensures written { IsWritten W.Sink (answer_to Question.Trace inputs) out.old out.new result }
+    ensures exact { result ≡ Err Memory → StopsExactly (run_started inputs) (W.written out.old) (W.written out.new) }
+{
+    let Run { mut session, turns } = started(alloc, inputs, false)?;
     run_schedule(alloc, &mut session, &turns, out)?;
     Ok(End::Complete)
 }
@@ -90,12 +94,13 @@ fn write_trace<W: Sink>(
 // Writes the explained trace of a run, with the lines that `extra` adds.
 fn write_steps<W: Sink>(
     alloc: Global,
-    question: Question<'_>,
     extra: Extra,
     inputs: Inputs,
     out: &mut W,
-) -> Result<End, Failure> {
-    let Run { mut session, turns } = started(alloc, question, inputs)?;
+) -> Result<End, Failure>
+    ensures written { IsWritten W.Sink (answer_to (Question.Explain extra.errors extra.allowed) inputs) out.old out.new result }
+{
+    let Run { mut session, turns } = started(alloc, inputs, false)?;
     let mut explainer = Explainer::new(alloc)?;
     explain_schedule(alloc, &mut session, &mut explainer, &turns, extra, out)?;
     Ok(End::Complete)
@@ -104,12 +109,13 @@ fn write_steps<W: Sink>(
 // Writes the demands of each program in a run.
 fn write_needs<W: Sink>(
     alloc: Global,
-    question: Question<'_>,
     granted: bool,
     inputs: Inputs,
     out: &mut W,
-) -> Result<End, Failure> {
-    let Run { mut session, turns } = started(alloc, question, inputs)?;
+) -> Result<End, Failure>
+    ensures written { IsWritten W.Sink (answer_to (Question.Needs granted) inputs) out.old out.new result }
+{
+    let Run { mut session, turns } = started(alloc, inputs, false)?;
     write_demands(alloc, &mut session, &turns, granted, out)?;
     Ok(End::Complete)
 }
@@ -119,7 +125,9 @@ fn write_permissions<W: Sink>(
     session: &Session,
     pid: Option<u32>,
     out: &mut W,
-) -> Result<(), Failure> {
+) -> Result<(), Failure>
+    ensures written { WritesPart W.Sink (reach_answer session.now pid) out.old out.new result }
+{
     let parts = session.parts();
     let Some(pid) = pid else {
         return Ok(write_reach(out, parts)?);
@@ -136,7 +144,9 @@ fn write_audit<W: Sink>(
     session: &Session,
     path: Option<&str>,
     out: &mut W,
-) -> Result<(), Failure> {
+) -> Result<(), Failure>
+    ensures written { WritesPart W.Sink (audit_answer session.now path.entry) out.old out.new result }
+{
     let Some(path) = path else {
         return Ok(write_report(alloc, session, out)?);
     };
@@ -147,7 +157,9 @@ fn write_audit<W: Sink>(
 }
 
 // Writes the verdict on the file of a node, with every reason.
-fn write_reasons_at<W: Sink>(session: &Session, node: u16, out: &mut W) -> Result<(), Failure> {
+fn write_reasons_at<W: Sink>(session: &Session, node: u16, out: &mut W) -> Result<(), Failure>
+    ensures written { WritesPart W.Sink (of_audit (reasons_at session.now (Ok node))) out.old out.new result }
+{
     match session.audit_node(node) {
         Ok(found) => Ok(write_reasons(out, session.parts(), None, node, &found)?),
         Err(fault) => Err(Failure::Refused(Refusal::NotAudited(fault))),
@@ -160,7 +172,9 @@ fn write_every_reason<W: Sink>(
     session: &Session,
     path: Option<&str>,
     out: &mut W,
-) -> Result<(), Failure> {
+) -> Result<(), Failure>
+    ensures written { WritesPart W.Sink (of_audit (audit_reasons session.now (option_map (λ p. p.now) path.entry))) out.old out.new result }
+{
     let Some(path) = path else {
         return Ok(write_reasons_report(alloc, session, out)?);
     };
@@ -177,7 +191,11 @@ fn write_after<W: Sink>(
     inputs: Inputs,
     notes: &mut Vec<u8>,
     out: &mut W,
-) -> Result<End, Failure> {
+) -> Result<End, Failure>
+    requires { IsOfState question.entry }
+    ensures written { IsWritten W.Sink (answer_to question.entry inputs) out.old out.new result }
+    ensures noted { OnOk result (noted_by question.entry inputs ≡ Ok notes.new.items) }
+{
     let session = after(alloc, question, inputs, notes)?;
     match question {
         Question::Reach(pid) => write_permissions(&session, pid, out)?,
@@ -189,7 +207,9 @@ fn write_after<W: Sink>(
 }
 
 // Writes the listing of the tree of an input.
-fn write_names<W: Sink>(alloc: Global, input: Input, out: &mut W) -> Result<End, Failure> {
+fn write_names<W: Sink>(alloc: Global, input: Input, out: &mut W) -> Result<End, Failure>
+    ensures written { IsWritten W.Sink (answer_by input.format input.bytes.items Own None Question.Listing) out.old out.new result }
+{
     let store = store_of(alloc, input, true)?;
     write_listing(alloc, store.tree(), out)?;
     Ok(End::Complete)
@@ -201,7 +221,9 @@ fn write_contents<W: Sink>(
     path: &str,
     input: Input,
     out: &mut W,
-) -> Result<End, Failure> {
+) -> Result<End, Failure>
+    ensures written { IsWritten W.Sink (answer_by input.format input.bytes.items Own None (Question.File path.entry)) out.old out.new result }
+{
     let store = store_of(alloc, input, false)?;
     match file_at(store.tree(), path.as_bytes()) {
         Ok(node) => {
@@ -219,7 +241,9 @@ fn write_schedule<W: Sink>(
     steps: u32,
     input: Input,
     out: &mut W,
-) -> Result<End, Failure> {
+) -> Result<End, Failure>
+    ensures written { IsWritten W.Sink (answer_by input.format input.bytes.items Own None (Question.Turns slice steps)) out.old out.new result }
+{
     let mut session = session_on(alloc, input)?;
     write_turns(alloc, &mut session, slice.max(1), steps, out)?;
     Ok(End::Complete)
@@ -232,7 +256,11 @@ fn write_search<W: Sink, P: Progress>(
     input: Input,
     progress: &mut P,
     out: &mut W,
-) -> Result<End, Failure> {
+) -> Result<End, Failure>
+    requires { IsSearch question.entry }
+    ensures written { IsWritten W.Sink (answer_by input.format input.bytes.items Own None question.entry) out.old out.new result }
+    ensures late { result ≡ Err Memory → writes_late question.entry → KeepsOutput W.Sink out.old out.new }
+{
     let machine = &first_machine_on(alloc, input)?;
     let is_complete = match question {
         Question::Access { kind, states } => {
@@ -271,11 +299,11 @@ fn write_answer<W: Sink, P: Progress>(
 {
     notes.clear();
     match question {
-        Question::Trace => write_trace(alloc, question, inputs, out),
+        Question::Trace => write_trace(alloc, inputs, out),
         Question::Explain { errors, allowed } => {
-            write_steps(alloc, question, Extra { errors, allowed }, inputs, out)
+            write_steps(alloc, Extra { errors, allowed }, inputs, out)
         }
-        Question::Needs { granted } => write_needs(alloc, question, granted, inputs, out),
+        Question::Needs { granted } => write_needs(alloc, granted, inputs, out),
         Question::State | Question::Reach(_) | Question::Audit(_) | Question::Reasons(_) => {
             write_after(alloc, question, inputs, notes, out)
         }

@@ -1,9 +1,10 @@
 //! The start of a run, and the machine after it.
 ghost use Rattle.std.specs.Prelude.{◌≡◌, ◌≤◌, length, Ok, Err, IfOk, IfErr, OnOk};
 ghost use Rattle.pv_model.specs.declared.limits.TheConstants.{SCHEDULE_LINES};
-ghost use Rattle.pv_questions.specs.Answers.{fair_text_of, last_state, noted_by, run_started};
+ghost use Rattle.pv_questions.specs.Answers.{fair_text_of, last_state, noted_by, run_started, started_under, whole_started};
 ghost use Rattle.pv_questions.specs.Failures.{Refuses};
 ghost use Rattle.pv_questions.specs.Trees.{tree_in};
+ghost use Rattle.pv_questions.specs.declared.input.Turns.TheVariants.{Own};
 ghost use Rattle.pv_run.specs.Run.{started_from};
 
 use crate::failure::{Failure, Refusal};
@@ -30,7 +31,7 @@ pub(crate) struct Run {
 
 // Returns a copy of an input.
 fn copy_of(alloc: Global, input: &Input) -> Result<Input, Failure>
-    ensures { IfOk result (λ copy. (copy.format ≡ input.now.format)) }
+    ensures { IfOk result (λ copy. (copy.format ≡ input.now.format) × (copy.bytes.items ≡ input.now.bytes.items)) }
 {
     let mut bytes = Vec::new(alloc);
     bytes.extend_from_slice(&input.bytes)?;
@@ -52,18 +53,19 @@ fn fair_text(alloc: Global, input: &Input) -> Result<Vec<u8>, Failure>
 }
 
 // Returns the start of the run of a schedule on the tree of an input.
-fn ready_under(
-    alloc: Global,
-    input: Input,
-    schedule: &[u8],
-    listed: bool,
-) -> Result<Ready, Failure> {
+fn ready_under(alloc: Global, input: Input, schedule: &[u8], listed: bool) -> Result<Ready, Failure>
+    ensures started { IfOk result (λ r. started_under input.format input.bytes.items schedule.now ≡ Ok (started_from r.session r.schedule)) }
+    ensures refused { IfErr result (Refuses (started_under input.format input.bytes.items schedule.now)) }
+{
     let store = store_of(alloc, input, listed)?;
     Ok(start_on(alloc, store, schedule)?)
 }
 
 // Returns the start of the run of an input under its own schedule.
-fn ready_alone(alloc: Global, input: Input) -> Result<Ready, Failure> {
+fn ready_alone(alloc: Global, input: Input) -> Result<Ready, Failure>
+    ensures started { IfOk result (λ r. whole_started input.format input.bytes.items Own ≡ Ok (started_from r.session r.schedule)) }
+    ensures refused { IfErr result (Refuses (whole_started input.format input.bytes.items Own)) }
+{
     match input.format {
         Format::Text => Ok(start_bundle(alloc, &input.bytes)?),
         Format::Image => {
@@ -74,7 +76,10 @@ fn ready_alone(alloc: Global, input: Input) -> Result<Ready, Failure> {
 }
 
 // Returns the start of the whole run of an input.
-fn ready(alloc: Global, input: Input, turns: Turns, listed: bool) -> Result<Ready, Failure> {
+fn ready(alloc: Global, input: Input, turns: Turns, listed: bool) -> Result<Ready, Failure>
+    ensures started { IfOk result (λ r. whole_started input.format input.bytes.items turns ≡ Ok (started_from r.session r.schedule)) }
+    ensures refused { IfErr result (Refuses (whole_started input.format input.bytes.items turns)) }
+{
     match turns {
         Turns::Own => ready_alone(alloc, input),
         Turns::Text(text) => ready_under(alloc, input, &text, listed),
@@ -85,16 +90,8 @@ fn ready(alloc: Global, input: Input, turns: Turns, listed: bool) -> Result<Read
     }
 }
 
-// Returns whether the answer to a question lists all files.
-fn lists_all(question: Question<'_>) -> bool {
-    matches!(
-        question,
-        Question::Reach(_) | Question::Audit(None) | Question::Reasons(None)
-    )
-}
-
-// Returns the start of the run of a question, whose schedule is cut.
-pub(crate) fn started(alloc: Global, question: Question<'_>, inputs: Inputs) -> Result<Run, Failure>
+// Returns the start of a run, whose schedule is cut. `listed` says whether all directories will be listed.
+pub(crate) fn started(alloc: Global, inputs: Inputs, listed: bool) -> Result<Run, Failure>
     ensures started { IfOk result (λ run. run_started inputs ≡ Ok (started_from run.session run.turns.items)) }
     ensures few { IfOk result (λ run. length run.turns.items ≤ SCHEDULE_LINES) }
     ensures refused { IfErr result (Refuses (run_started inputs)) }
@@ -104,9 +101,17 @@ pub(crate) fn started(alloc: Global, question: Question<'_>, inputs: Inputs) -> 
         turns,
         steps,
     } = inputs;
-    let Ready { session, schedule } = ready(alloc, input, turns, lists_all(question))?;
+    let Ready { session, schedule } = ready(alloc, input, turns, listed)?;
     let turns = first_turns(alloc, schedule.turns(), steps)?;
     Ok(Run { session, turns })
+}
+
+// Returns whether the answer to a question lists all files.
+fn lists_all(question: Question<'_>) -> bool {
+    matches!(
+        question,
+        Question::Reach(_) | Question::Audit(None) | Question::Reasons(None)
+    )
 }
 
 // Returns the machine after the run of a question, and replaces the notes by those beside its answer.
@@ -120,7 +125,7 @@ pub(crate) fn after(
     ensures noted { OnOk result (noted_by question.entry inputs ≡ Ok notes.new.items) }
     ensures refused { IfErr result (Refuses (run_started inputs)) }
 {
-    let Run { mut session, turns } = started(alloc, question, inputs)?;
+    let Run { mut session, turns } = started(alloc, inputs, lists_all(question))?;
     let is_loaded = has_init(session.tree());
     pass_schedule(alloc, &mut session, &turns)?;
     *notes = notes_of(alloc, question, is_loaded, &session)?;
