@@ -362,7 +362,7 @@ const SEARCHES: &[CommandRow] = &[
     CommandRow {
         name: "compare",
         about: "Say whether two images or sources let the same happen under any schedule, calls of pledge and unveil aside",
-        example: "'the same' is about these programs. An attacker makes other calls: see audit and exposure.\n\nExample, with the files of examples/:\n  pvsim compare motd.bundle sources/motd",
+        example: "'the same' is about these programs. An attacker makes other calls: see audit and exposure.\n\nExample, with the files of examples/:\n  pvsim compare motd.bundle motd.manifest",
         arguments: &[FIRST_BUNDLE, FIRST_INPUT, OTHER, PAIRS],
     },
     CommandRow {
