@@ -19,7 +19,7 @@ abbrev pub file_written : Command → Option Bytes
 file_written (MakeImage manifest image) = Some image.now
 file_written (RunImage image schedule out) = Some out.now
 file_written (MigrateImage image out blocks inodes) = Some out.now
-file_written (ImportDirectory directory image version skips source) = Some image.now
+file_written (ImportDirectory import) = Some import.image.now
 file_written command = None
 
 abbrev pub directory_made : Command → Option Bytes

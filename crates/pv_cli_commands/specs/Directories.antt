@@ -1,5 +1,6 @@
 -- Import of directories as images, and export of trees to directories.
 use Rattle.std.specs.Prelude.{◌≡◌, ◌⊎◌, ℕ, List, [], map, Option, None, Some, Result, Ok, Err, IfErr, OnOk}
+use Rattle.std.specs.Borrow.{Bor}
 use Rattle.pv_host_copy.specs.Encoded.{encoded_entries}
 use Rattle.pv_host_copy.specs.Hosts.{HostEntries}
 use Rattle.pv_host_copy.specs.Unpacked.{WritesExport}
@@ -20,7 +21,7 @@ use Rattle.pv_questions.specs.declared.failure.Origin.TheVariants.{Directory as 
 use Rattle.pv_questions.specs.declared.failure.Refusal.TheVariants.{Entries}
 use Rattle.pv_questions.specs.declared.failure.Target.TheVariants.{Directory, Errors, File, Node}
 use Rattle.pv_questions.specs.declared.input.Input.{Input}
-use Rattle.pv_cli_commands.specs.declared.importing.Wanted.{Wanted}
+use Rattle.pv_cli_commands.specs.declared.command.Import.{Import}
 use Rattle.pv_cli_commands.specs.Streams.{Disk, FailsToTake, Host, IsCreatedOn, IsEmptiedOn}
 use Rattle.pv_cli_commands.specs.Writing.{Becomes, Creates}
 
@@ -32,29 +33,36 @@ of_import import.WriteLines = Write Errors
 of_import import.WriteImage = Write File
 
 -- the image of a directory and of some entries was written, and the skipped entries were reported
-pub record ImportsEntries {V E : Type 0} (writing : Writing V) (reporting : Writing E) (wanted : Wanted) (given : List (ℕ × Entry)) (known : Option HostEntries)
+pub record ImportsEntries {V E : Type 0} (writing : Writing V) (reporting : Writing E) (asked : Import) (given : List (ℕ × Entry)) (known : Option HostEntries)
     (before after : V) (unreported reported : E) (end : Result (Unit {0}) ImportStop) : Type 0 where
-  pub imports : Imports wanted.version given wanted.skips known end (writing.written before) (writing.written after) (reporting.written unreported) (reporting.written reported)
+  pub imports : Imports asked.version given asked.skips known end (writing.written before) (writing.written after) (reporting.written unreported) (reporting.written reported)
   pub flushed : OnOk end (writing.buffered after ≡ 0)
   -- a failed write was counted
   pub write_lines : end ≡ Err import.WriteLines → FailsToTake reporting unreported reported
   pub write_image : end ≡ Err import.WriteImage → FailsToTake writing before after
 
-module _ {F R V E : Type 0} (disk : Disk F R V) (reporting : Writing E) (entries : Bytes → Option HostEntries) (wanted : Wanted) where
+module _ {F R V E : Type 0} (disk : Disk F R V) (reporting : Writing E) (entries : Bytes → Option HostEntries) (asked : Import) where
   -- the same, to the file with a name; or the directory, whose entries are not known, could not be opened
   abbrev pub ImportsGiven : List (ℕ × Entry) → E → E → Result (Unit {0}) Failure → Type 0
   ImportsGiven given unreported reported result =
-      Creates disk wanted.image.now result (λ before after. (end : Result (Unit {0}) ImportStop)
-      × ImportsEntries disk.writing reporting wanted given (entries wanted.directory.now) before after unreported reported end × Becomes of_import end result)
-      ⊎ ((entries wanted.directory.now ≡ None) × (result ≡ Err (Read FromDirectory)) × (reported ≡ unreported))
+      Creates disk asked.image.now result (λ before after. (end : Result (Unit {0}) ImportStop)
+      × ImportsEntries disk.writing reporting asked given (entries asked.directory.now) before after unreported reported end × Becomes of_import end result)
+      ⊎ ((entries asked.directory.now ≡ None) × (result ≡ Err (Read FromDirectory)) × (reported ≡ unreported))
 
-  -- the same with the entries of a manifest or bundle, if one is given; or it is refused
-  abbrev pub ImportsDirectory : Option Input → E → E → Result (Unit {0}) Failure → Type 0
-  ImportsDirectory None unreported reported result = ImportsGiven [] unreported reported result
-  ImportsDirectory (Some source) unreported reported result =
+  -- the same with the entries of a manifest or bundle; or it is refused
+  abbrev pub ImportsSource : Input → E → E → Result (Unit {0}) Failure → Type 0
+  ImportsSource source unreported reported result =
       ((manifest : Manifest) × GivesManifestOf (Ok manifest) (read_manifest_of source.bytes.items)
       × ImportsGiven (map entry_of_line manifest.entries.items) unreported reported result)
       ⊎ (IfErr result (Refuses (manifest_in source.bytes.items)) × (reported ≡ unreported))
+
+  -- the same if a source is named; otherwise no entry is added
+  abbrev pub ImportsNamed : Option (Bor Bytes) → Input → E → E → Result (Unit {0}) Failure → Type 0
+  ImportsNamed None source unreported reported result = ImportsGiven [] unreported reported result
+  ImportsNamed (Some name) source unreported reported result = ImportsSource source unreported reported result
+
+  abbrev pub ImportsDirectory : Input → E → E → Result (Unit {0}) Failure → Type 0
+  ImportsDirectory source unreported reported result = ImportsNamed asked.source source unreported reported result
 
 abbrev pub of_export : ExportFault → Failure
 of_export export.Memory = Memory

@@ -46,11 +46,11 @@ source_named None = None
 source_named (Some name) = Some (input_named (input.Source name))
 
 abbrev pub first_named : Command → Option Named
-first_named (command.Ask question file schedule steps) = Some (input_named file)
+first_named (command.Ask asking) = Some (input_named asking.input)
 first_named (command.Compare first second pairs) = Some (input_named first)
 first_named (command.ExportImage file directory) = Some (input_named file)
 first_named (command.WriteSource source kind) = Some (input_named (input.Bundle source))
-first_named (command.ImportDirectory directory image version skips source) = source_named source
+first_named (command.ImportDirectory import) = source_named import.source
 first_named (command.MakeImage manifest image) = Some (plain_named manifest Text)
 first_named (command.RunImage image schedule out) = Some (plain_named image Image)
 first_named (command.MigrateImage image out blocks inodes) = Some (plain_named image Image)
@@ -71,7 +71,7 @@ schedule_named (File name) = Some (record { name = name; form = Given Text; has_
 schedule_named schedule = None
 
 abbrev pub second_named : Command → Format → Option Named
-second_named (command.Ask question file schedule steps) format = schedule_named (settled_schedule question schedule format)
+second_named (command.Ask asking) format = schedule_named (settled_schedule asking.question asking.schedule format)
 second_named (command.Compare first second pairs) format = Some (input_named second)
 second_named (command.RunImage image schedule out) format = Some (plain_named schedule Text)
 second_named other format = None

@@ -21,7 +21,6 @@ use Rattle.pv_source.specs.Given.{WritesOutput}
 use Rattle.pv_source.specs.declared.source.Output.{Output as SourceOutput}
 use Rattle.pv_source.specs.declared.source.SourceStop.{SourceStop}
 use Rattle.pv_source.specs.declared.source.SourceStop.TheVariants as stop
-use Rattle.pv_cli_commands.specs.declared.reading.Inputs.{Inputs}
 use Rattle.pv_cli_commands.specs.Streams.{Disk, FailsToTake, IsCreatedOn}
 
 -- a result becomes that of a command
@@ -40,10 +39,10 @@ MakesFile disk manifest image result =
     Creates disk image result (λ before after. (end : Result (Unit {0}) RunFault) × MakesImage disk.writing manifest.bytes.items before after end × Becomes of_run end result)
 
 -- a schedule was run on an image, and the image after the run was written to the file with a name
-abbrev pub RunsFiles : {F R V W : Type 0} → Disk F R V → Writing W → Inputs → Bytes → W → W → Result (Unit {0}) Failure → Type 0
-RunsFiles disk tracing inputs out trace trace_new result =
+abbrev pub RunsFiles : {F R V W : Type 0} → Disk F R V → Writing W → Input → Input → Bytes → W → W → Result (Unit {0}) Failure → Type 0
+RunsFiles disk tracing image schedule out trace trace_new result =
     Creates disk out result (λ before after. (end : Result Summary RunFault)
-    × RunsGivenImage tracing disk.writing (λ holds. holds inputs.first.bytes.items inputs.second.bytes.items) ⊥ trace trace_new before after end × Becomes of_run end result)
+    × RunsGivenImage tracing disk.writing (λ holds. holds image.bytes.items schedule.bytes.items) ⊥ trace trace_new before after end × Becomes of_run end result)
 
 abbrev pub of_migration : MigratingStop → Failure
 of_migration Unwritten = Write File

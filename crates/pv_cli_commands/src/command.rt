@@ -28,21 +28,40 @@ pub enum ScheduleInput<'a> {
     Fair,
 }
 
+/// A question about the tree of an input, or about a run of the machine that boots on it.
+#[derive(Clone, Copy)]
+pub struct Asking<'a> {
+    /// The question.
+    pub question: Question<'a>,
+    /// The input.
+    pub input: InputFile<'a>,
+    /// The schedule. If an audit has a path and no schedule, and the input is an image, the path is the file of the
+    /// schedule.
+    pub schedule: ScheduleInput<'a>,
+    /// The number of steps after which the schedule is cut.
+    pub steps: Option<u32>,
+}
+
+/// The import of a host directory as an image.
+#[derive(Clone, Copy)]
+pub struct Import<'a> {
+    /// The directory.
+    pub directory: &'a str,
+    /// The file to which the image is written.
+    pub image: &'a str,
+    /// The version of the image.
+    pub version: Version,
+    /// Whether entries that an image can't have are skipped.
+    pub skips: bool,
+    /// The file of a source whose entries are added. `-` is the standard input.
+    pub source: Option<&'a str>,
+}
+
 /// A command.
 #[derive(Clone, Copy)]
 pub enum Command<'a> {
-    /// Answers a question about the tree of an input, or about a run of the machine that boots on it.
-    Ask {
-        /// The question.
-        question: Question<'a>,
-        /// The input.
-        input: InputFile<'a>,
-        /// The schedule. If an audit has a path and no schedule, and the input is an image, the path is the file of the
-        /// schedule.
-        schedule: ScheduleInput<'a>,
-        /// The number of steps after which the schedule is cut.
-        steps: Option<u32>,
-    },
+    /// Answers a question.
+    Ask(Asking<'a>),
     /// Compares what two inputs let happen under all schedules.
     Compare {
         /// The first input.
@@ -87,18 +106,7 @@ pub enum Command<'a> {
         inodes: u32,
     },
     /// Makes an image of a host directory, with the entries of a source if one is given.
-    ImportDirectory {
-        /// The directory.
-        directory: &'a str,
-        /// The file to which the image is written.
-        image: &'a str,
-        /// The version of the image.
-        version: Version,
-        /// Whether entries that an image can't have are skipped.
-        skips: bool,
-        /// The file of the source. `-` is the standard input.
-        source: Option<&'a str>,
-    },
+    ImportDirectory(Import<'a>),
     /// Makes a host directory from the tree of an input.
     ExportImage {
         /// The input.

@@ -3,27 +3,14 @@ ghost use Rattle.std.specs.Prelude.{◌≡◌, map};
 ghost use Rattle.pv_cli_commands.specs.Directories.{ImportsDirectory};
 ghost use Rattle.pv_cli_commands.specs.Streams.{disk_of};
 
+use crate::command::Import;
 use crate::directories::Directories;
 use crate::system::Files;
 use pv_host_copy::{HostFault, ImportStop, import_image};
 use pv_image_manifest::Entry;
-use pv_model::Version;
 use pv_questions::{Failure, Input, Origin, Refusal, Target, manifest_of};
 use pv_streams::Sink;
 use std::alloc::Global;
-
-/// A directory, and the image that is made of it.
-#[derive(Clone, Copy)]
-pub(crate) struct Wanted<'a> {
-    /// The directory.
-    pub(crate) directory: &'a str,
-    /// The file to which the image is written.
-    pub(crate) image: &'a str,
-    /// The version of the image.
-    pub(crate) version: Version,
-    /// Whether entries that an image can't have are skipped.
-    pub(crate) skips: bool,
-}
 
 // Returns the failure of an import.
 fn of_import(stop: ImportStop) -> Failure {
@@ -40,17 +27,17 @@ fn of_import(stop: ImportStop) -> Failure {
 fn import_entries<F: Files + Directories, E: Sink>(
     alloc: Global,
     files: &mut F,
-    wanted: Wanted<'_>,
+    import: Import<'_>,
     given: &[Entry],
     errors: &mut E,
 ) -> Result<(), Failure> {
-    let directory = match files.open_directory(alloc, wanted.directory) {
+    let directory = match files.open_directory(alloc, import.directory) {
         Ok(directory) => directory,
         Err(HostFault::Read) => return Err(Failure::Read(Origin::Directory)),
         Err(HostFault::Memory) => return Err(Failure::Memory),
     };
-    let mut image = files.create(alloc, wanted.image)?;
-    let Wanted { version, skips, .. } = wanted;
+    let mut image = files.create(alloc, import.image)?;
+    let Import { version, skips, .. } = import;
     match import_image(alloc, version, skips, directory, given, &mut image, errors) {
         Ok(()) => Ok(()),
         Err(stop) => Err(of_import(stop)),
@@ -61,15 +48,15 @@ fn import_entries<F: Files + Directories, E: Sink>(
 pub(crate) fn import_directory<F: Files + Directories, E: Sink>(
     alloc: Global,
     files: &mut F,
-    wanted: Wanted<'_>,
-    source: Option<Input>,
+    import: Import<'_>,
+    source: Input,
     errors: &mut E,
 ) -> Result<(), Failure>
-    ensures { ImportsDirectory (disk_of F.Files F.Reader.Source F.Writer.Sink) E.Sink (F.entries files.old) wanted.entry source errors.old errors.new result }
+    ensures { ImportsDirectory (disk_of F.Files F.Reader.Source F.Writer.Sink) E.Sink (F.entries files.old) import.entry source errors.old errors.new result }
 {
-    let Some(source) = source else {
-        return import_entries(alloc, files, wanted, &[], errors);
-    };
+    if import.source.is_none() {
+        return import_entries(alloc, files, import, &[], errors);
+    }
     let manifest = manifest_of(alloc, &source.bytes)?;
-    import_entries(alloc, files, wanted, &manifest.entries, errors)
+    import_entries(alloc, files, import, &manifest.entries, errors)
 }

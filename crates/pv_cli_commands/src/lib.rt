@@ -19,7 +19,7 @@ pub mod reading;
 pub mod system;
 mod writing;
 
-pub use command::{Command, InputFile, ScheduleInput};
+pub use command::{Asking, Command, Import, InputFile, ScheduleInput};
 pub use directories::Directories;
 pub use performing::perform;
 pub use pv_host_copy as host_copy;

@@ -1,14 +1,15 @@
 //! Execution of commands.
-ghost use Rattle.std.specs.Prelude.{◌≡◌, ◌≢◌, IfErr};
-ghost use Rattle.pv_cli_commands.specs.Commands.{Flushes, KeepsErrors, Performs, ReadsFiles, WritesFile};
+ghost use Rattle.std.specs.Prelude.{◌≡◌, ◌≢◌, IfErr, IfOk};
+ghost use Rattle.pv_cli_commands.specs.OfQuestions.declared.failure.Failure.TheVariants.{Memory};
+ghost use Rattle.pv_cli_commands.specs.Commands.{Asks, Flushes, IsScheduleOf, KeepsErrors, Performs, ReadsFiles, WritesFile, WritesNoted};
 ghost use Rattle.pv_cli_commands.specs.OfQuestions.Failures.{status_of};
 ghost use Rattle.pv_cli_commands.specs.Created.{CreatesOnly, directory_made, file_written};
 ghost use Rattle.pv_cli_commands.specs.Streams.{disk_of, host_of};
 
-use crate::command::{Command, ScheduleInput};
+use crate::command::{Asking, Command, ScheduleInput};
 use crate::directories::Directories;
 use crate::exporting::export_input;
-use crate::importing::{Wanted, import_directory};
+use crate::importing::import_directory;
 use crate::reading::{Inputs, read_inputs, settled_question, settled_schedule};
 use crate::system::{Files, HostSystem};
 use crate::writing::{make_file, migrate_file, run_files, write_output};
@@ -19,7 +20,10 @@ use pv_streams::{Sink, Source};
 use std::alloc::Global;
 
 // Returns the schedule of a question.
-fn turns_of(alloc: Global, schedule: ScheduleInput<'_>, text: Vec<u8>) -> Result<Turns, Failure> {
+fn turns_of(alloc: Global, schedule: ScheduleInput<'_>, text: Vec<u8>) -> Result<Turns, Failure>
+    ensures value { IfOk result (IsScheduleOf schedule.entry text) }
+    ensures memory { IfErr result (λ failure. failure ≡ Memory) }
+{
     match schedule {
         ScheduleInput::Own => Ok(Turns::Own),
         ScheduleInput::Fair => Ok(Turns::Fair),
@@ -31,20 +35,27 @@ fn turns_of(alloc: Global, schedule: ScheduleInput<'_>, text: Vec<u8>) -> Result
 // Answers a question about the inputs that were read.
 fn ask<W: Sink, P: Progress>(
     alloc: Global,
-    question: Question<'_>,
-    schedule: ScheduleInput<'_>,
-    steps: Option<u32>,
+    asking: Asking<'_>,
     inputs: Inputs,
     notes: &mut Vec<u8>,
     progress: &mut P,
     out: &mut W,
-) -> Result<(), Failure> {
+) -> Result<(), Failure>
+    ensures { Asks W.Sink asking.entry inputs out.old out.new notes.new.items result }
+{
+    let Asking {
+        question,
+        schedule,
+        steps,
+        ..
+    } = asking;
     let Inputs { first, second } = inputs;
     let asked = settled_question(question, schedule, first.format);
     let schedule = settled_schedule(question, schedule, first.format);
+    let turns = turns_of(alloc, schedule, second.bytes)?;
     let inputs = Asked {
         input: first,
-        turns: turns_of(alloc, schedule, second.bytes)?,
+        turns,
         steps,
     };
     answer(alloc, asked, inputs, notes, progress, out)
@@ -58,56 +69,40 @@ fn perform_on<F: Files + Directories + Drop, I: Drop, O: Sink + Drop, E: Sink + 
     system: &mut HostSystem<F, I, O, E>,
     notes: &mut Vec<u8>,
     progress: &mut P,
-) -> Result<(), Failure> {
+) -> Result<(), Failure>
+    ensures writes { WritesNoted (disk_of F.Files F.Reader.Source F.Writer.Sink) (host_of F.entries F.target_of F.Target.made) O.Sink E.Sink command.entry inputs system.old system.new notes.old.items notes.new.items result }
+    ensures flushed { Flushes O.Sink system.old.output system.new.output result }
+    ensures created { CreatesOnly (file_written command.entry) (F.created system.old.files) (F.created system.new.files) }
+    ensures targets { CreatesOnly (directory_made command.entry) (F.targets system.old.files) (F.targets system.new.files) }
+{
     let HostSystem {
         files,
         output,
         errors,
         ..
     } = system;
+    let Inputs { first, second } = inputs;
     match command {
-        Command::Ask {
-            question,
-            schedule,
-            steps,
-            ..
-        } => ask(
-            alloc, question, schedule, steps, inputs, notes, progress, output,
+        Command::Ask(asking) => {
+            let inputs = Inputs { first, second };
+            ask(alloc, asking, inputs, notes, progress, output)
+        }
+        Command::Compare { pairs, .. } => compare(alloc, pairs, first, second, progress, output),
+        Command::WriteSource { source, kind } => write_output(
+            alloc, kind, source, first, output, errors,
         ),
-        Command::Compare { pairs, .. } => {
-            let Inputs { first, second } = inputs;
-            compare(alloc, pairs, first, second, progress, output)
-        }
-        Command::WriteSource { source, kind } => {
-            write_output(alloc, kind, source, inputs.first, output, errors)
-        }
-        Command::MakeImage { image, .. } => make_file(alloc, files, inputs.first, image),
-        Command::RunImage { out, .. } => run_files(alloc, files, inputs, out, output),
+        Command::MakeImage { image, .. } => make_file(alloc, files, first, image),
+        Command::RunImage { out, .. } => run_files(alloc, files, first, second, out, output),
         Command::MigrateImage {
             out,
             blocks,
             inodes,
             ..
-        } => migrate_file(alloc, files, inputs.first, out, blocks, inodes),
-        Command::ImportDirectory {
-            directory,
-            image,
-            version,
-            skips,
-            source,
-        } => {
-            let wanted = Wanted {
-                directory,
-                image,
-                version,
-                skips,
-            };
-            let given = source.map(|_| inputs.first);
-            import_directory(alloc, files, wanted, given, errors)
-        }
-        Command::ExportImage { directory, .. } => {
-            export_input(alloc, files, inputs.first, directory, errors)
-        }
+        } => migrate_file(alloc, files, first, out, blocks, inodes),
+        Command::ImportDirectory(import) => import_directory(alloc, files, import, first, errors),
+        Command::ExportImage { directory, .. } => export_input(
+            alloc, files, first, directory, errors,
+        ),
     }
 }
 

@@ -69,11 +69,12 @@ pub(crate) fn first_named<'a>(command: Command<'a>) -> Option<Named<'a>>
     ensures { result ≡ first_named command.entry }
 {
     match command {
-        Command::Ask { input, .. }
-        | Command::Compare { first: input, .. }
-        | Command::ExportImage { input, .. } => Some(named(input)),
+        Command::Ask(asking) => Some(named(asking.input)),
+        Command::Compare { first: input, .. } | Command::ExportImage { input, .. } => {
+            Some(named(input))
+        }
         Command::WriteSource { source, .. } => Some(named(InputFile::Bundle(source))),
-        Command::ImportDirectory { source, .. } => Some(named(InputFile::Source(source?))),
+        Command::ImportDirectory(import) => Some(named(InputFile::Source(import.source?))),
         Command::MakeImage { manifest, .. } => Some(plain(manifest, Format::Text)),
         Command::RunImage { image, .. } | Command::MigrateImage { image, .. } => {
             Some(plain(image, Format::Image))
@@ -130,11 +131,7 @@ pub(crate) fn second_named<'a>(command: Command<'a>, format: Format) -> Option<N
     ensures { result ≡ second_named command.entry format }
 {
     match command {
-        Command::Ask {
-            question,
-            schedule,
-            ..
-        } => match settled_schedule(question, schedule, format) {
+        Command::Ask(asking) => match settled_schedule(asking.question, asking.schedule, format) {
             ScheduleInput::File(name) => Some(Named {
                 has_input: true,
                 ..plain(name, Format::Text)
@@ -146,7 +143,7 @@ pub(crate) fn second_named<'a>(command: Command<'a>, format: Format) -> Option<N
         Command::WriteSource { .. }
         | Command::MakeImage { .. }
         | Command::MigrateImage { .. }
-        | Command::ImportDirectory { .. }
+        | Command::ImportDirectory(_)
         | Command::ExportImage { .. } => None,
     }
 }

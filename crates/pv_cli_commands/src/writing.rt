@@ -2,7 +2,7 @@
 ghost use Rattle.pv_cli_commands.specs.Writing.{MakesFile, MigratesFile, RunsFiles, WritesSource};
 ghost use Rattle.pv_cli_commands.specs.Streams.{disk_of};
 
-use crate::reading::{Inputs, of_source};
+use crate::reading::of_source;
 use crate::system::Files;
 use pv_image::{MigratingStop, write_migrated};
 use pv_model::{ImageFault, MigrateFault};
@@ -29,15 +29,15 @@ pub(crate) fn make_file<F: Files>(
 pub(crate) fn run_files<F: Files, W: Sink>(
     alloc: Global,
     files: &mut F,
-    inputs: Inputs,
+    image: Input,
+    schedule: Input,
     out: &str,
     trace: &mut W,
 ) -> Result<(), Failure>
-    ensures { RunsFiles (disk_of F.Files F.Reader.Source F.Writer.Sink) W.Sink inputs out.now trace.old trace.new result }
+    ensures { RunsFiles (disk_of F.Files F.Reader.Source F.Writer.Sink) W.Sink image schedule out.now trace.old trace.new result }
 {
     let mut out = files.create(alloc, out)?;
-    let Inputs { first, second } = inputs;
-    run_image(alloc, first.bytes, &second.bytes, trace, &mut out)?;
+    run_image(alloc, image.bytes, &schedule.bytes, trace, &mut out)?;
     Ok(())
 }
 

@@ -235,7 +235,7 @@ IsSizeIn rows argument size = IsNumberIn (first_of argument rows) (Some size)
 
 -- the arguments of a command were entered under this name
 abbrev pub IsNamedIn : Text → List Row → Command → Type 0
-IsNamedIn name rows (Ask question file schedule steps) = (name ≡ question_name question) × IsQuestionIn rows file schedule steps question
+IsNamedIn name rows (Ask asking) = (name ≡ question_name asking.question) × IsQuestionIn rows asking.input asking.schedule asking.steps asking.question
 IsNamedIn name rows (Compare first second pairs) =
     (name ≡ codes "compare") × IsComparedIn rows first second × (states_in (first_of (codes "states") rows) ≡ Some pairs)
 IsNamedIn name rows (WriteSource source kind) =
@@ -247,10 +247,10 @@ IsNamedIn name rows (RunImage image schedule out) =
 IsNamedIn name rows (MigrateImage image out blocks inodes) =
     (name ≡ codes "migrate") × (first_of (codes "IMAGE") rows ≡ Some image.now) × (first_of (codes "OUT") rows ≡ Some out.now)
     × IsSizeIn rows (codes "BLOCKS") blocks × IsSizeIn rows (codes "INODES") inodes
-IsNamedIn name rows (ImportDirectory directory image version skips source) =
-    (name ≡ codes "import") × (first_of (codes "DIR") rows ≡ Some directory.now) × (first_of (codes "IMAGE") rows ≡ Some image.now)
-    × (version_in (first_of (codes "image-version") rows) ≡ Some version) × (is_set rows (codes "skip") ≡ skips)
-    × (option_map (λ text. text.now) source ≡ first_of (codes "with") rows)
+IsNamedIn name rows (ImportDirectory import) =
+    (name ≡ codes "import") × (first_of (codes "DIR") rows ≡ Some import.directory.now) × (first_of (codes "IMAGE") rows ≡ Some import.image.now)
+    × (version_in (first_of (codes "image-version") rows) ≡ Some import.version) × (is_set rows (codes "skip") ≡ import.skips)
+    × (option_map (λ text. text.now) import.source ≡ first_of (codes "with") rows)
 IsNamedIn name rows (ExportImage file directory) = (name ≡ codes "export") × IsExportedIn rows file × (first_of (codes "DIR") rows ≡ Some directory.now)
 
 -- the matches of a subcommand are those of this command and its arguments
@@ -259,13 +259,21 @@ IsCommandIn None command = ⊥
 IsCommandIn (Some p) command = IsNamedIn p.0 p.1 command
 
 -- the turns of a command, in place of a schedule
+abbrev pub turns_in : ScheduleInput → Option Text
+turns_in (AsTurns turns) = Some turns.now
+turns_in schedule = None
+
 abbrev pub turns_of : Command → Option Text
-turns_of (Ask question file (AsTurns turns) steps) = Some turns.now
+turns_of (Ask asking) = turns_in asking.schedule
 turns_of command = None
 
 -- without words, the command is to run the bundle on the standard input
+abbrev pub IsTraceOfInput : Question → InputFile → ScheduleInput → Option ℕ → Type 0
+IsTraceOfInput asked.Trace (input.Bundle file) Own None = file.now ≡ codes "-"
+IsTraceOfInput question file schedule steps = ⊥
+
 abbrev pub IsWithoutWords : Command → Type 0
-IsWithoutWords (Ask asked.Trace (input.Bundle file) Own None) = file.now ≡ codes "-"
+IsWithoutWords (Ask asking) = IsTraceOfInput asking.question asking.input asking.schedule asking.steps
 IsWithoutWords command = ⊥
 
 -- the turns of a command are turns, or these are no turns

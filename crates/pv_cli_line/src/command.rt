@@ -13,7 +13,7 @@ use crate::texts::is_verbose;
 use clap::error::ErrorKind;
 use clap::{ArgMatches, Command as Parser, Error as ParserError};
 use pv_cli_commands::questions::{Question, is_turns};
-use pv_cli_commands::{Command, InputFile, ScheduleInput};
+use pv_cli_commands::{Asking, Command, InputFile, ScheduleInput};
 use std::alloc::{AllocError, Global};
 use std::convert::AsStr;
 use thiserror::Error;
@@ -79,10 +79,10 @@ fn turns_of(command: Command<'_>) -> Option<&str>
     ensures { option_map (λ text. text.now) result ≡ turns_text_of command.entry }
 {
     match command {
-        Command::Ask {
-            schedule: ScheduleInput::Turns(turns),
-            ..
-        } => Some(turns),
+        Command::Ask(asking) => match asking.schedule {
+            ScheduleInput::Turns(turns) => Some(turns),
+            ScheduleInput::Own | ScheduleInput::File(_) | ScheduleInput::Fair => None,
+        },
         _ => None,
     }
 }
@@ -203,12 +203,12 @@ pub fn command_line_of<'a, S: AsStr>(
 {
     if words.len() <= 1 {
         return Ok(CommandLine {
-            command: Command::Ask {
+            command: Command::Ask(Asking {
                 question: Question::Trace,
                 input: InputFile::Bundle("-"),
                 schedule: ScheduleInput::Own,
                 steps: None,
-            },
+            }),
             is_verbose: true,
         });
     }

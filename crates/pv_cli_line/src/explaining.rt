@@ -13,7 +13,9 @@ use crate::readings::{push_directory, push_readings};
 use pv_cli_commands::questions::{
     Format, Input, Inputs, Question, Turns, Unshown, answer, is_source,
 };
-use pv_cli_commands::{Command, Failure, Files, InputFile, Origin, Refusal, ScheduleInput, Target};
+use pv_cli_commands::{
+    Asking, Command, Failure, Files, Import, InputFile, Origin, Refusal, ScheduleInput, Target,
+};
 use pv_model::{Layout, Version};
 use pv_source::{Faults, faults_of};
 use pv_streams::{Gathered, SOURCE_BYTES, Sink, read_whole, write_through};
@@ -414,7 +416,7 @@ fn push_limits(alloc: Global, out: &mut Vec<u8>, version: Version) -> Result<(),
 
 // Appends the ways out if an image cannot hold the entries of a directory.
 fn push_ways_out(alloc: Global, out: &mut Vec<u8>, command: Command<'_>) -> Result<(), AllocError> {
-    let Command::ImportDirectory { version, skips, .. } = command else {
+    let Command::ImportDirectory(Import { version, skips, .. }) = command else {
         return Ok(());
     };
     push_limits(alloc, out, version)?;
@@ -440,15 +442,19 @@ fn push_schedule<F: Files>(
         return push_turn(alloc, out, files, name, line);
     }
     match command {
-        Command::Ask {
-            question: Question::Audit(Some(name)) | Question::Reasons(Some(name)),
-            schedule: ScheduleInput::Own,
-            ..
-        } if !is_text(alloc, files, names) => push_turn(alloc, out, files, name, line),
-        Command::Ask {
-            schedule: ScheduleInput::File(_),
-            ..
-        } => push_line(out, "standard input"),
+        Command::Ask(
+            Asking {
+                question: Question::Audit(Some(name)) | Question::Reasons(Some(name)),
+                schedule: ScheduleInput::Own,
+                ..
+            },
+        ) if !is_text(alloc, files, names) => push_turn(alloc, out, files, name, line),
+        Command::Ask(
+            Asking {
+                schedule: ScheduleInput::File(_),
+                ..
+            },
+        ) => push_line(out, "standard input"),
         _ => push_text(alloc, out, files, names, None),
     }
 }
@@ -527,8 +533,8 @@ fn push_origin<F: Files>(
     origin: Origin,
 ) -> Result<(), AllocError> {
     match (origin, command) {
-        (Origin::Directory, Command::ImportDirectory { directory, .. }) => {
-            push_directory(alloc, out, files, directory)
+        (Origin::Directory, Command::ImportDirectory(import)) => {
+            push_directory(alloc, out, files, import.directory)
         }
         _ => push_readings(
             alloc,
@@ -548,12 +554,14 @@ fn second_file<'a, F: Files>(
     command: Command<'a>,
 ) -> Option<&'a str> {
     match command {
-        Command::Ask {
-            question: Question::Audit(Some(name)) | Question::Reasons(Some(name)),
-            schedule: ScheduleInput::Own,
-            input: InputFile::Any(_),
-            ..
-        } if !is_text(alloc, files, names) => Some(name),
+        Command::Ask(
+            Asking {
+                question: Question::Audit(Some(name)) | Question::Reasons(Some(name)),
+                schedule: ScheduleInput::Own,
+                input: InputFile::Any(_),
+                ..
+            },
+        ) if !is_text(alloc, files, names) => Some(name),
         _ => names.second,
     }
 }

@@ -6,7 +6,7 @@ ghost use Rattle.pv_cli_line.specs.Line.{IsCommandIn, LacksCommand};
 use crate::texts::{count_of, is_given, size_of, states_of, version_of};
 use clap::ArgMatches;
 use pv_cli_commands::questions::{Question, SearchKind};
-use pv_cli_commands::{Command, InputFile, Output, ScheduleInput};
+use pv_cli_commands::{Asking, Command, Import, InputFile, Output, ScheduleInput};
 
 // Why matches have no command.
 #[derive(Clone, Copy, PartialEq, Eq)]
@@ -179,12 +179,12 @@ fn asked<'a>(
         ..
     } = run;
     let steps = steps_in(inner)?;
-    Ok(Command::Ask {
+    Ok(Command::Ask(Asking {
         question,
         input,
         schedule,
         steps,
-    })
+    }))
 }
 
 // Returns the `run-tree` command.
@@ -235,12 +235,12 @@ fn explain_in<'a>(inner: &ArgMatches<'a>) -> Result<Command<'a>, NoCommand> {
 
 // Returns the command of a question about a tree.
 fn asked_of_tree<'a>(question: Question<'a>, input: InputFile<'a>) -> Command<'a> {
-    Command::Ask {
+    Command::Ask(Asking {
         question,
         input,
         schedule: ScheduleInput::Own,
         steps: None,
-    }
+    })
 }
 
 // Returns the input of a command that takes no further word.
@@ -379,13 +379,13 @@ fn import_in<'a>(inner: &ArgMatches<'a>) -> Result<Command<'a>, NoCommand> {
     let directory = required(inner, "DIR")?;
     let image = required(inner, "IMAGE")?;
     let version = version_of(inner.get_str("image-version")).ok_or(NoCommand::Number)?;
-    Ok(Command::ImportDirectory {
+    Ok(Command::ImportDirectory(Import {
         directory,
         image,
         version,
         skips: is_given(inner, "skip"),
         source: inner.get_str("with"),
-    })
+    }))
 }
 
 // Returns the `export` command.

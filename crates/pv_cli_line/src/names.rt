@@ -2,7 +2,7 @@
 use pv_cli_commands::questions::{
     Format, Input, Inputs, Question, Turns, Unshown, answer, is_source,
 };
-use pv_cli_commands::{Command, Files, InputFile, ScheduleInput};
+use pv_cli_commands::{Asking, Command, Files, Import, InputFile, ScheduleInput};
 use pv_streams::{Gathered, read_whole};
 use std::alloc::Global;
 
@@ -161,11 +161,13 @@ fn compared_named<'a, F: Files>(
 }
 
 // Returns the files of a question about an input.
-fn asked_named<'a>(
-    question: Question<'a>,
-    input: InputFile<'a>,
-    schedule: ScheduleInput<'a>,
-) -> Names<'a> {
+fn asked_named(asking: Asking<'_>) -> Names<'_> {
+    let Asking {
+        question,
+        input,
+        schedule,
+        ..
+    } = asking;
     let second = match schedule {
         ScheduleInput::File("-")
         | ScheduleInput::Own
@@ -199,16 +201,23 @@ fn asked_named<'a>(
     }
 }
 
+// Returns the files of an import.
+fn import_named(import: Import<'_>) -> Names<'_> {
+    let out = Some(import.image);
+    match import.source {
+        Some(source) => Names {
+            out,
+            ..text_named(InputFile::Source(source), "a source")
+        },
+        None => image_named(import.directory, None, out),
+    }
+}
+
 // Returns the files of a command.
 pub(crate) fn names_of<'a, F: Files>(alloc: Global, files: &F, command: Command<'a>) -> Names<'a> {
     match command {
         Command::Compare { first, second, .. } => compared_named(alloc, files, first, second),
-        Command::Ask {
-            question,
-            input,
-            schedule,
-            ..
-        } => asked_named(question, input, schedule),
+        Command::Ask(asking) => asked_named(asking),
         Command::WriteSource { source, .. } => text_named(InputFile::Source(source), "a source"),
         Command::MakeImage { manifest, image } => Names {
             has_input: false,
@@ -220,20 +229,7 @@ pub(crate) fn names_of<'a, F: Files>(alloc: Global, files: &F, command: Command<
             schedule,
             out,
         } => image_named(image, Some(schedule), Some(out)),
-        Command::ImportDirectory {
-            image,
-            source: Some(source),
-            ..
-        } => Names {
-            out: Some(image),
-            ..text_named(InputFile::Source(source), "a source")
-        },
-        Command::ImportDirectory {
-            directory,
-            image,
-            source: None,
-            ..
-        } => image_named(directory, None, Some(image)),
+        Command::ImportDirectory(import) => import_named(import),
         Command::MigrateImage { image, out, .. } => image_named(image, None, Some(out)),
         Command::ExportImage { input, directory } => Names {
             out: Some(directory),

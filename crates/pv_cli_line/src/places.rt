@@ -1,21 +1,25 @@
 //! The explanation of a path or a process that an answer is about and that the machine does not have.
 use crate::lines::push_excerpt;
-use pv_cli_commands::Command;
 use pv_cli_commands::questions::Question;
+use pv_cli_commands::{Asking, Command};
 use pv_model::{AuditFault, Errno};
 use std::alloc::{AllocError, Global};
 
 // The path that a command names in a tree.
 fn path_of(command: Command<'_>) -> Option<&str> {
     match command {
-        Command::Ask {
-            question: Question::Audit(path) | Question::Reasons(path),
-            ..
-        } => path,
-        Command::Ask {
-            question: Question::File(path),
-            ..
-        } => Some(path),
+        Command::Ask(
+            Asking {
+                question: Question::Audit(path) | Question::Reasons(path),
+                ..
+            },
+        ) => path,
+        Command::Ask(
+            Asking {
+                question: Question::File(path),
+                ..
+            },
+        ) => Some(path),
         _ => None,
     }
 }
@@ -49,10 +53,10 @@ pub(crate) fn push_path(
     let reason = reason_of(fault);
     let is_of_tree = matches!(
         command,
-        Command::Ask {
+        Command::Ask(Asking {
             question: Question::File(_),
             ..
-        }
+        })
     );
     let further = if is_of_tree {
         "; expected a file that 'pvsim ls' lists"
@@ -69,10 +73,12 @@ pub(crate) fn push_process(
     command: Command<'_>,
     name: &str,
 ) -> Result<(), AllocError> {
-    let Command::Ask {
-        question: Question::Reach(Some(pid)),
-        ..
-    } = command
+    let Command::Ask(
+        Asking {
+            question: Question::Reach(Some(pid)),
+            ..
+        },
+    ) = command
     else {
         return Ok(());
     };
