@@ -1,6 +1,7 @@
 -- The inputs of a command, as they were read.
-use Rattle.std.specs.Prelude.{◌≡◌, ◌≢◌, ◌⊎◌, ⊤, ℕ, Bool, true, false, if◌then◌else◌, List, [], codes, Option, None, Some, is_some, Result, Ok, Err, IfErr, IfOk, IfSome, map}
+use Rattle.std.specs.Prelude.{◌≡◌, ◌⊎◌, ⊤, ℕ, Bool, true, false, if◌then◌else◌, List, [], codes, Option, None, Some, Result, Ok, Err, IfErr, IfOk, IfSome}
 use Rattle.std.specs.Borrow.{Bor}
+use Rattle.std.specs.Global.{Vec}
 use Rattle.pv_model.specs.declared.stream.Sink.{Ghosts as Writing}
 use Rattle.pv_model.specs.declared.stream.Source.{Ghosts as Reading}
 use Rattle.pv_model.specs.Machine.{Bytes, read_source}
@@ -56,6 +57,11 @@ first_named (command.RunImage image schedule out) = Some (plain_named image Imag
 first_named (command.MigrateImage image out blocks inodes) = Some (plain_named image Image)
 
 -- the path of an audit of an image, if no schedule is given, is the file of the schedule
+abbrev pub misplaced : Question → ScheduleInput → Format → Option (Bor Bytes)
+misplaced (Audit path) Own Image = path
+misplaced (Reasons path) Own Image = path
+misplaced question schedule format = None
+
 abbrev pub settled_schedule : Question → ScheduleInput → Format → ScheduleInput
 settled_schedule (Audit (Some name)) Own Image = File name
 settled_schedule (Reasons (Some name)) Own Image = File name
@@ -108,55 +114,64 @@ Joins first (Err failure) result = result ≡ Err failure
 abbrev pub IsInput : Named → Type 0
 IsInput named = (named.has_input ≡ true) × (named.name.now ≡ codes "-")
 
-module _ {F R V I O E : Type 0} (disk : Disk F R V) (reading : Reading I) (reporting : Writing E) where
+-- the warnings or the lines in error of a source were reported under its name
+abbrev pub Reported : {E : Type 0} → Writing E → Named → Bytes → E → E → Result Input Failure → Type 0
+Reported reporting named bytes unreported reported (Ok done) =
+    if is_translated named.form bytes then Warns named.name.now bytes (reporting.written unreported) (reporting.written reported) else (reported ≡ unreported)
+Reported reporting named bytes unreported reported (Err (Refused refusal)) = ReportsFaults named.name.now bytes (reporting.written unreported) (reporting.written reported)
+Reported reporting named bytes unreported reported (Err (Write target)) =
+    BeginsFaults named.name.now bytes (reporting.written unreported) (reporting.written reported)
+    ⊎ BeginsWarnings named.name.now bytes (reporting.written unreported) (reporting.written reported)
+Reported reporting named bytes unreported reported (Err failure) = reported ≡ unreported
+
+-- the input is what the bytes are taken for, or its error
+abbrev pub Takes : Form → Bytes → Result Input Failure → Type 0
+Takes form bytes (Ok input) = taken form bytes ≡ Ok (input.format, input.bytes.items)
+Takes form bytes (Err (Refused refusal)) = taken form bytes ≡ Err (Refused refusal)
+Takes form bytes (Err failure) = ⊤
+
+-- bytes became an input, and what they report was reported
+pub record TakesInput {E : Type 0} (reporting : Writing E) (named : Named) (bytes : Bytes) (unreported reported : E) (result : Result Input Failure) : Type 0 where
+  pub takes : Takes named.form bytes result
+  pub reported : Reported reporting named bytes unreported reported result
+  -- a failed report was counted
+  pub write : IfErr result (λ failure. IsWrite failure → FailsToTake reporting unreported reported)
+
+module _ {F R V I : Type 0} (disk : Disk F R V) (reading : Reading I) (files : F) (named : Named) where
   -- these bytes were read, if they are known
-  abbrev pub Gave : Named → HostSystem F I O E → Bytes → Type 0
-  Gave named before bytes =
-      (IsInput named → IfSome (reading.remaining before.input) (λ all. all ≡ bytes))
-      × ((IsInput named → ⊥) → IfSome (disk.files.bytes before.files named.name.now) (λ all. all ≡ bytes))
+  abbrev pub Gave : I → Bytes → Type 0
+  Gave before bytes =
+      (IsInput named → IfSome (reading.remaining before) (λ all. all ≡ bytes))
+      × ((IsInput named → ⊥) → IfSome (disk.files.bytes files named.name.now) (λ all. all ≡ bytes))
 
   -- a read failed, which was counted, or a file whose bytes are not known could not be opened or read
-  abbrev pub Unread : Named → HostSystem F I O E → HostSystem F I O E → Type 0
-  Unread named before after =
-      (IsInput named × FailsToGive reading before.input after.input)
-      ⊎ ((IsInput named → ⊥) × ((disk.files.bytes before.files named.name.now ≡ None) ⊎ ((first last : R) × FailsToGive disk.reading first last)))
+  abbrev pub Unread : I → I → Type 0
+  Unread before after =
+      (IsInput named × FailsToGive reading before after)
+      ⊎ ((IsInput named → ⊥) × ((disk.files.bytes files named.name.now ≡ None) ⊎ ((first last : R) × FailsToGive disk.reading first last)))
 
-  -- the warnings or the lines in error of a source were reported under its name
-  abbrev pub Reported : Named → Bytes → HostSystem F I O E → HostSystem F I O E → Result Input Failure → Type 0
-  Reported named bytes before after (Ok done) =
-      if is_translated named.form bytes then Warns named.name.now bytes (reporting.written before.errors) (reporting.written after.errors) else (after.errors ≡ before.errors)
-  Reported named bytes before after (Err (Refused refusal)) = ReportsFaults named.name.now bytes (reporting.written before.errors) (reporting.written after.errors)
-  Reported named bytes before after (Err (Write target)) =
-      BeginsFaults named.name.now bytes (reporting.written before.errors) (reporting.written after.errors)
-      ⊎ BeginsWarnings named.name.now bytes (reporting.written before.errors) (reporting.written after.errors)
-  Reported named bytes before after (Err failure) = after.errors ≡ before.errors
+  -- the bytes of a file, or of the standard input, were read
+  pub record ReadsBytes (before after : I) (result : Result (Vec ℕ) Failure) : Type 0 where
+    pub gave : IfOk result (λ bytes. Gave before bytes.items)
+    pub kind : IfErr result (λ failure. (failure ≡ Read InFile) ⊎ (failure ≡ Memory))
+    pub unread : result ≡ Err (Read InFile) → Unread before after
+    pub input : (IsInput named → ⊥) → after ≡ before
 
-  -- the input is what the bytes are taken for, or its error
-  abbrev pub Takes : Form → Bytes → Result Input Failure → Type 0
-  Takes form bytes (Ok input) = taken form bytes ≡ Ok (input.format, input.bytes.items)
-  Takes form bytes (Err (Refused refusal)) = taken form bytes ≡ Err (Refused refusal)
-  Takes form bytes (Err failure) = ⊤
-
+module _ {F R V I O E : Type 0} (disk : Disk F R V) (reading : Reading I) (reporting : Writing E) where
   -- only the standard input and the standard error change
   abbrev pub KeepsRest : HostSystem F I O E → HostSystem F I O E → Type 0
   KeepsRest before after = after ≡ record before { input = after.input; errors = after.errors }
 
-  -- a file was read
-  pub record ReadsFile (named : Named) (before after : HostSystem F I O E) (result : Result Input Failure) : Type 0 where
-    pub bytes : Bytes
-    pub gave : (result ≡ Err (Read InFile) → ⊥) → result ≢ Err Memory → Gave named before bytes
-    pub takes : Takes named.form bytes result
-    pub reported : Reported named bytes before after result
-    pub unread : result ≡ Err (Read InFile) → Unread named before after
-    -- a failed report was counted
-    pub write : IfErr result (λ failure. IsWrite failure → FailsToTake reporting before.errors after.errors)
-    pub input : (IsInput named → ⊥) → after.input ≡ before.input
-    pub rest : KeepsRest before after
+  -- what was read became an input; or it was not read, and nothing was reported
+  abbrev pub TakesRead : Named → Result (Vec ℕ) Failure → HostSystem F I O E → HostSystem F I O E → Result Input Failure → Type 0
+  TakesRead named (Ok bytes) before after result = TakesInput reporting named bytes.items before.errors after.errors result
+  TakesRead named (Err failure) before after result = (result ≡ Err failure) × (after.errors ≡ before.errors)
 
-  -- the same, if there is a file; otherwise the input is empty
+  -- a file was read, if there is one; otherwise the input is empty
   abbrev pub ReadsNamed : Option Named → HostSystem F I O E → HostSystem F I O E → Result Input Failure → Type 0
   ReadsNamed None before after result = IfOk result (λ input. input.bytes.items ≡ []) × IfErr result (λ failure. ⊥) × (after ≡ before)
-  ReadsNamed (Some named) before after result = ReadsFile named before after result
+  ReadsNamed (Some named) before after result =
+      (read : Result (Vec ℕ) Failure) × ReadsBytes disk reading before.files named before.input after.input read × TakesRead named read before after result × KeepsRest before after
 
   -- the inputs of a command, the first of which decides what the second is; or the first failure
   abbrev pub ReadsSecond : Command → HostSystem F I O E → HostSystem F I O E → Input → Result Inputs Failure → Type 0

@@ -1,5 +1,6 @@
 //! Export of the tree of an input to a directory.
-ghost use Rattle.pv_cli_commands.specs.Directories.{ExportsInput};
+ghost use Rattle.std.specs.Prelude.{◌≡◌};
+ghost use Rattle.pv_cli_commands.specs.Directories.{ExportsInput, of_export};
 ghost use Rattle.pv_cli_commands.specs.Streams.{host_of};
 
 use crate::directories::Directories;
@@ -9,7 +10,9 @@ use pv_streams::Sink;
 use std::alloc::Global;
 
 // Returns the failure of an export.
-fn of_export(fault: ExportFault) -> Failure {
+fn of_export(fault: ExportFault) -> Failure
+    ensures { result ≡ of_export fault }
+{
     match fault {
         ExportFault::Memory => Failure::Memory,
         ExportFault::Make => Failure::Write(Target::Node),

@@ -1,6 +1,7 @@
 //! Import of directories as images, with the entries of sources.
 ghost use Rattle.std.specs.Prelude.{◌≡◌, map};
-ghost use Rattle.pv_cli_commands.specs.Directories.{ImportsDirectory};
+ghost use Rattle.pv_image_manifest.specs.Entries.{entry_of_line};
+ghost use Rattle.pv_cli_commands.specs.Directories.{ImportsDirectory, ImportsGiven, of_import};
 ghost use Rattle.pv_cli_commands.specs.Streams.{disk_of};
 
 use crate::command::Import;
@@ -13,7 +14,9 @@ use pv_streams::Sink;
 use std::alloc::Global;
 
 // Returns the failure of an import.
-fn of_import(stop: ImportStop) -> Failure {
+fn of_import(stop: ImportStop) -> Failure
+    ensures { result ≡ of_import stop }
+{
     match stop {
         ImportStop::Read => Failure::Read(Origin::Directory),
         ImportStop::Memory => Failure::Memory,
@@ -30,7 +33,9 @@ fn import_entries<F: Files + Directories, E: Sink>(
     import: Import<'_>,
     given: &[Entry],
     errors: &mut E,
-) -> Result<(), Failure> {
+) -> Result<(), Failure>
+    ensures { ImportsGiven (disk_of F.Files F.Reader.Source F.Writer.Sink) E.Sink (F.entries files.old) import.entry (map entry_of_line given.now) errors.old errors.new result }
+{
     let directory = match files.open_directory(alloc, import.directory) {
         Ok(directory) => directory,
         Err(HostFault::Read) => return Err(Failure::Read(Origin::Directory)),

@@ -1,8 +1,9 @@
 //! Reading the inputs of a command.
 //!
 //! `read_inputs` is the only function that reads files and the standard input. It translates a source once.
-ghost use Rattle.std.specs.Prelude.{◌≡◌, Ok, Err, IfOk, IfErr};
-ghost use Rattle.pv_cli_commands.specs.Reading.{ReadsInputs, ReadsNamed, first_named, second_named, settled_question, settled_schedule};
+ghost use Rattle.std.specs.Prelude.{◌≡◌, ◌≤◌, length, vec_len, IfOk};
+ghost use Rattle.pv_cli_commands.specs.Reading.{ReadsBytes, ReadsInputs, ReadsNamed, TakesInput, first_named, input_named, misplaced, plain_named, second_named, settled_question, settled_schedule};
+ghost use Rattle.pv_cli_commands.specs.Writing.{of_source};
 ghost use Rattle.pv_cli_commands.specs.Streams.{disk_of};
 
 use crate::command::{Command, InputFile, ScheduleInput};
@@ -42,7 +43,9 @@ pub(crate) struct Named<'a> {
 }
 
 // Returns a file that is taken as it is, and in which `-` is a name.
-fn plain(name: &str, format: Format) -> Named<'_> {
+fn plain(name: &str, format: Format) -> Named<'_>
+    ensures { result ≡ plain_named name.entry format }
+{
     Named {
         name,
         form: Form::Given(format),
@@ -51,7 +54,9 @@ fn plain(name: &str, format: Format) -> Named<'_> {
 }
 
 // Returns the file of an input that has a tree.
-fn named(input: InputFile<'_>) -> Named<'_> {
+fn named(input: InputFile<'_>) -> Named<'_>
+    ensures { result ≡ input_named input.entry }
+{
     let (name, form) = match input {
         InputFile::Any(name) => (name, Form::Any),
         InputFile::Bundle(name) => (name, Form::Given(Format::Text)),
@@ -87,7 +92,9 @@ fn misplaced<'a>(
     question: Question<'a>,
     schedule: ScheduleInput<'a>,
     format: Format,
-) -> Option<&'a str> {
+) -> Option<&'a str>
+    ensures { result ≡ misplaced question.entry schedule.entry format }
+{
     match (question, schedule, format) {
         (Question::Audit(path) | Question::Reasons(path), ScheduleInput::Own, Format::Image) =>
             path,
@@ -149,7 +156,9 @@ pub(crate) fn second_named<'a>(command: Command<'a>, format: Format) -> Option<N
 }
 
 // Returns the failure of a source that is not written or translated.
-pub(crate) fn of_source(stop: SourceStop, written: Target) -> Failure {
+pub(crate) fn of_source(stop: SourceStop, written: Target) -> Failure
+    ensures { result ≡ of_source written stop }
+{
     match stop {
         SourceStop::Memory => Failure::Memory,
         SourceStop::Refused => Failure::Refused(Refusal::Lines),
@@ -163,7 +172,10 @@ fn translated<E: Sink>(
     name: &str,
     source: &[u8],
     errors: &mut E,
-) -> Result<Input, Failure> {
+) -> Result<Input, Failure>
+    requires { length source.now ≤ SOURCE_BYTES }
+    ensures { TakesInput E.Sink (input_named (InputFile.Source name.entry)) source.now errors.old errors.new result }
+{
     let bytes = match translate(alloc, name.as_bytes(), source, errors) {
         Ok(bytes) => bytes,
         Err(stop) => return Err(of_source(stop, Target::Errors)),
@@ -181,7 +193,10 @@ fn input_of<E: Sink>(
     named: Named<'_>,
     bytes: Vec<u8>,
     errors: &mut E,
-) -> Result<Input, Failure> {
+) -> Result<Input, Failure>
+    requires { vec_len bytes ≤ SOURCE_BYTES }
+    ensures { TakesInput E.Sink named.entry bytes.items errors.old errors.new result }
+{
     match named.form {
         Form::Given(format) => Ok(Input { format, bytes }),
         Form::Source => translated(alloc, named.name, &bytes, errors),
@@ -199,7 +214,10 @@ fn bytes_of<F: Files, I: Source>(
     files: &F,
     input: &mut I,
     named: Named<'_>,
-) -> Result<Vec<u8>, Failure> {
+) -> Result<Vec<u8>, Failure>
+    ensures reads { ReadsBytes (disk_of F.Files F.Reader.Source F.Writer.Sink) I.Source files.now named.entry input.old input.new result }
+    ensures size { IfOk result (λ bytes. vec_len bytes ≤ SOURCE_BYTES) }
+{
     if named.has_input && named.name == "-" {
         return Ok(read_whole(alloc, input)?);
     }

@@ -1,5 +1,7 @@
 //! The commands that write an image or the output for a source.
-ghost use Rattle.pv_cli_commands.specs.Writing.{MakesFile, MigratesFile, RunsFiles, WritesSource};
+ghost use Rattle.std.specs.Prelude.{◌≡◌};
+ghost use Rattle.pv_questions.specs.Failures.{of_image};
+ghost use Rattle.pv_cli_commands.specs.Writing.{MakesFile, MigratesFile, RunsFiles, WritesSource, of_migration};
 ghost use Rattle.pv_cli_commands.specs.Streams.{disk_of};
 
 use crate::reading::of_source;
@@ -42,7 +44,9 @@ pub(crate) fn run_files<F: Files, W: Sink>(
 }
 
 // Returns the failure of a migration.
-fn of_migration(stop: MigratingStop) -> Failure {
+fn of_migration(stop: MigratingStop) -> Failure
+    ensures { result ≡ of_migration stop }
+{
     match stop {
         MigratingStop::Write => Failure::Write(Target::File),
         MigratingStop::Refused(MigrateFault::Small) => Failure::Refused(Refusal::Small),
@@ -52,7 +56,9 @@ fn of_migration(stop: MigratingStop) -> Failure {
 }
 
 // Returns the failure of an image that is not migrated.
-fn of_old_image(fault: ImageFault) -> Failure {
+fn of_old_image(fault: ImageFault) -> Failure
+    ensures { result ≡ of_image fault }
+{
     Failure::from(fault)
 }
 

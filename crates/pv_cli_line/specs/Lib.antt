@@ -3,3 +3,4 @@ pub mod Messages
 pub mod Parser
 pub mod Program
 pub mod Status
+pub mod Words

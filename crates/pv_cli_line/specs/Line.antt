@@ -1,5 +1,5 @@
 -- The command in the words of a command line.
-use Rattle.std.specs.Prelude.{◌≡◌, ◌≢◌, ◌⊎◌, ⊤, ℕ, ◌<◌, Bool, ◌&&◌, ◌||◌, not, nat_le, true, false, if◌then◌else◌, bytes_eq, list_all, is_some, List, [], ◌∷◌, ◌++◌, length, codes, Option, None, Some, IfSome, option_map}
+use Rattle.std.specs.Prelude.{◌≡◌, ◌≢◌, ◌⊎◌, ⊤, ℕ, ◌<◌, Bool, ◌&&◌, ◌||◌, not, nat_le, true, false, if◌then◌else◌, bytes_eq, list_all, is_some, List, [], ◌∷◌, ◌++◌, length, codes, Option, None, Some, IfSome, option_map, Result, Ok, Err}
 use Rattle.std.specs.Option.{IsSomeAnd}
 use Rattle.clap.specs.Words.{Row, Text, IsAmong, fault_of, first_of, kind_of, matches_of, subcommand_of, takes}
 use Rattle.clap.specs.declared.error.Error.{Error}
@@ -73,6 +73,16 @@ states_in (Some word) = if_positive (size_in word)
 abbrev pub version_in : Option Text → Option Version
 version_in None = Some V1
 version_in (Some word) = if bytes_eq word (codes "1") then Some V1 else (if bytes_eq word (codes "2") then Some V2 else None)
+
+-- nothing satisfies a predicate, or a relation
+abbrev pub Never : {A : Type 0} → (A → Type 0) → Type 0
+Never {A} holds = (x : A) → holds x → ⊥
+
+abbrev pub NeverBoth : {A B : Type 0} → (A → B → Type 0) → Type 0
+NeverBoth {A} {B} hold = (x : A) (y : B) → hold x y → ⊥
+
+abbrev pub NeverRun : (InputFile → ScheduleInput → Option Text → Type 0) → Type 0
+NeverRun hold = (file : InputFile) (schedule : ScheduleInput) (further : Option Text) → hold file schedule further → ⊥
 
 -- ---- the words of a command: its input, and those after it
 
@@ -339,9 +349,25 @@ abbrev pub LacksNumber : Option (Text × List Row) → Type 0
 LacksNumber None = ⊥
 LacksNumber (Some p) = LacksArgument p.0 p.1 ⊎ LacksProcess p.0 p.1
 
+-- why the matches of a command have no command: one of its words is missing or there are too many, or an argument is not a
+-- number
+abbrev pub LacksNamed : Text → List Row → NoCommand → Type 0
+LacksNamed name rows lacks.Words = Never (IsNamedIn name rows)
+LacksNamed name rows lacks.Number = LacksArgument name rows ⊎ LacksProcess name rows
+
+-- the command in the matches of a command with this name, or why there is none
+abbrev pub FindsNamed : Text → List Row → Result Command NoCommand → Type 0
+FindsNamed name rows (Ok command) = IsNamedIn name rows command
+FindsNamed name rows (Err lack) = LacksNamed name rows lack
+
+-- the name of a search
+abbrev pub IsSearchName : Text → Type 0
+IsSearchName name =
+    (name ≡ codes "explore") ⊎ ((name ≡ codes "access") ⊎ ((name ≡ codes "exposure") ⊎ ((name ≡ codes "policy") ⊎ (name ≡ codes "graph"))))
+
 -- why matches have no command
 abbrev pub LacksCommand : Option (Text × List Row) → NoCommand → Type 0
-LacksCommand entered lacks.Words = (command : Command) → IsCommandIn entered command → ⊥
+LacksCommand entered lacks.Words = Never (IsCommandIn entered)
 LacksCommand entered lacks.Number = LacksNumber entered
 
 -- the parser rejects the words, with a kind of error that they have: for help and the version this is the request; or it
@@ -351,7 +377,7 @@ IsRejected words error = (takes pvsim_app words ≡ false) × IsAmong (kind_of e
 
 abbrev pub IsIncomplete : List Text → Error → Type 0
 IsIncomplete words error =
-    (takes pvsim_app words ≡ true) × (kind_of error ≡ MissingRequiredArgument) × ((command : Command) → IsCommandIn (subcommand_of pvsim_app words) command → ⊥)
+    (takes pvsim_app words ≡ true) × (kind_of error ≡ MissingRequiredArgument) × Never (IsCommandIn (subcommand_of pvsim_app words))
 
 pub record IsRefused (words : List Text) (error : Error) : Type 0 where
   pub kind : kind_of error ≢ OutOfMemory

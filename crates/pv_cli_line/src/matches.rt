@@ -1,7 +1,9 @@
 //! The command in the matches of the parser.
-ghost use Rattle.std.specs.Prelude.{◌≡◌, IfOk, IfErr};
-ghost use Rattle.clap.specs.Words.{subcommand_rows_of as entered};
-ghost use Rattle.pv_cli_line.specs.Line.{IsCommandIn, LacksCommand};
+ghost use Rattle.std.specs.Prelude.{◌≡◌, [], codes, None, Some, IfErr, IfOk, option_map};
+ghost use Rattle.std.specs.Option.{IsSomeAnd};
+ghost use Rattle.clap.specs.Words.{first_of, found_of, rows_of, subcommand_rows_of as entered};
+ghost use Rattle.pv_cli_line.specs.Line.{FindsNamed, IsCommandIn, IsComparedIn, IsGivenIn, IsNumberIn, IsReachIn, IsReadOnce, IsRunIn, IsScheduledBy, IsSearchName, LacksCommand, Never, NeverBoth, NeverRun, is_digits, is_set, kind_in, name_of, size_in};
+ghost use Rattle.pv_cli_line.specs.Words.{AreInOrder, IsAsking, number_or_lack, words_given};
 
 use crate::texts::{count_of, is_given, size_of, states_of, version_of};
 use clap::ArgMatches;
@@ -35,18 +37,26 @@ pub(crate) struct Run<'a> {
 }
 
 // Returns a number, if there is one.
-fn number(value: Option<u32>) -> Result<u32, NoCommand> {
+fn number(value: Option<u32>) -> Result<u32, NoCommand>
+    ensures { result ≡ number_or_lack value }
+{
     value.ok_or(NoCommand::Number)
 }
 
 // Returns the text of a required argument.
-fn required<'a>(inner: &ArgMatches<'a>, argument: &str) -> Result<&'a str, NoCommand> {
+fn required<'a>(inner: &ArgMatches<'a>, argument: &str) -> Result<&'a str, NoCommand>
+    ensures found { IfOk result (λ text. first_of argument.now (rows_of (found_of inner.now)) ≡ Some text.now) }
+    ensures none { IfErr result (λ lack. (lack ≡ NoCommand.Words) × (first_of argument.now (rows_of (found_of inner.now)) ≡ None)) }
+{
     inner.get_str(argument).ok_or(NoCommand::Words)
 }
 
 // Returns the input of a command and the words after it: that of `--bundle` or `--source`, or the first word. `last` is
 // the name of the last word.
-fn given_in<'a>(inner: &ArgMatches<'a>, last: &str) -> Result<Given<'a>, NoCommand> {
+fn given_in<'a>(inner: &ArgMatches<'a>, last: &str) -> Result<Given<'a>, NoCommand>
+    ensures found { IfOk result (λ given. IsGivenIn (rows_of (found_of inner.now)) last.now given.input (words_given given)) }
+    ensures none { IfErr result (λ lack. (lack ≡ NoCommand.Words) × NeverBoth (IsGivenIn (rows_of (found_of inner.now)) last.now)) }
+{
     let (file, last) = (inner.get_str("FILE"), inner.get_str(last));
     let (second, third) = match inner.get_str("SCHEDULE") {
         Some(schedule) => (Some(schedule), last),
@@ -79,7 +89,11 @@ fn schedule_of<'a>(
     inner: &ArgMatches<'a>,
     given: Given<'a>,
     is_last: bool,
-) -> Result<(ScheduleInput<'a>, Option<&'a str>), NoCommand> {
+) -> Result<(ScheduleInput<'a>, Option<&'a str>), NoCommand>
+    requires { AreInOrder given.entry }
+    ensures found { IfOk result (λ p. IsScheduledBy (first_of (codes "by") (rows_of (found_of inner.now))) (is_set (rows_of (found_of inner.now)) (codes "turns")) is_last (words_given given.entry) p.0 (option_map (λ word. word.now) p.1)) }
+    ensures none { IfErr result (λ lack. (lack ≡ NoCommand.Words) × NeverBoth (IsScheduledBy (first_of (codes "by") (rows_of (found_of inner.now))) (is_set (rows_of (found_of inner.now)) (codes "turns")) is_last (words_given given.entry))) }
+{
     let Given {
         first,
         second,
@@ -104,7 +118,9 @@ fn schedule_of<'a>(
 }
 
 // Returns the name of the file of an input.
-fn name_of(input: InputFile<'_>) -> &str {
+fn name_of(input: InputFile<'_>) -> &str
+    ensures { result.now ≡ name_of input.entry }
+{
     match input {
         InputFile::Any(name) | InputFile::Bundle(name) | InputFile::Source(name) => name,
     }
@@ -115,7 +131,10 @@ fn run_of<'a>(
     input: InputFile<'a>,
     schedule: ScheduleInput<'a>,
     further: Option<&'a str>,
-) -> Result<Run<'a>, NoCommand> {
+) -> Result<Run<'a>, NoCommand>
+    ensures found { IfOk result (λ run. (run.input ≡ input.entry) × (run.schedule ≡ schedule.entry) × (run.further ≡ further.entry) × IsReadOnce input.entry schedule.entry) }
+    ensures none { IfErr result (λ lack. (lack ≡ NoCommand.Words) × (IsReadOnce input.entry schedule.entry → ⊥)) }
+{
     if name_of(input) == "-" && matches!(schedule, ScheduleInput::File("-")) {
         return Err(NoCommand::Words);
     }
@@ -127,27 +146,38 @@ fn run_of<'a>(
 }
 
 // Returns the input and the schedule of a question about a run.
-fn run_in<'a>(inner: &ArgMatches<'a>) -> Result<Run<'a>, NoCommand> {
+fn run_in<'a>(inner: &ArgMatches<'a>) -> Result<Run<'a>, NoCommand>
+    ensures found { IfOk result (λ run. IsRunIn (rows_of (found_of inner.now)) (codes "PATH") false run.input run.schedule (option_map (λ word. word.now) run.further)) }
+    ensures none { IfErr result (λ lack. (lack ≡ NoCommand.Words) × NeverRun (IsRunIn (rows_of (found_of inner.now)) (codes "PATH") false)) }
+{
     let given = given_in(inner, "PATH")?;
     let (schedule, further) = schedule_of(inner, given, false)?;
     run_of(given.input, schedule, further)
 }
 
 // Returns the input and the schedule of a question about a run, and the word with the name `last` after them.
-fn run_and_word_in<'a>(inner: &ArgMatches<'a>, last: &str) -> Result<Run<'a>, NoCommand> {
+fn run_and_word_in<'a>(inner: &ArgMatches<'a>, last: &str) -> Result<Run<'a>, NoCommand>
+    ensures found { IfOk result (λ run. IsRunIn (rows_of (found_of inner.now)) last.now true run.input run.schedule (option_map (λ word. word.now) run.further)) }
+    ensures none { IfErr result (λ lack. (lack ≡ NoCommand.Words) × NeverRun (IsRunIn (rows_of (found_of inner.now)) last.now true)) }
+{
     let given = given_in(inner, last)?;
     let (schedule, further) = schedule_of(inner, given, true)?;
     run_of(given.input, schedule, further)
 }
 
 // Returns whether a word has only digits.
-fn is_digits(word: &str) -> bool {
+fn is_digits(word: &str) -> bool
+    ensures { result ≡ is_digits word.now }
+{
     word.as_bytes().iter().all(|byte| byte.is_ascii_digit())
 }
 
 // Returns the input and the schedule of `reach`, and the word of the process. A single word after an input that may be
 // an image is the schedule, unless it has only digits.
-pub(crate) fn reached_in<'a>(inner: &ArgMatches<'a>) -> Result<Run<'a>, NoCommand> {
+pub(crate) fn reached_in<'a>(inner: &ArgMatches<'a>) -> Result<Run<'a>, NoCommand>
+    ensures found { IfOk result (λ run. IsReachIn (rows_of (found_of inner.now)) run.input run.schedule (option_map (λ word. word.now) run.further)) }
+    ensures none { IfErr result (λ lack. (lack ≡ NoCommand.Words) × NeverRun (IsReachIn (rows_of (found_of inner.now)))) }
+{
     let run = run_and_word_in(inner, "PID")?;
     match run {
         Run {
@@ -160,7 +190,10 @@ pub(crate) fn reached_in<'a>(inner: &ArgMatches<'a>) -> Result<Run<'a>, NoComman
 }
 
 // Returns the number of steps after which a schedule is cut.
-fn steps_in(inner: &ArgMatches<'_>) -> Result<Option<u32>, NoCommand> {
+fn steps_in(inner: &ArgMatches<'_>) -> Result<Option<u32>, NoCommand>
+    ensures found { IfOk result (IsNumberIn (first_of (codes "steps") (rows_of (found_of inner.now)))) }
+    ensures none { IfErr result (λ lack. (lack ≡ NoCommand.Number) × IsSomeAnd (first_of (codes "steps") (rows_of (found_of inner.now))) (λ word. size_in word ≡ None)) }
+{
     match inner.get_str("steps") {
         Some(word) => Ok(Some(number(size_of(word))?)),
         None => Ok(None),
@@ -172,7 +205,10 @@ fn asked<'a>(
     inner: &ArgMatches<'a>,
     question: Question<'a>,
     run: Run<'a>,
-) -> Result<Command<'a>, NoCommand> {
+) -> Result<Command<'a>, NoCommand>
+    ensures found { IfOk result (IsAsking question.entry run.entry (first_of (codes "steps") (rows_of (found_of inner.now)))) }
+    ensures none { IfErr result (λ lack. (lack ≡ NoCommand.Number) × IsSomeAnd (first_of (codes "steps") (rows_of (found_of inner.now))) (λ word. size_in word ≡ None)) }
+{
     let Run {
         input,
         schedule,
@@ -188,7 +224,9 @@ fn asked<'a>(
 }
 
 // Returns the `run-tree` command.
-fn traced_in<'a>(inner: &ArgMatches<'a>) -> Result<Command<'a>, NoCommand> {
+fn traced_in<'a>(inner: &ArgMatches<'a>) -> Result<Command<'a>, NoCommand>
+    ensures { FindsNamed (codes "run-tree") (rows_of (found_of inner.now)) result }
+{
     let file = required(inner, "FILE")?;
     let input = if is_given(inner, "source") {
         InputFile::Source(file)
@@ -203,7 +241,9 @@ fn traced_in<'a>(inner: &ArgMatches<'a>) -> Result<Command<'a>, NoCommand> {
 }
 
 // Returns the `reach` command.
-fn reach_in<'a>(inner: &ArgMatches<'a>) -> Result<Command<'a>, NoCommand> {
+fn reach_in<'a>(inner: &ArgMatches<'a>) -> Result<Command<'a>, NoCommand>
+    ensures { FindsNamed (codes "reach") (rows_of (found_of inner.now)) result }
+{
     let run = reached_in(inner)?;
     let pid = match run.further {
         Some(word) => Some(number(size_of(word))?),
@@ -213,7 +253,9 @@ fn reach_in<'a>(inner: &ArgMatches<'a>) -> Result<Command<'a>, NoCommand> {
 }
 
 // Returns the `audit` command.
-fn audit_in<'a>(inner: &ArgMatches<'a>) -> Result<Command<'a>, NoCommand> {
+fn audit_in<'a>(inner: &ArgMatches<'a>) -> Result<Command<'a>, NoCommand>
+    ensures { FindsNamed (codes "audit") (rows_of (found_of inner.now)) result }
+{
     let run = run_and_word_in(inner, "PATH")?;
     let question = if is_given(inner, "reasons") {
         Question::Reasons(run.further)
@@ -225,7 +267,9 @@ fn audit_in<'a>(inner: &ArgMatches<'a>) -> Result<Command<'a>, NoCommand> {
 
 // Returns the `explain` command. The reasons of errors and the lines of execve(2) are written, unless `brief` is given
 // without `errors`.
-fn explain_in<'a>(inner: &ArgMatches<'a>) -> Result<Command<'a>, NoCommand> {
+fn explain_in<'a>(inner: &ArgMatches<'a>) -> Result<Command<'a>, NoCommand>
+    ensures { FindsNamed (codes "explain") (rows_of (found_of inner.now)) result }
+{
     let question = Question::Explain {
         errors: is_given(inner, "errors") || !is_given(inner, "brief"),
         allowed: is_given(inner, "allowed"),
@@ -244,7 +288,10 @@ fn asked_of_tree<'a>(question: Question<'a>, input: InputFile<'a>) -> Command<'a
 }
 
 // Returns the input of a command that takes no further word.
-fn tree_in<'a>(inner: &ArgMatches<'a>) -> Result<InputFile<'a>, NoCommand> {
+fn tree_in<'a>(inner: &ArgMatches<'a>) -> Result<InputFile<'a>, NoCommand>
+    ensures found { IfOk result (λ file. IsGivenIn (rows_of (found_of inner.now)) (codes "PATH") file []) }
+    ensures none { IfErr result (λ lack. (lack ≡ NoCommand.Words) × Never (λ file. IsGivenIn (rows_of (found_of inner.now)) (codes "PATH") file [])) }
+{
     match given_in(inner, "PATH")? {
         Given {
             input,
@@ -256,7 +303,9 @@ fn tree_in<'a>(inner: &ArgMatches<'a>) -> Result<InputFile<'a>, NoCommand> {
 }
 
 // Returns the `cat` command.
-fn cat_in<'a>(inner: &ArgMatches<'a>) -> Result<Command<'a>, NoCommand> {
+fn cat_in<'a>(inner: &ArgMatches<'a>) -> Result<Command<'a>, NoCommand>
+    ensures { FindsNamed (codes "cat") (rows_of (found_of inner.now)) result }
+{
     match given_in(inner, "PATH")? {
         Given {
             input,
@@ -269,7 +318,9 @@ fn cat_in<'a>(inner: &ArgMatches<'a>) -> Result<Command<'a>, NoCommand> {
 }
 
 // Returns the `turns` command.
-fn turns_in<'a>(inner: &ArgMatches<'a>) -> Result<Command<'a>, NoCommand> {
+fn turns_in<'a>(inner: &ArgMatches<'a>) -> Result<Command<'a>, NoCommand>
+    ensures { FindsNamed (codes "turns") (rows_of (found_of inner.now)) result }
+{
     let input = tree_in(inner)?;
     let slice = number(count_of(inner.get_str("slice"), 1))?;
     let steps = number(count_of(inner.get_str("steps"), 1_000))?;
@@ -277,7 +328,9 @@ fn turns_in<'a>(inner: &ArgMatches<'a>) -> Result<Command<'a>, NoCommand> {
 }
 
 // Returns the kind of a search, which the flag `reduced` chooses.
-fn kind_in(inner: &ArgMatches<'_>) -> SearchKind {
+fn kind_in(inner: &ArgMatches<'_>) -> SearchKind
+    ensures { result ≡ kind_in (rows_of (found_of inner.now)) }
+{
     if is_given(inner, "reduced") {
         SearchKind::Reduced
     } else {
@@ -286,7 +339,10 @@ fn kind_in(inner: &ArgMatches<'_>) -> SearchKind {
 }
 
 // Returns the command of a search.
-fn search_in<'a>(inner: &ArgMatches<'a>, name: &str) -> Result<Command<'a>, NoCommand> {
+fn search_in<'a>(inner: &ArgMatches<'a>, name: &str) -> Result<Command<'a>, NoCommand>
+    requires { IsSearchName name.now }
+    ensures { FindsNamed name.now (rows_of (found_of inner.now)) result }
+{
     let input = tree_in(inner)?;
     let states = number(states_of(inner.get_str("states")))?;
     let kind = kind_in(inner);
@@ -308,7 +364,10 @@ fn search_in<'a>(inner: &ArgMatches<'a>, name: &str) -> Result<Command<'a>, NoCo
 }
 
 // Returns the two inputs of `compare`: two words, or a bundle and a word.
-fn compared_in<'a>(inner: &ArgMatches<'a>) -> Result<(InputFile<'a>, InputFile<'a>), NoCommand> {
+fn compared_in<'a>(inner: &ArgMatches<'a>) -> Result<(InputFile<'a>, InputFile<'a>), NoCommand>
+    ensures found { IfOk result (λ p. IsComparedIn (rows_of (found_of inner.now)) p.0 p.1) }
+    ensures none { IfErr result (λ lack. (lack ≡ NoCommand.Words) × NeverBoth (IsComparedIn (rows_of (found_of inner.now)))) }
+{
     let file = required(inner, "FILE")?;
     match (inner.get_str("bundle"), inner.get_str("OTHER")) {
         (Some("-"), None) if file == "-" => Err(NoCommand::Words),
@@ -320,7 +379,9 @@ fn compared_in<'a>(inner: &ArgMatches<'a>) -> Result<(InputFile<'a>, InputFile<'
 }
 
 // Returns the `compare` command.
-fn compare_in<'a>(inner: &ArgMatches<'a>) -> Result<Command<'a>, NoCommand> {
+fn compare_in<'a>(inner: &ArgMatches<'a>) -> Result<Command<'a>, NoCommand>
+    ensures { FindsNamed (codes "compare") (rows_of (found_of inner.now)) result }
+{
     let (first, second) = compared_in(inner)?;
     let pairs = number(states_of(inner.get_str("states")))?;
     Ok(Command::Compare {
@@ -331,7 +392,9 @@ fn compare_in<'a>(inner: &ArgMatches<'a>) -> Result<Command<'a>, NoCommand> {
 }
 
 // Returns the `source` command.
-fn source_in<'a>(inner: &ArgMatches<'a>) -> Result<Command<'a>, NoCommand> {
+fn source_in<'a>(inner: &ArgMatches<'a>) -> Result<Command<'a>, NoCommand>
+    ensures { FindsNamed (codes "source") (rows_of (found_of inner.now)) result }
+{
     let kind = if is_given(inner, "lines") {
         Output::ProgramLines
     } else {
@@ -342,14 +405,18 @@ fn source_in<'a>(inner: &ArgMatches<'a>) -> Result<Command<'a>, NoCommand> {
 }
 
 // Returns the `mkimg` command.
-fn make_image_in<'a>(inner: &ArgMatches<'a>) -> Result<Command<'a>, NoCommand> {
+fn make_image_in<'a>(inner: &ArgMatches<'a>) -> Result<Command<'a>, NoCommand>
+    ensures { FindsNamed (codes "mkimg") (rows_of (found_of inner.now)) result }
+{
     let manifest = required(inner, "MANIFEST")?;
     let image = required(inner, "IMAGE")?;
     Ok(Command::MakeImage { manifest, image })
 }
 
 // Returns the `run` command.
-fn run_image_in<'a>(inner: &ArgMatches<'a>) -> Result<Command<'a>, NoCommand> {
+fn run_image_in<'a>(inner: &ArgMatches<'a>) -> Result<Command<'a>, NoCommand>
+    ensures { FindsNamed (codes "run") (rows_of (found_of inner.now)) result }
+{
     let image = required(inner, "IMAGE")?;
     let schedule = required(inner, "SCHEDULE")?;
     let out = required(inner, "OUT")?;
@@ -361,7 +428,9 @@ fn run_image_in<'a>(inner: &ArgMatches<'a>) -> Result<Command<'a>, NoCommand> {
 }
 
 // Returns the `migrate` command.
-fn migrate_in<'a>(inner: &ArgMatches<'a>) -> Result<Command<'a>, NoCommand> {
+fn migrate_in<'a>(inner: &ArgMatches<'a>) -> Result<Command<'a>, NoCommand>
+    ensures { FindsNamed (codes "migrate") (rows_of (found_of inner.now)) result }
+{
     let image = required(inner, "IMAGE")?;
     let out = required(inner, "OUT")?;
     let blocks = number(size_of(required(inner, "BLOCKS")?))?;
@@ -375,7 +444,9 @@ fn migrate_in<'a>(inner: &ArgMatches<'a>) -> Result<Command<'a>, NoCommand> {
 }
 
 // Returns the `import` command.
-fn import_in<'a>(inner: &ArgMatches<'a>) -> Result<Command<'a>, NoCommand> {
+fn import_in<'a>(inner: &ArgMatches<'a>) -> Result<Command<'a>, NoCommand>
+    ensures { FindsNamed (codes "import") (rows_of (found_of inner.now)) result }
+{
     let directory = required(inner, "DIR")?;
     let image = required(inner, "IMAGE")?;
     let version = version_of(inner.get_str("image-version")).ok_or(NoCommand::Number)?;
@@ -389,14 +460,18 @@ fn import_in<'a>(inner: &ArgMatches<'a>) -> Result<Command<'a>, NoCommand> {
 }
 
 // Returns the `export` command.
-fn export_in<'a>(inner: &ArgMatches<'a>) -> Result<Command<'a>, NoCommand> {
+fn export_in<'a>(inner: &ArgMatches<'a>) -> Result<Command<'a>, NoCommand>
+    ensures { FindsNamed (codes "export") (rows_of (found_of inner.now)) result }
+{
     let input = InputFile::Any(required(inner, "FILE")?);
     let directory = required(inner, "DIR")?;
     Ok(Command::ExportImage { input, directory })
 }
 
 // Returns the command with a name in its matches.
-fn named_in<'a>(name: &str, inner: &ArgMatches<'a>) -> Result<Command<'a>, NoCommand> {
+fn named_in<'a>(name: &str, inner: &ArgMatches<'a>) -> Result<Command<'a>, NoCommand>
+    ensures { FindsNamed name.now (rows_of (found_of inner.now)) result }
+{
     match name {
         "run-tree" => traced_in(inner),
         "source" => source_in(inner),
@@ -417,7 +492,8 @@ fn named_in<'a>(name: &str, inner: &ArgMatches<'a>) -> Result<Command<'a>, NoCom
         "migrate" => migrate_in(inner),
         "import" => import_in(inner),
         "export" => export_in(inner),
-        _ => search_in(inner, name),
+        "explore" | "access" | "exposure" | "policy" | "graph" => search_in(inner, name),
+        _ => Err(NoCommand::Words),
     }
 }
 
