@@ -32,14 +32,16 @@ IsUnknown disk files name = disk.files.bytes files name ≡ None
 abbrev pub IsCreatedOn : {F R V : Type 0} → Disk F R V → Bytes → V → Type 0
 IsCreatedOn disk name writer = IsCreated disk.files.file_of disk.writing.written name writer
 
--- the entries of each directory with a name, and the name and the made entries of a directory for a tree
+-- the entries of each directory with a name, the names of the directories that were returned for trees, and the name and
+-- the made entries of such a directory
 pub record Host (F T : Type 0) : Type 0 where
   pub entries : F → Bytes → Option HostEntries
+  pub targets : F → List Bytes
   pub target_of : T → Bytes
   pub made : T → Option (List Entry)
 
-abbrev pub host_of : {F T : Type 0} → (F → Bytes → Option HostEntries) → (T → Bytes) → (T → Option (List Entry)) → Host F T
-host_of entries target_of made = record { entries = entries; target_of = target_of; made = made }
+abbrev pub host_of : {F T : Type 0} → (F → Bytes → Option HostEntries) → (F → List Bytes) → (T → Bytes) → (T → Option (List Entry)) → Host F T
+host_of entries targets target_of made = record { entries = entries; targets = targets; target_of = target_of; made = made }
 
 -- a directory for a tree has this name, and nothing was made in it
 abbrev pub IsEmptiedOn : {F T : Type 0} → Host F T → Bytes → T → Type 0

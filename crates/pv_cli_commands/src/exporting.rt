@@ -28,7 +28,7 @@ pub(crate) fn export_input<F: Directories, E: Sink>(
     directory: &str,
     errors: &mut E,
 ) -> Result<(), Failure>
-    ensures { ExportsInput (host_of F.entries F.target_of F.Target.made) E.Sink directory.now input errors.old errors.new result }
+    ensures { ExportsInput (host_of F.entries F.targets F.target_of F.Target.made) E.Sink directory.now input errors.old errors.new result }
 {
     let store = store_of(alloc, input, true)?;
     let mut target = match files.create_directory(alloc, directory) {

@@ -70,7 +70,7 @@ fn perform_on<F: Files + Directories + Drop, I: Drop, O: Sink + Drop, E: Sink + 
     notes: &mut Vec<u8>,
     progress: &mut P,
 ) -> Result<(), Failure>
-    ensures writes { WritesNoted (disk_of F.Files F.Reader.Source F.Writer.Sink) (host_of F.entries F.target_of F.Target.made) O.Sink E.Sink command.entry inputs system.old system.new notes.old.items notes.new.items result }
+    ensures writes { WritesNoted (disk_of F.Files F.Reader.Source F.Writer.Sink) (host_of F.entries F.targets F.target_of F.Target.made) O.Sink E.Sink command.entry inputs system.old system.new notes.old.items notes.new.items result }
     ensures flushed { Flushes O.Sink system.old.output system.new.output result }
     ensures created { CreatesOnly (file_written command.entry) (F.created system.old.files) (F.created system.new.files) }
     ensures targets { CreatesOnly (directory_made command.entry) (F.targets system.old.files) (F.targets system.new.files) }
@@ -146,7 +146,7 @@ pub fn perform<
     notes: &mut Vec<u8>,
     progress: &mut P,
 ) -> Result<(), Failure>
-    ensures does { Performs (disk_of F.Files F.Reader.Source F.Writer.Sink) (host_of F.entries F.target_of F.Target.made) I.Source O.Sink E.Sink command.entry system.old system.new notes.old.items notes.new.items result }
+    ensures does { Performs (disk_of F.Files F.Reader.Source F.Writer.Sink) (host_of F.entries F.targets F.target_of F.Target.made) I.Source O.Sink E.Sink command.entry system.old system.new notes.old.items notes.new.items result }
     ensures flushed { Flushes O.Sink system.old.output system.new.output result }
     ensures failed { IfErr result (λ failure. status_of failure ≢ 0) }
 

@@ -9,6 +9,7 @@ use Rattle.pv_cli_commands.specs.OfQuestions.declared.failure.Failure.{Failure}
 use Rattle.pv_cli_commands.specs.OfQuestions.declared.failure.Failure.TheVariants.{Refused}
 use Rattle.pv_cli_commands.specs.declared.system.HostSystem.{HostSystem}
 use Rattle.pv_cli_commands.specs.Commands.{Flushes, KeepsErrors, Performs, ReadsFiles, WritesFile}
+use Rattle.pv_cli_commands.specs.Created.{CreatesOnly, directory_made, file_written}
 use Rattle.pv_cli_commands.specs.OfQuestions.Failures.{is_reported as is_reported_by_command}
 use Rattle.pv_cli_commands.specs.Streams.{Disk, Host}
 use Rattle.pv_streams.specs.Sinks.{Writes}
@@ -94,6 +95,8 @@ pub record Runs {F R V T I O E : Type 0} (disk : Disk F R V) (host : Host F T) (
   pub unread : ReadsFiles command → after.input ≡ before.input
   pub silent : WritesFile command → after.output ≡ before.output
   pub unreported : KeepsErrors command → after.errors ≡ before.errors
+  pub created : CreatesOnly (file_written command) (disk.files.created before.files) (disk.files.created after.files)
+  pub targets : CreatesOnly (directory_made command) (host.targets before.files) (host.targets after.files)
 
 -- an argument is not a number
 abbrev pub is_number : LineFault → Bool

@@ -123,7 +123,7 @@ pub fn run<
     E: Sink + Drop,
     P: Progress,
 >(alloc: Global, words: &[S], system: &mut HostSystem<F, I, O, E>, progress: &mut P) -> u8
-    ensures ends { EndsWith (disk_of F.Files F.Reader.Source F.Writer.Sink) (host_of F.entries F.target_of F.Target.made) I.Source O.Sink E.Sink
+    ensures ends { EndsWith (disk_of F.Files F.Reader.Source F.Writer.Sink) (host_of F.entries F.targets F.target_of F.Target.made) I.Source O.Sink E.Sink
         (map S.text words.now) system.old system.new result }
     ensures flushed { O.buffered system.old.output ≡ 0 → result ≢ 4 → O.buffered system.new.output ≡ 0 }
 {
