@@ -6,6 +6,7 @@ use pv_cli_host::cli_commands::{Failure, Target, Unshown};
 use pv_cli_host::run::{list, make_image, run};
 use pv_model::{ListFault, RunFault};
 use pv_streams::{Bytes, Gathered, Sink};
+use std::alloc::AllocError;
 use std::process::Abort;
 use std::test::Fail;
 
@@ -76,6 +77,13 @@ fn sinks_have_a_prefix_of_what_is_written(rt: HostRuntime) {
 
 const EXPOSED: &[u8] = b"exposed: process 1, reads descriptor 0\n";
 
+// Returns a copy of bytes.
+fn copied(rt: &impl AllocGlobal, bytes: &[u8]) -> Result<Vec<u8>, AllocError> {
+    let mut copy = Vec::new(rt.alloc());
+    copy.extend_from_slice(bytes)?;
+    Ok(copy)
+}
+
 // Checks that a sink with this room receives a prefix of the audit.
 fn expect_audit_front(
     rt: &(impl Abort + AllocGlobal),
@@ -86,9 +94,9 @@ fn expect_audit_front(
     let inputs = Inputs {
         input: Input {
             format: Format::Image,
-            bytes: Vec::from_slice(rt.alloc(), image)?,
+            bytes: copied(rt, image)?,
         },
-        turns: Turns::Text(Vec::from_slice(rt.alloc(), b"1 2\n")?),
+        turns: Turns::Text(copied(rt, b"1 2\n")?),
         steps: None,
     };
     let question = Question::Audit(Some("/etc/motd"));

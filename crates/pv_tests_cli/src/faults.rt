@@ -10,7 +10,7 @@ fn out_of_memory_has_one_text(rt: HostRuntime) -> Result<(), Fail> {
         Failure::from(RunFault::Manifest(ManifestFault::Memory)),
         Failure::from(RunFault::Memory),
     ];
-    for failure in nested {
+    for failure in nested.as_slice() {
         let text = format!(in rt.alloc(); "{failure}")?;
         assert!(rt; text.as_str() == "pvsim: memory\n");
         assert!(rt; failure.status() == 3);
