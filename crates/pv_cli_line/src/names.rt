@@ -3,7 +3,8 @@ use pv_cli_commands::questions::{
     Format, Input, Inputs, Question, Turns, Unshown, answer, is_source,
 };
 use pv_cli_commands::{Asking, Command, Files, Import, InputFile, ScheduleInput};
-use pv_streams::{Gathered, read_whole};
+use pv_source::translate;
+use pv_streams::{Gathered, SOURCE_BYTES, read_whole};
 use std::alloc::Global;
 
 // What a file is expected to be.
@@ -100,7 +101,17 @@ fn file_of(input: InputFile<'_>) -> Option<&str> {
     }
 }
 
-// Returns the input that a file is, as it is.
+// Returns the translation of a source, if it has no errors and is not too long.
+fn translation_of(alloc: Global, source: &[u8]) -> Option<Vec<u8>> {
+    let mut reported = Gathered::new(alloc);
+    let text = translate(alloc, b"", source, &mut reported).ok()?;
+    if text.len() > SOURCE_BYTES {
+        return None;
+    }
+    Some(text)
+}
+
+// Returns the input that a file is, if it can be read again.
 fn read_again<F: Files>(alloc: Global, files: &F, input: InputFile<'_>) -> Option<Input> {
     let name = file_of(input)?;
     if !files.is_regular(name) {
@@ -108,12 +119,21 @@ fn read_again<F: Files>(alloc: Global, files: &F, input: InputFile<'_>) -> Optio
     }
     let mut reader = files.open(name).ok()?;
     let bytes = read_whole(alloc, &mut reader).ok()?;
-    let format = if is_source(&bytes) || !matches!(input, InputFile::Any(_)) {
-        Format::Text
-    } else {
-        Format::Image
-    };
-    Some(Input { format, bytes })
+    match input {
+        InputFile::Bundle(_) => {
+            let format = Format::Text;
+            Some(Input { format, bytes })
+        }
+        InputFile::Any(_) if !is_source(&bytes) => {
+            let format = Format::Image;
+            Some(Input { format, bytes })
+        }
+        InputFile::Any(_) | InputFile::Source(_) => {
+            let bytes = translation_of(alloc, &bytes)?;
+            let format = Format::Text;
+            Some(Input { format, bytes })
+        }
+    }
 }
 
 // Returns whether the machine on the tree of an input starts.
