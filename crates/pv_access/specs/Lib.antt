@@ -1,4 +1,6 @@
 pub mod Alike
+pub mod Answers
 pub mod Candidates
+pub mod Subjects
 pub mod Texts
 pub mod Unread
