@@ -1,9 +1,10 @@
 //! The texts and numbers of a command in the parser's matches.
-ghost use Rattle.std.specs.Prelude.{◌≡◌, Option, None, Some, IfSome, option_map};
+ghost use Rattle.std.specs.Prelude.{◌≡◌, ◌<◌, length, map, Option, None, Some, IfSome, option_map};
 ghost use Rattle.clap.specs.Words.{found_of, rows_of, subcommand_rows_of as entered};
-ghost use Rattle.pv_cli_line.specs.Line.{AreRunTextsIn, AreTreeTextsIn, IsGivenIn, IsRunIn, IsScheduleOf, IsTextIn, IsTextless, IsTreeIn, IsValidRunIn, IsValidTreeIn, Never, NeverBoth, count_in, entered_text, is_given, is_set, is_set_in, is_verbose_in, size_in, states_in, version_in};
+ghost use Rattle.pv_cli_line.specs.Line.{AreRunTextsIn, AreTreeTextsIn, IsGivenIn, IsRunIn, IsScheduleOf, IsTextIn, IsTextless, IsTreeIn, IsValidRunIn, IsValidTreeIn, Never, NeverBoth, count_in, entered_text, entered_texts, files_entered, is_given, is_set, is_set_in, is_verbose_in, paths_in, size_in, states_in, version_in};
 
 use clap::ArgMatches;
+use pv_cli_commands::questions::Files;
 use pv_cli_commands::{RunInput, ScheduleInput, TextInput, TreeInput};
 use pv_model::Version;
 use pv_text::words::decimal;
@@ -115,6 +116,32 @@ pub(crate) fn is_flag_given(matches: &ArgMatches<'_>, command: &str, flag: &str)
         Some(text) => text == "true",
         None => false,
     }
+}
+
+// Returns the texts of an argument that may be given more than once, if the matches are of the given command.
+fn texts_of<'m, 'a>(matches: &'m ArgMatches<'a>, command: &str, argument: &str) -> &'m [&'a str]
+    ensures { map (λ text. text.now) result.now ≡ entered_texts (entered matches.now) command.now argument.now }
+{
+    match matches.subcommand_matches(command) {
+        Some(inner) => inner.get_strs(argument).unwrap_or(&[]),
+        None => &[],
+    }
+}
+
+// Returns the files of a search, if the matches are of the given command. Returns `None` if there are more than 8.
+pub(crate) fn files_in<'a>(matches: &ArgMatches<'a>, command: &str) -> Option<Files<'a>>
+    ensures found { IfSome result (λ files. paths_in files ≡ files_entered (entered matches.now) command.now) }
+    ensures none { result ≡ None → 8 < length (files_entered (entered matches.now) command.now) }
+{
+    let texts = texts_of(matches, command, "file");
+    if texts.len() > 8 {
+        return None;
+    }
+    let mut files = [None; 8];
+    for (k, text) in texts.iter().enumerate() {
+        files[k] = Some(text.as_bytes());
+    }
+    Some(files)
 }
 
 // The manifests and bundles that are given in place of an image.

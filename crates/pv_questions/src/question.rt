@@ -57,7 +57,7 @@ pub enum TreeQuestion<'a> {
     /// A search of the states of the machine that boots on the tree.
     Search {
         /// What the search answers.
-        search: Search,
+        search: Search<'a>,
         /// The maximum number of visited states: 0 counts as 1.
         states: u32,
     },
@@ -72,15 +72,28 @@ pub enum Format {
     Manifest,
 }
 
+/// The paths of the files that an answer is about: at most 8. Without a path, the answer is about all files.
+pub type Files<'a> = [Option<&'a [u8]>; 8];
+
 /// What a search of all schedules answers.
 #[derive(Clone, Copy)]
-pub enum Search {
+pub enum Search<'a> {
     /// What can happen.
     Explore(SearchKind),
     /// Which process can access what.
-    Access(SearchKind),
+    Access {
+        /// The search.
+        kind: SearchKind,
+        /// The files that the answer is about.
+        files: Files<'a>,
+    },
     /// What an attacker gains who takes over a process, at each line of its program.
-    Exposure(SearchKind),
+    Exposure {
+        /// The search.
+        kind: SearchKind,
+        /// The files that the answer is about.
+        files: Files<'a>,
+    },
     /// What each program needs of its sandbox, and what it holds and never uses.
     Policy {
         /// The search.

@@ -116,7 +116,7 @@ fn answer_turns<W: Sink>(
 fn answer_search<W: Sink, P: Progress>(
     alloc: Global,
     store: Store,
-    search: Search,
+    search: Search<'_>,
     states: u32,
     progress: &mut P,
     out: &mut W,

@@ -242,7 +242,7 @@ pub(crate) fn report_turns<W: Sink>(
 // Writes the answer of a search, and leaves its last lines buffered.
 fn write_search<W: Sink, P: Progress>(
     alloc: Global,
-    search: Search,
+    search: Search<'_>,
     first_machine: &FirstMachine,
     states: u32,
     progress: &mut P,
@@ -254,8 +254,12 @@ fn write_search<W: Sink, P: Progress>(
 {
     match search {
         Search::Explore(kind) => kind.write_explore(alloc, first_machine, states, progress, out),
-        Search::Access(kind) => write_access(alloc, kind, first_machine, states, progress, out),
-        Search::Exposure(kind) => write_exposure(alloc, kind, first_machine, states, progress, out),
+        Search::Access { kind, files } => {
+            write_access(alloc, kind, first_machine, states, &files, progress, out)
+        }
+        Search::Exposure { kind, files } => {
+            write_exposure(alloc, kind, first_machine, states, &files, progress, out)
+        }
         Search::Policy { kind, granted } => {
             write_policy(alloc, kind, granted, first_machine, states, progress, out)
         }
@@ -266,7 +270,7 @@ fn write_search<W: Sink, P: Progress>(
 // Writes the answer of a search. Returns whether the visited states are all.
 pub(crate) fn report_search<W: Sink, P: Progress>(
     alloc: Global,
-    search: Search,
+    search: Search<'_>,
     first_machine: &FirstMachine,
     states: u32,
     progress: &mut P,
