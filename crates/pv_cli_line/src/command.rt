@@ -143,11 +143,10 @@ fn files_of(command: Command<'_>) -> Files<'_>
 fn faulty_file(command: Command<'_>) -> Option<&[u8]>
     ensures { AreFaultyFiles command.entry (option_map (λ path. path.now) result) }
 {
-    let files = files_of(command);
-    for file in &files {
+    for file in files_of(command) {
         if let Some(path) = file {
             if !is_plain_path(path) {
-                return Some(*path);
+                return Some(path);
             }
         }
     }
@@ -162,7 +161,7 @@ fn file_fault(
 ) -> Result<ParserError, AllocError>
     ensures { IfOk result (λ error. kind_of error ≡ ValueValidation) }
 {
-    let path = str::from_utf8(path).unwrap_or("");
+    let path = std::str::from_utf8(path).unwrap_or("");
     let message = format!(in alloc;
         "invalid value '{path}' for '--file <PATH>': expected an absolute path as the answer writes it, with '/' before each name, and without '.' and '..'"
     )?;

@@ -32,7 +32,7 @@ returns-in-Some-Command-clause-asked g c =
     let words = map g.S.AsStr.text c.args.words.now in
     let e = appears c.in_ok-parser.parser words c.in_ok-matches.matches c.in_ok-parser.ensures c.in_ok-matches.ensures.ok.2 in
     asked_by words (subcommand_rows_of c.in_ok-matches.matches) e c.in-Some-Command.command (rw c.in-Some-Command.field-0-is at c.in-Some-Command.ensures.found)
-    c.checked.result c.is_verbose.result c.checked.ensures.value c.checked.ensures.turns
+    c.checked.result c.is_verbose.result c.checked.ensures.value c.checked.ensures.turns c.checked.ensures.files
 
 pub returns-in-Some-Command-clause-verbose : goal.returns-in-Some-Command-clause-verbose
 returns-in-Some-Command-clause-verbose g c =
