@@ -338,7 +338,7 @@ const SEARCHES: &[CommandRow] = &[
     CommandRow {
         name: "access",
         about: "Print which process can access which file under any schedule, each with a shortest schedule",
-        example: "A file is shown by its path at that step, and after 'first' by its path in the image if that is another one.\n\nExample, with the files of examples/:\n  pvsim access -b race-first.bundle --file /key",
+        example: "A file is shown by its path at that step, and after 'first' by its path in the image if that is another one.\n\nExample, with the files of examples/:\n  pvsim access -b race-first.bundle --file /etc/key",
         arguments: &[BUNDLE, SOURCE, IMAGE, STATES, REDUCED, FILES],
     },
     CommandRow {
