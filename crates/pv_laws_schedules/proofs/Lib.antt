@@ -6,7 +6,7 @@
 --   that succeed), TouchAccesses (touches are accesses), ListedTouches, JustifiedAccesses, ReducedAccesses (the reduced search).
 -- - `exposure`: Groups (elements with equal keys), FixedProcesses (reasons of EDIT), FindingReasons, ExposureLines, AllFiles,
 --   ReducedExposureLines (the reduced search), UnlistedRuns (runs from lines that are not listed), LeastReasons (the reasons
---   of an audit).
+--   of an audit), AboutFiles (given files).
 -- - `policy`: VisitedCalls (the calls of visited states), NeededPromises (promises), NeededPermissions (permissions),
 --   TargetLines (their lines), Granted (granted calls), FewerPromises (a step with other promises), IdlePromises,
 --   PermissionSets, OtherTables (a step with another table), IdlePermissions.
@@ -35,6 +35,7 @@ pub mod FixedProcesses
 pub mod FindingReasons
 pub mod ExposureLines
 pub mod AllFiles
+pub mod AboutFiles
 pub mod ReducedExposureLines
 pub mod ShortestWitnesses
 pub mod UnlistedRuns

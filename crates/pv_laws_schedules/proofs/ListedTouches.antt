@@ -1,5 +1,6 @@
 -- Each touch of each step is listed.
-use Rattle.std.proofs.Common.{◌≡◌, sym, subst, ℕ, ℤ, Bool, true, false, if◌then◌else◌, List, [], ◌∷◌, map, filter_map, Option, Some, option_map, option_and_then, ◌⊎◌, inl, inr, ⊎_elim, refl}
+use Rattle.std.proofs.Common.{◌≡◌, sym, subst, ℕ, ℤ, Bool, true, false, if◌then◌else◌, List, [], ◌∷◌, map, filter_map, Option, Some, None, option_map, option_and_then, ◌⊎◌, inl, inr, ⊎_elim, refl}
+use Rattle.std.specs.List.{AllByRecursion}
 use Rattle.std.specs.Prelude.{option_to_list}
 use Rattle.pv_model.specs.declared.call.Call.{Call}
 use Rattle.pv_model.specs.declared.call.Call.TheVariants.{Chdir, Stat, Lstat, Readlink}
@@ -11,9 +12,9 @@ use Rattle.pv_model_questions.specs.Accesses.{access_line, lines_of_access, line
 use Rattle.pv_laws_states.specs.States.{EncodesPrograms, IsValid}
 use Rattle.pv_laws_states.proofs.BySteps.{run-keeps_whole}
 use Rattle.pv_laws_answers.specs.Accesses.{is_access_listed}
-use Rattle.pv_laws_answers.proofs.Lists.{Among, among-flat, among-left, among-map, among-right, among-filter_map, any-among}
+use Rattle.pv_laws_answers.proofs.Lists.{Among, among-flat, each-from_among, among-left, among-map, among-right, among-filter_map, any-among}
 use Rattle.pv_laws_answers.proofs.CompleteObservations.{all-observed}
-use Rattle.pv_laws_schedules.specs.Access.{keeps_touch, lines_of_touch, TouchesAreListed}
+use Rattle.pv_laws_schedules.specs.Access.{EachAccessIsListed, keeps_touch, lines_of_touch, TouchesAreListed}
 use Rattle.pv_laws_classes.proofs.SeenProcesses.{themselves}
 use Rattle.pv_laws_schedules.proofs.ReadAccess.{reads-accessed}
 use Rattle.pv_laws_schedules.proofs.TouchAccesses.{name-accessed, open-accessed, write-accessed}
@@ -100,3 +101,19 @@ touches-listed program_of limit s files pids pid touch it complete touches kept 
     let own = touch-accessed program_of files s.tree u pid it.encodes (run-keeps_whole program_of it.encodes pids s it.whole) touch touches kept in
     any-among (λ line. is_access_listed line (reported_accesses program_of limit s files)) own.line (lines_of_touch s.tree u.tree (step program_of u pid).after.tree pid touch) own.of_touch
     (all-observed (of_calls (lines_of_accesses files s.tree)) answer_line_bytes program_of limit s it complete pids pid own.process own.live own.line own.of_step)
+
+-- so is each access
+pub each-listed : EachAccessIsListed
+each-listed program_of limit s files pids pid it complete = by (process_at t pid) refl
+  where
+    t : State
+    t = (run program_of pids s).final
+
+    Listed : AnswerLine → Type 0
+    Listed access = is_access_listed access (reported_accesses program_of limit s files) ≡ true
+
+    by : (o : Option Process) → process_at t pid ≡ o → AllByRecursion Listed (of_calls (lines_of_accesses files s.tree) t pid (step program_of t pid))
+    by None none = subst (λ (o : Option Process). AllByRecursion Listed (of_process (lines_of_accesses files s.tree) t pid (step program_of t pid) o)) (sym none) tt
+    by (Some p) lives =
+        each-from_among Listed (of_calls (lines_of_accesses files s.tree) t pid (step program_of t pid))
+        (λ access has. all-observed (of_calls (lines_of_accesses files s.tree)) answer_line_bytes program_of limit s it complete pids pid p lives access has)

@@ -49,6 +49,13 @@ pub record ListedAccesses (program_of : Bytes → Option Program) (limit : ℕ) 
 abbrev pub ListedAccessesHappen : Type 0
 ListedAccessesHappen = (program_of : Bytes → Option Program) (limit : ℕ) (s : State) (files : List Bytes) → IsSearchable program_of limit s → ListedAccesses program_of limit s files
 
+-- if the search is complete, each access of each step in each schedule is listed, and so is each about given files
+abbrev pub EachAccessIsListed : Type 0
+EachAccessIsListed =
+    (program_of : Bytes → Option Program) (limit : ℕ) (s : State) (files : List Bytes) (pids : List ℕ) (pid : ℕ) → IsSearchable program_of limit s → IsTrue (is_complete program_of limit s)
+    → AllByRecursion (λ access. IsTrue (is_access_listed access (reported_accesses program_of limit s files)))
+    (of_calls (lines_of_accesses files s.tree) (run program_of pids s).final pid (step program_of (run program_of pids s).final pid))
+
 -- ---- unread files
 
 -- no step of a live process from a visited state reads a file that is listed as unread
