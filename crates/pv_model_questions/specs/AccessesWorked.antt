@@ -170,3 +170,28 @@ pub about_no_file : access_text (codes "\"/none\"" ∷ []) 1000 (
     codes "    0 DONE  6 states, complete" ∷ []))
 unfolding accesses_on_literals
 about_no_file = refl
+
+-- a search that leaves a state out lists no file as unread
+pub unread_if_complete_alone : access_text [] 3 (
+    codes "image 16 16" ∷
+    codes "dir \"/z\"" ∷
+    codes "dir \"/a\"" ∷
+    codes "bytes \"/z/f\" \"f\"" ∷
+    codes "name \"/a/f\" \"/z/f\"" ∷
+    codes "bytes \"/z/g\" \"g\"" ∷
+    codes "name \"/a/g\" \"/z/g\"" ∷
+    codes "exec \"/init\" 4" ∷
+    codes "open \"/a/g\" r" ∷
+    codes "read 0 1" ∷
+    codes "unlink \"/z/g\"" ∷
+    codes "fstat 0" ∷
+    codes "schedule" ∷ []) ≡ Some (lines_text (
+    codes "    1 BY    1 1" ∷
+    codes "    1 OPEN  r \"/z/g\"" ∷
+    codes "    1 BY    1 2" ∷
+    codes "    1 READ  \"/z/g\"" ∷
+    codes "    1 BY    1 3" ∷
+    codes "    1 NAME  \"/z/g\"" ∷
+    codes "    0 DONE  3 states, not complete" ∷ []))
+unfolding accesses_on_literals
+unread_if_complete_alone = refl
