@@ -221,13 +221,13 @@ abbrev pub kind_entered : Option (Text × List Row) → Text → SearchKind
 kind_entered entered command = if is_given (entered_text entered command (codes "reduced")) then Reduced else Full
 
 -- the texts of an argument that may be given more than once, if the command was entered
-abbrev pub entered_texts : Option (Text × List Row) → Text → Text → List Text
-entered_texts None command argument = []
-entered_texts (Some p) command argument = if bytes_eq p.0 command then unwrap_or (all_of argument p.1) [] else []
+abbrev pub entered_texts : Option (Text × List Row) → Text → Text → Option (List Text)
+entered_texts None command argument = None
+entered_texts (Some p) command argument = if bytes_eq p.0 command then all_of argument p.1 else None
 
 -- the files of a search that were entered
 abbrev pub files_entered : Option (Text × List Row) → Text → List Text
-files_entered entered command = entered_texts entered command (codes "file")
+files_entered entered command = unwrap_or (entered_texts entered command (codes "file")) []
 
 -- the paths that there are
 abbrev pub paths_in : List (Option (Bor (List ℕ))) → List Text
