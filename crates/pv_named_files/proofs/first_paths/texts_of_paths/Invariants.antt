@@ -1,0 +1,6 @@
+use Rattle.std.proofs.Common.{◌≡◌, take}
+use Rattle.pv_named_files.specs.FirstPaths.{path_texts, texts_of}
+use Rattle.pv_named_files.proofs.first_paths.texts_of_paths.Given as goal
+
+abbrev pub invariant-loop-path : goal.invariant-loop-path
+invariant-loop-path l = texts_of l.texts.items ≡ path_texts (take l.path-index l.paths)
