@@ -369,7 +369,7 @@ fn name_of_search(search: Search<'_>) -> &'static str
 
 // Returns the command of a search, if the matches are of it.
 fn search_by<'a>(matches: &ArgMatches<'a>, search: Search<'a>) -> Option<Parsed<'a>>
-    requires { HasFlags (entered matches.now) search.entry }
+    requires { HasFlags (entered matches.now) search }
     ensures found { IfSome result (IsFoundIn (entered matches.now)) }
     ensures none { result ≡ None → Never (IsValidTreeIn (entered matches.now) (search_name search.entry)) }
 {

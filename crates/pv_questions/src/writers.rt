@@ -249,8 +249,8 @@ fn write_search<W: Sink, P: Progress>(
     out: &mut W,
 ) -> Result<bool, Stop>
     requires { 1 ≤ states }
-    ensures written { WritesOr W.Sink FailsBy (answer_bytes (search_lines search states first_machine.now)) out.old out.new result }
-    ensures complete { IfOk result (λ complete. complete ≡ search_is_complete search states first_machine.now) }
+    ensures written { WritesOr W.Sink FailsBy (answer_bytes (search_lines search.entry states first_machine.now)) out.old out.new result }
+    ensures complete { IfOk result (λ complete. complete ≡ search_is_complete search.entry states first_machine.now) }
 {
     match search {
         Search::Explore(kind) => kind.write_explore(alloc, first_machine, states, progress, out),
@@ -277,8 +277,8 @@ pub(crate) fn report_search<W: Sink, P: Progress>(
     out: &mut W,
 ) -> Result<bool, AskStop>
     requires { 1 ≤ states }
-    ensures written { Reports W.Sink (answer_bytes (search_lines search states first_machine.now)) out.old out.new result }
-    ensures complete { IfOk result (λ complete. complete ≡ search_is_complete search states first_machine.now) }
+    ensures written { Reports W.Sink (answer_bytes (search_lines search.entry states first_machine.now)) out.old out.new result }
+    ensures complete { IfOk result (λ complete. complete ≡ search_is_complete search.entry states first_machine.now) }
 {
     let end = write_search(alloc, search, first_machine, states, progress, out);
     flush_buffer(end, out)
