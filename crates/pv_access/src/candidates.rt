@@ -117,7 +117,16 @@ fn push_open(
 {
     if flags.truncate {
         let condition = Condition::AnyValue;
-        push_nodes(alloc, list, paths, tree, pid, condition, NodeWord::Write, ends)?;
+        push_nodes(
+            alloc,
+            list,
+            paths,
+            tree,
+            pid,
+            condition,
+            NodeWord::Write,
+            ends,
+        )?;
     }
     push_names(alloc, list, paths, tree, pid, true, ends)
 }
@@ -154,7 +163,16 @@ fn push_call(
     let (bytes, count) = (Condition::SomeBytes, Condition::SomeCount);
     let (value, success) = (Condition::AnyValue, Condition::Success);
     match call {
-        CallRef::Read(_, _) => push_some_node(alloc, list, paths, tree, pid, bytes, NodeWord::Read, file),
+        CallRef::Read(_, _) => push_some_node(
+            alloc,
+            list,
+            paths,
+            tree,
+            pid,
+            bytes,
+            NodeWord::Read,
+            file,
+        ),
         CallRef::Write(_, _) => push_some_node(
             alloc,
             list,
@@ -169,14 +187,32 @@ fn push_call(
             push_some_node(alloc, list, paths, tree, pid, value, NodeWord::Write, file)
         }
         CallRef::Lseek(_, _, _) | CallRef::Fstat(_) | CallRef::Fchdir(_) | CallRef::Getdents(_) => {
-            push_some_node(alloc, list, paths, tree, pid, success, NodeWord::Report, file)
+            push_some_node(
+                alloc,
+                list,
+                paths,
+                tree,
+                pid,
+                success,
+                NodeWord::Report,
+                file,
+            )
         }
         CallRef::Execve(_) => push_execve(alloc, list, paths, tree, pid, ends),
         CallRef::Open(_, flags) | CallRef::OpenAt(_, _, flags) => {
             push_open(alloc, list, paths, tree, pid, flags, ends)
         }
         CallRef::Stat(_) | CallRef::Lstat(_) | CallRef::Readlink(_) | CallRef::Chdir(_) => {
-            push_nodes(alloc, list, paths, tree, pid, success, NodeWord::Report, ends)
+            push_nodes(
+                alloc,
+                list,
+                paths,
+                tree,
+                pid,
+                success,
+                NodeWord::Report,
+                ends,
+            )
         }
         CallRef::Mkdir(_) | CallRef::Symlink(_, _) | CallRef::Link(_, _) => {
             push_names(alloc, list, paths, tree, pid, true, ends)

@@ -128,11 +128,10 @@ fn files_of(command: Command<'_>) -> Files<'_>
 {
     match command {
         Command::AskTree {
-            question:
-                TreeQuestion::Search {
-                    search: Search::Access { files, .. } | Search::Exposure { files, .. },
-                    ..
-                },
+            question: TreeQuestion::Search {
+                search: Search::Access { files, .. } | Search::Exposure { files, .. },
+                ..
+            },
             ..
         } => files,
         _ => [None; 8],

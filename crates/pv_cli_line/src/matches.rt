@@ -4,8 +4,8 @@ ghost use Rattle.clap.specs.Words.{subcommand_rows_of as entered};
 ghost use Rattle.pv_cli_line.specs.Line.{AreComparedIn, AreMigrationTextsIn, HasFlags, HasTexts, IsCommandIn, IsCommandOf, IsFoundIn, IsMigrationOf, IsPlain, IsQuestionIn, IsRunIn, IsTracedIn, IsTracedTextIn, IsTreeIn, IsValidRunIn, IsValidTreeIn, IsWithoutNumbers, Never, NeverBoth, entered_text, errors_entered, kind_entered, output_entered, question_name, search_name, size_in};
 
 use crate::texts::{
-    RunTexts, TreeTexts, count_of, files_in, is_flag_given, run_in, run_texts_in, size_of, states_of,
-    text_of, tree_in, tree_texts_in, version_of,
+    RunTexts, TreeTexts, count_of, files_in, is_flag_given, run_in, run_texts_in, size_of,
+    states_of, text_of, tree_in, tree_texts_in, version_of,
 };
 use clap::ArgMatches;
 use pv_cli_commands::questions::{Question, RunQuestion, Search, SearchKind, TreeQuestion};

@@ -48,11 +48,7 @@ fn with_first(mut text: Vec<u8>, first: &Option<Vec<u8>>) -> Result<Vec<u8>, All
 }
 
 // Appends the text of a path, if there is one.
-fn push_path(
-    alloc: Global,
-    texts: &mut Vec<Vec<u8>>,
-    path: Option<&[u8]>,
-) -> Result<(), AllocError>
+fn push_path(alloc: Global, texts: &mut Vec<Vec<u8>>, path: Option<&[u8]>) -> Result<(), AllocError>
     ensures { OnOk result (texts_of texts.new.items ≡ texts_of texts.old.items ++ path_texts (path.entry ∷ [])) }
 {
     if let Some(path) = path {
