@@ -68,6 +68,18 @@ fn texts_of_paths(alloc: Global, paths: &[Option<&[u8]>]) -> Result<Vec<Vec<u8>>
     Ok(texts)
 }
 
+// Returns whether a text is one of a list.
+fn has_text(texts: &[Vec<u8>], text: &[u8]) -> bool
+    ensures { result ≡ is_given (texts_of texts.now) text.now }
+{
+    for one in texts {
+        if text == one.as_slice() {
+            return true;
+        }
+    }
+    false
+}
+
 impl<'a> FirstPaths<'a> {
     /// Returns the first tree with the files at these paths.
     ///
@@ -103,7 +115,7 @@ impl<'a> FirstPaths<'a> {
     fn is_given(&self, text: &[u8]) -> bool
         ensures { result ≡ is_given (files_given self.now) text.now }
     {
-        self.files.iter().any(|file| text == file.as_slice())
+        has_text(&self.files, text)
     }
 
     // Returns whether the path of a name is given.

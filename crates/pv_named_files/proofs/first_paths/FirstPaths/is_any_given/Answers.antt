@@ -32,5 +32,5 @@ loop-next-preserved c =
     subst (λ (name : Bytes). names_after (Some (c.in-Some.directory, name)) (names_of t n) ≡ names_from c.next_name-next-in-Some.result (names_of t n)) c.as_slice-in-Some.ensures.value c.next_name-next-in-Some.ensures.rest in
     left-more files t (names_of t n) x c.next_name-next-in-Some.result
     (subst (λ (o : Option Named). AreLeft files t (names_of t n) o) c.in-Some.is c.loop-next.invariant)
-    (ap (λ (name : Bytes). is_given files (name_words t c.in-Some.directory name)) (sym c.as_slice.ensures.value) ∙ sym c.in_ok-is_given_name.ensures ∙ c.if-is_given_name.false)
+    (ap (λ (name : Bytes). is_given files (name_words t c.in-Some.directory name)) (sym c.as_slice.ensures.value) ∙ sym c.in_ok-is_given_name.ensures ∙ c.if-branch.false)
     next
