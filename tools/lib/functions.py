@@ -63,6 +63,13 @@ def lines_of(crate, path):
         return it.read().split("\n")
 
 
+def changed_lines(before, after):
+    """Yields the place of each line that an edit changes, and the new line. An edit may change blanks, so that a text is in the file once."""
+    for at, (old, new) in enumerate(zip(before, after)):
+        if old != new and ("".join(old.split()) != "".join(new.split()) or re.search("[\"']", old)):
+            yield at, new
+
+
 def functions_of(crate, texts):
     """Returns the functions with a body in the crate's files, without those of tests, each with its whole name below the crate, or None if that is not sure."""
     kinds, found = collections.defaultdict(set), []
