@@ -7,8 +7,8 @@ use Rattle.pv_model.specs.declared.outcome.Outcome.{Outcome}
 use Rattle.pv_model.specs.declared.outcome.Outcome.TheVariants.{Value}
 use Rattle.pv_model.specs.Machine.{Access, accesses, executes, changes_name, of_process, of_next, name_of, open_file, Numbered, Next, inside, calls_for, next, OpenFile, Process, State, process_at, Stepped, step, flags_of, has_succeeded, Tree, Line, program_of}
 use Rattle.pv_model.specs.Answers.Access.{accesses_by_open, node_opened, access_line, reads, writes, reports, nodes_read, nodes_executed, nodes_written, nodes_reported, places_changed, opens}
-use Rattle.pv_laws_steps.proofs.SeenSteps.{steps-by_seen}
-use Rattle.pv_reduced.specs.OfLawsSteps.Seen.{seen, with_insides, StepsBesideAll}
+use Rattle.pv_laws_steps.proofs.DependentSteps.{steps-by_seen}
+use Rattle.pv_reduced.specs.OfLawsSteps.Seen.{seen, with_insides, StepsWithOtherInsides}
 use Rattle.pv_reduced.specs.SeenProcess.{found-inside, process-seen}
 use Rattle.pv_named_files.specs.OfStepCache.Cached.{DependsOnSeen}
 use Rattle.pv_access.specs.Texts.{access_texts, texts_by, texts_of_call}
@@ -46,8 +46,8 @@ module _ (pid : ℕ) (p : Process) (call : Call) where
         map (λ name. changes_name name.0 name.1) (filter_map name_of (places_changed s p call)) ++ map reports (nodes_reported s p call) ++ gained
         else []))) (gained-alike (flags_of call))
 
--- the accesses of two steps of a process are the same if the states agree in what the step depends on
-pub texts-by_seen : (s t : State) (pid : ℕ) (a b : Stepped) → seen pid s ≡ seen pid t → StepsBesideAll pid t a b → access_texts s pid a ≡ access_texts t pid b
+-- the accesses of two steps of a process are the same if the states agree in the part on which the step depends
+pub texts-by_seen : (s t : State) (pid : ℕ) (a b : Stepped) → seen pid s ≡ seen pid t → StepsWithOtherInsides pid t a b → access_texts s pid a ≡ access_texts t pid b
 texts-by_seen s t pid a b alike steps =
     by (process_at s pid) ∙ ap (of_process texts_of_call t pid b) (process-seen s t pid alike)
   where

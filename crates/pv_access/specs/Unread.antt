@@ -7,8 +7,8 @@ use Rattle.pv_reduced.specs.Kinds.{count_line}
 use Rattle.pv_named_files.specs.Notes.{note}
 
 -- a list with the number if the condition holds, and the empty list otherwise
-abbrev pub one_if : Bool → ℕ → List ℕ
-one_if b n = if b then n ∷ [] else []
+abbrev pub singleton_if : Bool → ℕ → List ℕ
+singleton_if b n = if b then n ∷ [] else []
 
 module _ (t : Tree) where
   -- whether a file is not the one at `/init`, and the texts have no note of it

@@ -29,9 +29,10 @@ fn write_last<W: Sink>(
     Ok(kind.write_count(out, searched.states, searched.complete)?)
 }
 
-/// Writes which process can access what under any schedule. The search, of the given kind, visits at most `states` states,
-/// in breadth-first order from the first state of a machine. For each access of a step whose line no earlier access has, it writes a BY
-/// line with a shortest witness, that is, a schedule that leads to this step, and then the line of the access:
+/// Writes the accesses of each process under any schedule. The search, of the given kind, visits at most `states`
+/// states, in breadth-first order from the first state of a machine. For each access of a step whose line no earlier
+/// access has, it writes a BY line with a shortest witness, that is, a schedule that leads to this step, and then the
+/// line of the access:
 ///
 /// - READ, EXEC, WRIT: the file that the call reads, executes or writes;
 /// - NAME: a name that the call creates, removes or changes;

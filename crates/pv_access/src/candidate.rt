@@ -2,8 +2,9 @@
 ghost use Rattle.std.specs.Prelude.{◌≡◌, ◌++◌, ◌∷◌, [], codes, IfOk, OnOk};
 ghost use Rattle.pv_model.specs.Machine.{changes_name, answer_line, answer_line_bytes, node_brief};
 ghost use Rattle.pv_model.specs.Answers.Nodes.{name_words};
-ghost use Rattle.pv_access.specs.Texts.{access_at, all_prepared, line_in, prepared, texts_by, texts_in, texts_with, word_letters};
+ghost use Rattle.pv_access.specs.Texts.{access_at, all_prepared, access_line_in, prepared, texts_by, texts_with, word_letters};
 ghost use Rattle.pv_access.specs.declared.condition.Condition.TheVariants.{Success};
+ghost use Rattle.pv_named_files.specs.OfStepCache.Steps.{texts_in};
 
 use crate::condition::Condition;
 use crate::word::NodeWord;
@@ -81,7 +82,7 @@ pub(crate) fn push_node(
     word: NodeWord,
     node: u16,
 ) -> Result<(), AllocError>
-    ensures { OnOk result (all_prepared candidates.new.items ≡ all_prepared candidates.old.items ++ (condition, texts_by (line_in tree.now.tree pid) (access_at word node)) ∷ []) }
+    ensures { OnOk result (all_prepared candidates.new.items ≡ all_prepared candidates.old.items ++ (condition, texts_by (access_line_in tree.now.tree pid) (access_at word node)) ∷ []) }
 {
     let line = node_line(alloc, tree, pid, word, node)?;
     let noted = word.noted(node);
@@ -106,7 +107,7 @@ pub(crate) fn push_name(
     directory: u16,
     name: &[u8],
 ) -> Result<(), AllocError>
-    ensures { OnOk result (all_prepared candidates.new.items ≡ all_prepared candidates.old.items ++ (Success, texts_by (line_in tree.now.tree pid) (changes_name directory name.now)) ∷ []) }
+    ensures { OnOk result (all_prepared candidates.new.items ≡ all_prepared candidates.old.items ++ (Success, texts_by (access_line_in tree.now.tree pid) (changes_name directory name.now)) ∷ []) }
 {
     let line = name_line(alloc, tree, pid, directory, name)?;
     candidates.push(Candidate {

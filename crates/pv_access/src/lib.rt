@@ -1,4 +1,4 @@
-//! The accesses of steps, and of all schedules: which process can read, execute, change and open what.
+//! The accesses of steps, and of all schedules: the files that each process can read, execute, change and open.
 //!
 //! `step` makes a step of a process and returns its accesses as texts. The tree changes with the step, so `candidates`
 //! prepares, before a call, the texts of all accesses that it may have, each with a `condition` on its outcome. `ends`

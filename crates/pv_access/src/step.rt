@@ -5,7 +5,8 @@ ghost use Rattle.pv_model.specs.Answers.Access.{accesses_by_open, node_opened, o
 ghost use Rattle.pv_model.specs.Machine.{answer_line_bytes, call_of, open_file, Process, process_at, flags_of};
 ghost use Rattle.pv_reduced.specs.OfProcs.Turns.{CallsNext};
 ghost use Rattle.pv_reduced.specs.OfSession.Running.{stepped};
-ghost use Rattle.pv_access.specs.Texts.{access_texts, line_in, texts_by, texts_in};
+ghost use Rattle.pv_access.specs.Texts.{access_texts, access_line_in, texts_by};
+ghost use Rattle.pv_named_files.specs.OfStepCache.Steps.{texts_in};
 
 use crate::candidate::texts_of;
 use crate::candidates::candidates_of;
@@ -30,7 +31,7 @@ fn mode_of(call: CallRef<'_>) -> Option<Mode>
 }
 
 // Returns the node of a descriptor of a live process, if the descriptor is open.
-#[tactic(auto, using(crate::proofs::Past::past_none))]
+#[tactic(auto, using(crate::proofs::DescriptorBounds::past_none))]
 fn node_at_number(parts: &Parts, pid: u32, d: u32) -> Option<u16>
     requires whole { IsValid parts.now }
     requires live { IsSome (process_at parts.now pid) }
@@ -64,7 +65,7 @@ fn opened_line(
     mode: Mode,
     node: u16,
 ) -> Result<Vec<u8>, AllocError>
-    ensures { IfOk result (λ line. line.items ≡ answer_line_bytes (line_in tree.now.tree pid (opens node mode))) }
+    ensures { IfOk result (λ line. line.items ≡ answer_line_bytes (access_line_in tree.now.tree pid (opens node mode))) }
 {
     let text = (ModeLetters(mode), Plain(b" "), NodeBrief { tree, node });
     let line = Line {
@@ -85,7 +86,7 @@ fn push_opened(
     outcome: Outcome,
 ) -> Result<(), AllocError>
     requires { IsValid parts.now }
-    ensures { OnOk result (texts_in texts.new.items ≡ texts_in texts.old.items ++ flat_map (texts_by (line_in parts.now.tree pid)) (accesses_by_open parts.now pid outcome (flags_of (call_of call.entry)))) }
+    ensures { OnOk result (texts_in texts.new.items ≡ texts_in texts.old.items ++ flat_map (texts_by (access_line_in parts.now.tree pid)) (accesses_by_open parts.now pid outcome (flags_of (call_of call.entry)))) }
 {
     let Some(mode) = mode_of(call) else {
         return Ok(());

@@ -1,6 +1,6 @@
 //! The files that no step of a search reads or executes.
 ghost use Rattle.std.specs.Prelude.{◌≡◌, ◌++◌, ◌∷◌, [], codes, filter, map, IfOk, OnOk};
-ghost use Rattle.pv_access.specs.Unread.{files_without_note, is_without_note, one_if, unread_file_line, unread_lines};
+ghost use Rattle.pv_access.specs.Unread.{files_without_note, is_without_note, singleton_if, unread_file_line, unread_lines};
 ghost use Rattle.pv_model.specs.Machine.{named_files, answer_bytes, answer_line_bytes, find_entry, root};
 ghost use Rattle.pv_reduced.specs.OfSession.Running.{FailsBy};
 ghost use Rattle.pv_streams.specs.Sinks.{Writes, WritesOr};
@@ -51,7 +51,7 @@ fn push_unread(
     files: &mut Vec<u16>,
     file: u16,
 ) -> Result<(), AllocError>
-    ensures { OnOk result (files.new.items ≡ files.old.items ++ one_if (is_without_note tree.now.tree searched.now.texts file) file) }
+    ensures { OnOk result (files.new.items ≡ files.old.items ++ singleton_if (is_without_note tree.now.tree searched.now.texts file) file) }
 {
     if is_unread(alloc, tree, searched, file)? {
         return push_number(files, file);
@@ -129,7 +129,7 @@ fn write_unread_files<W: Sink>(
 ///
 /// - `Memory`, if there is no memory.
 /// - `Write`, if a write failed. The sink received a prefix of the lines.
-#[tactic(auto, using(pv_streams::proofs::Reporting::written_none))]
+#[tactic(auto, using(pv_streams::proofs::OutputTexts::written_none))]
 pub(crate) fn write_unread<W: Sink>(
     alloc: Global,
     tree: &Tree,

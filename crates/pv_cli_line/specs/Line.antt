@@ -44,7 +44,7 @@ use Rattle.pv_source.specs.declared.source.Output.{Output}
 use Rattle.pv_source.specs.declared.source.Output.TheVariants.{Translation, ProgramLines}
 use Rattle.pv_cli_line.specs.Parser.{pvsim_app}
 
--- nothing satisfies a predicate, or a relation
+-- the empty predicate, and the empty relation
 abbrev pub Never : {A : Type 0} → (A → Type 0) → Type 0
 Never {A} holds = (x : A) → holds x → ⊥
 
@@ -65,13 +65,13 @@ is_given (Some text) = bytes_eq text (codes "true")
 abbrev pub is_set : List Row → Text → Bool
 is_set rows flag = is_given (first_of flag rows)
 
-abbrev pub is_set_in : List Row → Option (Text × List Row) → Text → Bool
-is_set_in above None flag = is_set above flag
-is_set_in above (Some p) flag = is_set above flag || is_set p.1 flag
+abbrev pub is_flag_set_in : List Row → Option (Text × List Row) → Text → Bool
+is_flag_set_in above None flag = is_set above flag
+is_flag_set_in above (Some p) flag = is_set above flag || is_set p.1 flag
 
 -- errors are explained, unless the flag `quiet` is set
 abbrev pub is_verbose_in : List Row → Option (Text × List Row) → Bool
-is_verbose_in above entered = not (is_set_in above entered (codes "quiet"))
+is_verbose_in above entered = not (is_flag_set_in above entered (codes "quiet"))
 
 -- the number of 32 bits that a word is, in decimal without leading zeros
 unfoldable pub size_in : Text → Option ℕ
@@ -83,9 +83,9 @@ if_count None = None
 if_count (Some n) = if nat_le 1 n && nat_le n 65536 then Some n else None
 
 -- the same, or the default if there is no word
-abbrev pub count_in : ℕ → Option Text → Option ℕ
-count_in default None = Some default
-count_in default (Some word) = if_count (size_in word)
+abbrev pub count_or_default : ℕ → Option Text → Option ℕ
+count_or_default default None = Some default
+count_or_default default (Some word) = if_count (size_in word)
 
 -- a number of states: at least 1
 abbrev pub if_positive : Option ℕ → Option ℕ
@@ -188,10 +188,10 @@ IsValidTreeIn entered command tree = IsTreeIn entered command (codes "PATH") tre
 
 -- the numbers of steps of `turns`, or their defaults
 abbrev pub slice_entered : Option (Text × List Row) → Option ℕ
-slice_entered entered = count_in 1 (entered_text entered (codes "turns") (codes "slice"))
+slice_entered entered = count_or_default 1 (entered_text entered (codes "turns") (codes "slice"))
 
 abbrev pub steps_entered : Option (Text × List Row) → Option ℕ
-steps_entered entered = count_in 1000 (entered_text entered (codes "turns") (codes "steps"))
+steps_entered entered = count_or_default 1000 (entered_text entered (codes "turns") (codes "steps"))
 
 -- the number of states of a search, or its default
 abbrev pub states_entered : Option (Text × List Row) → Text → Option ℕ
@@ -250,8 +250,8 @@ AreComparedIn entered (Bundles first second) =
     × (entered_text entered (codes "compare") (codes "OTHER") ≡ None) × (are_both_input first.now second.now ≡ false)
 
 -- the text of a number, if there is one, is this number
-abbrev pub EncodesNumber : Option Text → Option ℕ → Type 0
-EncodesNumber word number = option_map size_in word ≡ option_map (λ n. Some n) number
+abbrev pub ParsesAsNumber : Option Text → Option ℕ → Type 0
+ParsesAsNumber word number = option_map size_in word ≡ option_map (λ n. Some n) number
 
 -- the command of a question about a run
 abbrev pub question_name : Question → Text
@@ -281,7 +281,7 @@ IsTracedIn entered run = ⊥
 abbrev pub errors_entered : Option (Text × List Row) → Bool
 errors_entered entered = is_given (entered_text entered (codes "explain") (codes "errors")) || not (is_given (entered_text entered (codes "explain") (codes "brief")))
 
--- what allowed each walk is written
+-- the reason why each walk is allowed is written
 abbrev pub allowed_entered : Option (Text × List Row) → Bool
 allowed_entered entered = is_given (entered_text entered (codes "explain") (codes "allowed"))
 
@@ -289,7 +289,7 @@ allowed_entered entered = is_given (entered_text entered (codes "explain") (code
 abbrev pub IsQuestionIn : Option (Text × List Row) → Question → RunInput → Type 0
 IsQuestionIn entered Trace run = IsTracedIn entered run
 IsQuestionIn entered State run = IsValidRunIn entered (codes "state") run
-IsQuestionIn entered (Reach pid) run = (word : Option Text) × IsRunIn entered (codes "reach") (codes "PID") run word × EncodesNumber word pid
+IsQuestionIn entered (Reach pid) run = (word : Option Text) × IsRunIn entered (codes "reach") (codes "PID") run word × ParsesAsNumber word pid
 IsQuestionIn entered (Explain errors allowed) run =
     IsValidRunIn entered (codes "explain") run × (errors_entered entered ≡ errors) × (allowed_entered entered ≡ allowed)
 IsQuestionIn entered (Needs granted) run =
@@ -303,7 +303,7 @@ IsQuestionIn entered (Reasons path) run =
 abbrev pub steps_word : Option (Text × List Row) → Question → Option Text
 steps_word entered question = entered_text entered (question_name question) (codes "steps")
 
--- the question about a whole run is not another command: `run-tree` of a plain bundle, or `audit` of an image
+-- the question about a complete run is not another command: `run-tree` of a plain bundle, or `audit` of an image
 -- and a schedule
 abbrev pub IsUnderTurns : RunInput → Type 0
 IsUnderTurns (Bundle (Plain file)) = ⊥
@@ -353,7 +353,7 @@ IsCommandIn entered (AuditImage image schedule path) =
 IsCommandIn entered (WriteSource file kind) =
     (entered_text entered (codes "source") (codes "FILE") ≡ Some file.now) × (output_entered entered ≡ kind)
 IsCommandIn entered (Ask question run) =
-    IsQuestionIn entered question.question run × EncodesNumber (steps_word entered question.question) question.steps
+    IsQuestionIn entered question.question run × ParsesAsNumber (steps_word entered question.question) question.steps
     × IsOwnQuestion question.question question.steps run
 IsCommandIn entered (AskTree question tree) = IsTreeQuestionIn entered question tree
 IsCommandIn entered (Compare inputs pairs) = AreComparedIn entered inputs × (states_entered entered (codes "compare") ≡ Some pairs)
@@ -409,10 +409,10 @@ abbrev pub IsWithoutWords : Command → Type 0
 IsWithoutWords (RunTree file) = file.now ≡ codes "-"
 IsWithoutWords command = ⊥
 
--- the turns of a command are turns, or these are no turns
-abbrev pub AreFaultyTurns : Command → Option Text → Type 0
-AreFaultyTurns command None = IfSome (turns_of command) (λ turns. are_turns turns ≡ true)
-AreFaultyTurns command (Some turns) = (turns_of command ≡ Some turns) × (are_turns turns ≡ false)
+-- the turns of a command are valid, or they are invalid
+abbrev pub AreInvalidTurns : Command → Option Text → Type 0
+AreInvalidTurns command None = IfSome (turns_of command) (λ turns. are_turns turns ≡ true)
+AreInvalidTurns command (Some turns) = (turns_of command ≡ Some turns) × (are_turns turns ≡ false)
 
 -- a refusal of the turns of a command
 abbrev pub RefusesTurnsOf : Command → LineFault → Type 0
@@ -448,7 +448,7 @@ abbrev pub of_parser : Error → LineFault
 of_parser error = of_kind (kind_of error) error
 
 -- the parser rejects the words, or its matches have no command; the kind of the error is one that the words have
-pub record IsRefused (words : List Text) (error : Error) : Type 0 where
+pub record IsCommandLineError (words : List Text) (error : Error) : Type 0 where
   pub kind : kind_of error ≢ OutOfMemory
   pub is_among : IsAmong (kind_of error) (fault_of pvsim_app words) ⊎ (kind_of error ≡ MissingRequiredArgument)
   pub none : takes pvsim_app words ≡ true → (command : Command) → IsCommandIn (subcommand_of pvsim_app words) command → ⊥
@@ -520,13 +520,13 @@ LacksNumber entered =
     LacksSize entered ⊎ (LacksProcess entered ⊎ (LacksCount entered ⊎ (LacksStates entered ⊎ (LacksVersion entered ⊎ (LacksSteps entered ⊎ LacksPairs entered)))))
 
 -- the result of reading the matches of a subcommand
-abbrev pub IsFoundIn : Option (Text × List Row) → Parsed → Type 0
-IsFoundIn entered (found.Command command) = IsCommandIn entered command
-IsFoundIn entered found.Number = LacksNumber entered
+abbrev pub IsReadFrom : Option (Text × List Row) → Parsed → Type 0
+IsReadFrom entered (found.Command command) = IsCommandIn entered command
+IsReadFrom entered found.Number = LacksNumber entered
 
 -- a refusal of the words after the name of the program
 abbrev pub RefusesWords : List Text → LineFault → Type 0
-RefusesWords words (line.Parser error) = IsRefused words error ⊎ RefusesTurns words error
+RefusesWords words (line.Parser error) = IsCommandLineError words error ⊎ RefusesTurns words error
 RefusesWords words line.Number = LacksNumber (subcommand_of pvsim_app words)
 RefusesWords words line.Memory = ⊤
 

@@ -2,9 +2,9 @@
 ghost use Rattle.std.specs.Prelude.{◌≡◌, map, None, IfOk, IfErr, option_map};
 ghost use Rattle.clap.specs.Words.{kind_of, matches_of, subcommand_of};
 ghost use Rattle.clap.specs.declared.error.kind.ErrorKind.TheVariants.{MissingRequiredArgument, ValueValidation};
-ghost use Rattle.pv_cli_line.specs.Line.{AreFaultyTurns, IsAsked, IsValidIn, RefusesLine, RefusesTurnsOf, RefusesWords, is_verbose_in, is_verbose_line, turns_of as turns_text_of};
+ghost use Rattle.pv_cli_line.specs.Line.{AreInvalidTurns, IsAsked, IsValidIn, RefusesLine, RefusesTurnsOf, RefusesWords, is_verbose_in, is_verbose_line, turns_of as turns_text_of};
 ghost use Rattle.pv_cli_line.specs.Parser.{pvsim_app};
-ghost use Rattle.pv_cli_line.specs.Program.{is_number};
+ghost use Rattle.pv_cli_line.specs.Program.{is_number_error};
 
 use crate::matches::{Parsed, found_in};
 use crate::parser::parser;
@@ -35,7 +35,7 @@ pub enum LineFault {
 impl LineFault {
     // Returns whether an argument is not a number, or is out of range.
     pub(crate) fn is_number(&self) -> bool
-        ensures { result ≡ is_number self.now }
+        ensures { result ≡ is_number_error self.now }
     {
         matches!(self, LineFault::Number)
     }
@@ -96,7 +96,7 @@ fn turns_of(command: Command<'_>) -> Option<&str>
 
 // Returns the turns of a command if they are invalid.
 fn faulty_turns(alloc: Global, command: Command<'_>) -> Result<Option<&str>, AllocError>
-    ensures { IfOk result (λ turns. AreFaultyTurns command.entry (option_map (λ text. text.now) turns)) }
+    ensures { IfOk result (λ turns. AreInvalidTurns command.entry (option_map (λ text. text.now) turns)) }
 {
     let Some(turns) = turns_of(command) else {
         return Ok(None);
@@ -129,7 +129,7 @@ fn checked<'a>(
     verbose: bool,
 ) -> Result<CommandLine<'a>, LineFault>
     ensures value { IfOk result (λ line. (line.command ≡ command.entry) × (line.is_verbose ≡ verbose)) }
-    ensures turns { IfOk result (λ line. AreFaultyTurns line.command None) }
+    ensures turns { IfOk result (λ line. AreInvalidTurns line.command None) }
     ensures refused { IfErr result (RefusesTurnsOf command.entry) }
 {
     let Some(turns) = faulty_turns(alloc, command)? else {
@@ -196,7 +196,7 @@ fn parsed<'a, S: AsStr>(alloc: Global, words: &'a [S]) -> Result<CommandLine<'a>
 ///
 /// # Errors
 ///
-/// - `Parser`: the parser rejects the words, or they ask for help or the version, or the turns of `--by` are no turns.
+/// - `Parser`: the parser rejects the words, or they ask for help or the version, or the turns of `--by` are invalid.
 /// - `Number`: a numeric argument is not a decimal number without leading zeros, or is above 4,294,967,295 or another
 ///   limit.
 /// - `Memory`: there is no memory.

@@ -1,7 +1,7 @@
 //! The command in the matches of the parser.
 ghost use Rattle.std.specs.Prelude.{◌≡◌, ◌⊎◌, ℕ, List, codes, Option, None, Some, IfSome};
 ghost use Rattle.clap.specs.Words.{subcommand_rows_of as entered};
-ghost use Rattle.pv_cli_line.specs.Line.{AreComparedIn, AreMigrationTextsIn, HasFlags, HasTexts, IsCommandIn, IsCommandOf, IsFoundIn, IsMigrationOf, IsPlain, IsQuestionIn, IsRunIn, IsTracedIn, IsTracedTextIn, IsTreeIn, IsValidRunIn, IsValidTreeIn, IsWithoutNumbers, Never, NeverBoth, entered_text, errors_entered, kind_entered, output_entered, question_name, search_name, size_in};
+ghost use Rattle.pv_cli_line.specs.Line.{AreComparedIn, AreMigrationTextsIn, HasFlags, HasTexts, IsCommandIn, IsCommandOf, IsReadFrom, IsMigrationOf, IsPlain, IsQuestionIn, IsRunIn, IsTracedIn, IsTracedTextIn, IsTreeIn, IsValidRunIn, IsValidTreeIn, IsWithoutNumbers, Never, NeverBoth, entered_text, errors_entered, kind_entered, output_entered, question_name, search_name, size_in};
 
 use crate::texts::{
     RunTexts, TreeTexts, count_of, is_flag_given, run_in, run_texts_in, size_of, states_of,
@@ -121,7 +121,7 @@ fn name_of(question: Question<'_>) -> &'static str
     }
 }
 
-// Returns the command of the trace of a whole run. The trace of a plain bundle is a command of its own.
+// Returns the command of the trace of a complete run. The trace of a plain bundle is a command of its own.
 fn whole_trace<'a>(question: RunQuestion<'a>, run: RunInput<'a>) -> Command<'a>
     requires trace { question.question ≡ Question.Trace }
     requires whole { question.steps ≡ None }
@@ -135,7 +135,8 @@ fn whole_trace<'a>(question: RunQuestion<'a>, run: RunInput<'a>) -> Command<'a>
     }
 }
 
-// Returns the command of an audit after a whole run. That of an image and a schedule in files is a command of its own.
+// Returns the command of an audit after a complete run. That of an image and a schedule in files is a command of its
+// own.
 fn whole_audit<'a>(
     question: RunQuestion<'a>,
     path: Option<&'a [u8]>,
@@ -182,10 +183,10 @@ fn command_of_question<'a>(question: RunQuestion<'a>, run: RunInput<'a>) -> Comm
 }
 
 // Returns the command of a question about a run that is in the matches, with its number of steps.
-#[tactic(auto, using(crate::proofs::QuestionLemmas::found_command, crate::proofs::QuestionLemmas::no_number))]
+#[tactic(auto, using(crate::proofs::QuestionMatches::found_command, crate::proofs::QuestionMatches::no_number))]
 fn with_steps<'a>(matches: &ArgMatches<'a>, question: Question<'a>, run: RunInput<'a>) -> Parsed<'a>
     requires { IsQuestionIn (entered matches.now) question run }
-    ensures { IsFoundIn (entered matches.now) result }
+    ensures { IsReadFrom (entered matches.now) result }
 {
     let Some(word) = text_of(matches, name_of(question), "steps") else {
         let steps = None;
@@ -200,7 +201,7 @@ fn with_steps<'a>(matches: &ArgMatches<'a>, question: Question<'a>, run: RunInpu
 
 // Returns the `reach` command, if the matches are of it.
 fn reach_in<'a>(matches: &ArgMatches<'a>) -> Option<Parsed<'a>>
-    ensures found { IfSome result (IsFoundIn (entered matches.now)) }
+    ensures found { IfSome result (IsReadFrom (entered matches.now)) }
     ensures none { result ≡ None → NeverBoth (λ pid. IsQuestionIn (entered matches.now) (Question.Reach pid)) }
 {
     let RunTexts { run, further } = run_texts_in(matches, "reach", "PID")?;
@@ -215,7 +216,7 @@ fn reach_in<'a>(matches: &ArgMatches<'a>) -> Option<Parsed<'a>>
 
 // Returns the `audit` command, if the matches are of it.
 fn audit_in<'a>(matches: &ArgMatches<'a>) -> Option<Parsed<'a>>
-    ensures found { IfSome result (IsFoundIn (entered matches.now)) }
+    ensures found { IfSome result (IsReadFrom (entered matches.now)) }
     ensures none { result ≡ None → NeverBoth (IsRunIn (entered matches.now) (codes "audit") (codes "PATH")) }
 {
     let RunTexts { run, further } = run_texts_in(matches, "audit", "PATH")?;
@@ -256,7 +257,7 @@ fn traced_in<'a>(matches: &ArgMatches<'a>) -> Option<RunInput<'a>>
 
 // Returns the `needs` command, if the matches are of it.
 fn needs_in<'a>(matches: &ArgMatches<'a>) -> Option<Parsed<'a>>
-    ensures found { IfSome result (IsFoundIn (entered matches.now)) }
+    ensures found { IfSome result (IsReadFrom (entered matches.now)) }
     ensures none { result ≡ None → Never (IsValidRunIn (entered matches.now) (codes "needs")) }
 {
     let run = run_in(matches, "needs")?;
@@ -274,7 +275,7 @@ fn are_errors_explained(matches: &ArgMatches<'_>) -> bool
 
 // Returns the `explain` command, if the matches are of it.
 fn explain_in<'a>(matches: &ArgMatches<'a>) -> Option<Parsed<'a>>
-    ensures found { IfSome result (IsFoundIn (entered matches.now)) }
+    ensures found { IfSome result (IsReadFrom (entered matches.now)) }
     ensures none { result ≡ None → Never (IsValidRunIn (entered matches.now) (codes "explain")) }
 {
     let run = run_in(matches, "explain")?;
@@ -284,9 +285,9 @@ fn explain_in<'a>(matches: &ArgMatches<'a>) -> Option<Parsed<'a>>
 }
 
 // Returns the command of a question about a run, if the matches are of one.
-#[tactic(auto, using(crate::proofs::QuestionLemmas::no_question))]
+#[tactic(auto, using(crate::proofs::QuestionMatches::no_question))]
 fn question_in<'a>(matches: &ArgMatches<'a>) -> Option<Parsed<'a>>
-    ensures found { IfSome result (IsFoundIn (entered matches.now)) }
+    ensures found { IfSome result (IsReadFrom (entered matches.now)) }
     ensures none { result ≡ None → NeverBoth (IsQuestionIn (entered matches.now)) }
 {
     if let Some(run) = traced_in(matches) {
@@ -336,7 +337,7 @@ fn cat_in<'a>(matches: &ArgMatches<'a>) -> Option<Command<'a>>
 
 // Returns the `turns` command, if the matches are of it.
 fn turns_in<'a>(matches: &ArgMatches<'a>) -> Option<Parsed<'a>>
-    ensures found { IfSome result (IsFoundIn (entered matches.now)) }
+    ensures found { IfSome result (IsReadFrom (entered matches.now)) }
     ensures none { result ≡ None → Never (IsValidTreeIn (entered matches.now) (codes "turns")) }
 {
     let tree = tree_in(matches, "turns")?;
@@ -368,7 +369,7 @@ fn name_of_search(search: Search) -> &'static str
 // Returns the command of a search, if the matches are of it.
 fn search_by<'a>(matches: &ArgMatches<'a>, search: Search) -> Option<Parsed<'a>>
     requires { HasFlags (entered matches.now) search }
-    ensures found { IfSome result (IsFoundIn (entered matches.now)) }
+    ensures found { IfSome result (IsReadFrom (entered matches.now)) }
     ensures none { result ≡ None → Never (IsValidTreeIn (entered matches.now) (search_name search)) }
 {
     let command = name_of_search(search);
@@ -395,7 +396,7 @@ fn kind_in(matches: &ArgMatches<'_>, command: &str) -> SearchKind
 
 // Returns the command of a search, if there is one in the matches.
 fn search_in<'a>(matches: &ArgMatches<'a>) -> Option<Parsed<'a>>
-    ensures found { IfSome result (IsFoundIn (entered matches.now)) }
+    ensures found { IfSome result (IsReadFrom (entered matches.now)) }
     ensures none { result ≡ None → NeverBoth (λ search. IsValidTreeIn (entered matches.now) (search_name search)) }
 {
     let explore = Search::Explore(kind_in(matches, "explore"));
@@ -445,7 +446,7 @@ fn compared_in<'a>(matches: &ArgMatches<'a>) -> Option<CompareInput<'a>>
 
 // Returns the `compare` command, if the matches are of it.
 fn compare_in<'a>(matches: &ArgMatches<'a>) -> Option<Parsed<'a>>
-    ensures found { IfSome result (IsFoundIn (entered matches.now)) }
+    ensures found { IfSome result (IsReadFrom (entered matches.now)) }
     ensures none { result ≡ None → Never (AreComparedIn (entered matches.now)) }
 {
     let inputs = compared_in(matches)?;
@@ -467,7 +468,7 @@ fn output_in(matches: &ArgMatches<'_>) -> Output
 }
 
 // Returns the plain command in the matches, if there is one.
-#[tactic(auto, using(crate::proofs::LineLemmas::no_plain_command))]
+#[tactic(auto, using(crate::proofs::LineMatches::no_plain_command))]
 fn plain_command_in<'a>(matches: &ArgMatches<'a>) -> Option<Command<'a>>
     ensures found { IfSome result (IsCommandIn (entered matches.now)) }
     ensures none { result ≡ None → (command : Command) → IsPlain command → IsCommandIn (entered matches.now) command → ⊥ }
@@ -489,7 +490,7 @@ fn plain_command_in<'a>(matches: &ArgMatches<'a>) -> Option<Command<'a>>
 
 // Returns the `migrate` command, if the matches are of it.
 fn migrate_in<'a>(matches: &ArgMatches<'a>) -> Option<Parsed<'a>>
-    ensures found { IfSome result (IsFoundIn (entered matches.now)) }
+    ensures found { IfSome result (IsReadFrom (entered matches.now)) }
     ensures none { result ≡ None → (image out blocks inodes : List ℕ) → HasTexts (entered matches.now) image out blocks inodes → ⊥ }
 {
     let migration = migration_in(matches)?;
@@ -501,7 +502,7 @@ fn migrate_in<'a>(matches: &ArgMatches<'a>) -> Option<Parsed<'a>>
 
 // Returns the `import` command, if the matches are of it.
 fn import_in<'a>(matches: &ArgMatches<'a>) -> Option<Parsed<'a>>
-    ensures found { IfSome result (IsFoundIn (entered matches.now)) }
+    ensures found { IfSome result (IsReadFrom (entered matches.now)) }
     ensures none { result ≡ None → (directory image : List ℕ)
         → entered_text (entered matches.now) (codes "import") (codes "DIR") ≡ Some directory
         → entered_text (entered matches.now) (codes "import") (codes "IMAGE") ≡ Some image → ⊥ }
@@ -523,7 +524,7 @@ fn import_in<'a>(matches: &ArgMatches<'a>) -> Option<Parsed<'a>>
 }
 
 // Returns the command without numeric arguments in the matches, if there is one.
-#[tactic(auto, using(crate::proofs::LineLemmas::no_command))]
+#[tactic(auto, using(crate::proofs::LineMatches::no_command))]
 fn command_in<'a>(matches: &ArgMatches<'a>) -> Option<Command<'a>>
     ensures found { IfSome result (IsCommandIn (entered matches.now)) }
     ensures none { result ≡ None → (command : Command) → IsWithoutNumbers command → IsCommandIn (entered matches.now) command → ⊥ }
@@ -538,9 +539,9 @@ fn command_in<'a>(matches: &ArgMatches<'a>) -> Option<Command<'a>>
 }
 
 // Returns the command in the matches, if there is one.
-#[tactic(auto, using(crate::proofs::LineLemmas::no_command_at_all))]
+#[tactic(auto, using(crate::proofs::LineMatches::no_command_at_all))]
 pub(crate) fn found_in<'a>(matches: &ArgMatches<'a>) -> Option<Parsed<'a>>
-    ensures found { IfSome result (IsFoundIn (entered matches.now)) }
+    ensures found { IfSome result (IsReadFrom (entered matches.now)) }
     ensures none { result ≡ None → Never (IsCommandIn (entered matches.now)) }
 {
     if let Some(command) = command_in(matches) {

@@ -38,7 +38,7 @@ enum Argument {
 
 use Argument::{Flag, Named, Optional, Renamed, Required};
 
-// A command: its name, its help, the end of its help with what the answer leaves out and an example, and its arguments
+// A command: its name, its help, the end of its help with the limits of the answer and an example, and its arguments
 // in order.
 struct CommandRow {
     name: &'static str,

@@ -1,7 +1,7 @@
 //! The texts and numbers of a command in the parser's matches.
 ghost use Rattle.std.specs.Prelude.{◌≡◌, Option, None, Some, IfSome, option_map};
 ghost use Rattle.clap.specs.Words.{found_of, rows_of, subcommand_rows_of as entered};
-ghost use Rattle.pv_cli_line.specs.Line.{AreRunTextsIn, AreTreeTextsIn, IsGivenIn, IsRunIn, IsScheduleOf, IsTextIn, IsTextless, IsTreeIn, IsValidRunIn, IsValidTreeIn, Never, NeverBoth, count_in, entered_text, is_given, is_set, is_set_in, is_verbose_in, size_in, states_in, version_in};
+ghost use Rattle.pv_cli_line.specs.Line.{AreRunTextsIn, AreTreeTextsIn, IsGivenIn, IsRunIn, IsScheduleOf, IsTextIn, IsTextless, IsTreeIn, IsValidRunIn, IsValidTreeIn, Never, NeverBoth, count_or_default, entered_text, is_given, is_set, is_flag_set_in, is_verbose_in, size_in, states_in, version_in};
 
 use clap::ArgMatches;
 use pv_cli_commands::{RunInput, ScheduleInput, TextInput, TreeInput};
@@ -32,7 +32,7 @@ fn is_set(matches: &ArgMatches<'_>, flag: &str) -> bool
 
 // Returns whether a flag is set in the matches, before or after the name of a command.
 fn is_set_in(matches: &ArgMatches<'_>, flag: &str) -> bool
-    ensures { result ≡ is_set_in (rows_of (found_of matches.now)) (entered matches.now) flag.now }
+    ensures { result ≡ is_flag_set_in (rows_of (found_of matches.now)) (entered matches.now) flag.now }
 {
     let above = is_set(matches, flag);
     match matches.subcommand() {
@@ -65,7 +65,7 @@ pub(crate) fn size_of(word: &str) -> Option<u32>
 
 // Parses a number of steps, from 1 to 65,536. Without a word, returns the default.
 pub(crate) fn count_of(word: Option<&str>, default: u32) -> Option<u32>
-    ensures { result ≡ count_in default (option_map (λ text. text.now) word.entry) }
+    ensures { result ≡ count_or_default default (option_map (λ text. text.now) word.entry) }
 {
     let Some(word) = word else {
         return Some(default);
@@ -129,7 +129,7 @@ pub(crate) enum Given<'a> {
 }
 
 // Returns the manifests and bundles that are given, if the matches are of the given command.
-#[tactic(auto, using(crate::proofs::LineLemmas::text_none, crate::proofs::LineLemmas::text_both))]
+#[tactic(auto, using(crate::proofs::LineMatches::text_none, crate::proofs::LineMatches::text_both))]
 fn given_in<'a>(matches: &ArgMatches<'a>, command: &str) -> Given<'a>
     ensures { IsGivenIn (entered matches.now) command.now result }
 {
@@ -333,7 +333,7 @@ pub(crate) fn tree_texts_in<'a>(
 }
 
 // Returns the input that has a tree, if the matches are of the given command, which has no further argument.
-#[tactic(auto, using(crate::proofs::LineLemmas::tree_further))]
+#[tactic(auto, using(crate::proofs::LineMatches::tree_further))]
 pub(crate) fn tree_in<'a>(matches: &ArgMatches<'a>, command: &str) -> Option<TreeInput<'a>>
     ensures found { IfSome result (λ tree. IsValidTreeIn (entered matches.now) command.now tree) }
     ensures none { result ≡ None → Never (IsValidTreeIn (entered matches.now) command.now) }

@@ -13,5 +13,5 @@ exposed_lines_by kind limit s =
     (count_line kind (length (found_by_kind kind limit s)) (is_complete_by kind limit s))
 
 -- all lines, given the kind of search, the number of visited states and whether the search is complete
-abbrev pub lines_of_all : SearchKind → Tree → Bool → ℕ → List Exposed → List AnswerLine
-lines_of_all kind t complete states es = flat_map (lines_of_exposed t complete) (counted_from 1 es) ++ count_line kind states complete ∷ []
+abbrev pub all_exposed_lines : SearchKind → Tree → Bool → ℕ → List Exposed → List AnswerLine
+all_exposed_lines kind t complete states es = flat_map (lines_of_exposed t complete) (counted_from 1 es) ++ count_line kind states complete ∷ []

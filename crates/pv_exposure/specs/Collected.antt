@@ -6,7 +6,7 @@ use Rattle.pv_model.specs.Answers.Exposure.{located_at, range_text}
 use Rattle.pv_model.specs.Answers.ProgramNames.{program_line}
 use Rattle.pv_model_questions.specs.declared.finding_kind.FindingKind.{FindingKind}
 use Rattle.pv_model_questions.specs.declared.finding_kind.FindingKind.TheVariants.{Leak, Peer, Edit, Read}
-use Rattle.pv_model_questions.specs.Exposure.{Finding, findings_at, is_safe_in, kind_word, kinds, line_of, safe_line}
+use Rattle.pv_model_questions.specs.Exposure.{Finding, findings_at, is_safe_in, kind_word, kinds, finding_line, safe_line}
 
 -- ---- findings
 
@@ -19,7 +19,7 @@ pub record Recorded : Type 0 where
   pub reason : Bytes
 
 abbrev pub recorded_of : Finding → Recorded
-recorded_of x = record { witness = x.witness; pid = x.at.pid; line = line_of x; file = x.file; reason = x.reason }
+recorded_of x = record { witness = x.witness; pid = x.at.pid; line = finding_line x; file = x.file; reason = x.reason }
 
 abbrev pub recorded_at : Tree → FindingKind → Located → List Recorded
 recorded_at first kind l = map recorded_of (findings_at program_of first kind l)
@@ -28,15 +28,15 @@ recorded_at first kind l = map recorded_of (findings_at program_of first kind l)
 abbrev pub record_key : ℕ → Bytes → Bytes
 record_key line file = line / 256 ∷ line % 256 ∷ file
 
-abbrev pub key_of : Recorded → Bytes
-key_of k = record_key k.line k.file
+abbrev pub key_of_recorded : Recorded → Bytes
+key_of_recorded k = record_key k.line k.file
 
 abbrev pub has_key : List Recorded → Bytes → Bool
-has_key ks key = list_any (λ k. bytes_eq key (key_of k)) ks
+has_key ks key = list_any (λ k. bytes_eq key (key_of_recorded k)) ks
 
 -- the findings with one more, unless one at the same line has the same file text
 abbrev pub with_one : List Recorded → Recorded → List Recorded
-with_one ks k = if has_key ks (key_of k) then ks else ks ++ k ∷ []
+with_one ks k = if has_key ks (key_of_recorded k) then ks else ks ++ k ∷ []
 
 abbrev pub with_all : List Recorded → List Recorded → List Recorded
 with_all ks [] = ks
@@ -44,7 +44,8 @@ with_all ks (x ∷ xs) = with_all (with_one ks x) xs
 
 -- ---- programs
 
--- a program, its findings, and the files of the first tree that every process was closed to in the states of its processes
+-- a program, its findings, and the files of the first tree to which every process was closed in the states of its
+-- processes
 pub record Exposed : Type 0 where
   pub program : Program
   pub leaks : List Recorded
@@ -119,12 +120,12 @@ module _ (kind : FindingKind) where
       answer_line k.pid (codes "BY") (witness_text k.witness) ∷ answer_line k.pid (kind_word kind) (recorded_text k ranges) ∷ []
 
   -- the lines of the findings of a file text
-  abbrev pub recorded_lines : Recorded × List Recorded → List AnswerLine
-  recorded_lines (first, ks) = recorded_lines_by (ranges_recorded ks) (last_recorded ks)
+  abbrev pub recorded_finding_lines : Recorded × List Recorded → List AnswerLine
+  recorded_finding_lines (first, ks) = recorded_lines_by (ranges_recorded ks) (last_recorded ks)
 
   -- the lines of the findings of all file texts
   abbrev pub all_recorded_lines : List Recorded → List AnswerLine
-  all_recorded_lines ks = flat_map recorded_lines (groups (λ k. k.file) ks)
+  all_recorded_lines ks = flat_map recorded_finding_lines (groups (λ k. k.file) ks)
 
   abbrev pub lines_recorded_of : Exposed → List AnswerLine
   lines_recorded_of e = all_recorded_lines (findings_of kind e)

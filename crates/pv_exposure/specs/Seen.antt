@@ -9,6 +9,6 @@ abbrev pub found_seen : SeenState → Found
 found_seen seen = record { witness = seen.witness.now; state = seen.parts.now }
 
 -- a state is the visited one of its number, with its files
-pub record IsSeen (visits : Visits) (seen : SeenState) : Type 0 where
+pub record IsSeenState (visits : Visits) (seen : SeenState) : Type 0 where
   pub at : slice_get visits.found seen.number ≡ Some (found_seen seen)
   pub files : AreFilesOf seen.first.now.tree seen.parts.now seen.files.now

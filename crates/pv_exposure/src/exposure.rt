@@ -1,8 +1,8 @@
 //! The exposure of the programs under all schedules.
 ghost use Rattle.std.specs.Prelude.{◌≡◌, ◌≤◌, [], flat_map, length, slice_get, IfOk, IsSome, OnOk, Some};
-ghost use Rattle.pv_exposure.specs.Answers.{exposed_lines_by, lines_of_all};
+ghost use Rattle.pv_exposure.specs.Answers.{exposed_lines_by, all_exposed_lines};
 ghost use Rattle.pv_exposure.specs.Collected.{exposed_after, exposed_with};
-ghost use Rattle.pv_exposure.specs.Seen.{IsSeen, found_seen};
+ghost use Rattle.pv_exposure.specs.Seen.{IsSeenState, found_seen};
 ghost use Rattle.pv_exposure.specs.Stored.{located_by, located_if};
 ghost use Rattle.pv_model.specs.Machine.{Found, named_files, answer_bytes, Process, process_at};
 ghost use Rattle.pv_model.specs.Answers.Exposure.{located_at};
@@ -46,7 +46,7 @@ fn add_live(
     pid: u32,
 ) -> Result<(), StepFault>
     requires live { IsSome (process_at seen.now.parts.now pid) }
-    requires seen { IsSeen states.old seen.now }
+    requires seen { IsSeenState states.old seen.now }
     ensures unchanged { states.new ≡ states.old }
     ensures added { OnOk result ((p : Process) → process_at seen.now.parts.now pid ≡ Some p → records.new.items ≡ exposed_with seen.now.first.now.tree named.now records.old.items (located_by (found_seen seen.now) pid p)) }
 {
@@ -71,7 +71,7 @@ fn add_number(
     seen: &SeenState<'_>,
     pid: u32,
 ) -> Result<(), StepFault>
-    requires { IsSeen states.old seen.now }
+    requires { IsSeenState states.old seen.now }
     ensures unchanged { states.new ≡ states.old }
     ensures added { OnOk result (records.new.items ≡ exposed_after seen.now.first.now.tree named.now records.old.items (located_if (found_seen seen.now) pid (process_at seen.now.parts.now pid))) }
 {
@@ -89,7 +89,7 @@ fn add_state(
     states: &mut SearchedStates<'_>,
     seen: &SeenState<'_>,
 ) -> Result<(), StepFault>
-    requires { IsSeen states.old seen.now }
+    requires { IsSeenState states.old seen.now }
     ensures unchanged { states.new ≡ states.old }
     ensures added { OnOk result (records.new.items ≡ exposed_after seen.now.first.now.tree named.now records.old.items (located_at (found_seen seen.now))) }
 {
@@ -174,7 +174,7 @@ fn text_of_states(
     states: &mut SearchedStates<'_>,
 ) -> Result<Vec<u8>, StepFault>
     ensures unchanged { states.new ≡ states.old }
-    ensures text { IfOk result (λ text. text.items ≡ answer_bytes (lines_of_all kind tree.now.tree states.old.complete (length states.old.found) (exposed_after tree.now.tree (named_files tree.now.tree) [] (flat_map located_at states.old.found)))) }
+    ensures text { IfOk result (λ text. text.items ≡ answer_bytes (all_exposed_lines kind tree.now.tree states.old.complete (length states.old.found) (exposed_after tree.now.tree (named_files tree.now.tree) [] (flat_map located_at states.old.found)))) }
 {
     let named = named_files(alloc, tree)?;
     let records = records_of(alloc, tree, &named, states)?;
@@ -183,9 +183,9 @@ fn text_of_states(
     Ok(text_of_all(alloc, kind, tree, complete, count, &records)?)
 }
 
-/// Writes what an attacker gains who takes over a process, at each line of its program. The search, of the given kind,
-/// visits at most `states` states, in breadth-first order from the first state of a machine. For each program that a live process of a
-/// visited state has, it writes a line PROG, and then four lists:
+/// Writes the gains of an attacker who takes over a process, at each line of its program. The search, of the given
+/// kind, visits at most `states` states, in breadth-first order from the first state of a machine. For each program
+/// that a live process of a visited state has, it writes a line PROG, and then four lists:
 ///
 /// - LEAK: the process is not closed to the file, with the first reason;
 /// - PEER: the process is closed to the file, but another live process is not, with its number and first reason;

@@ -4,7 +4,7 @@ ghost use Rattle.pv_exposure.specs.StateFiles.{AreFilesOf, described, described_
 ghost use Rattle.pv_exposure.specs.Unnamed.{is_unnamed};
 ghost use Rattle.pv_model.specs.Machine.{files_of_tree, State, Tree as DefinedTree};
 ghost use Rattle.pv_model.specs.Answers.Files.{unnamed_files};
-ghost use Rattle.pv_model_questions.specs.Briefs.{brief_since, path_text, with_first};
+ghost use Rattle.pv_model_questions.specs.Briefs.{brief_since, node_path_text, with_first};
 ghost use Rattle.pv_model_questions.specs.Exposure.{first_leak_of};
 ghost use Rattle.std.specs.List.{range_with_len};
 ghost use Rattle.std.specs.Prelude.{None, option_map, slice_index_or};
@@ -82,7 +82,7 @@ fn files_of_tree(alloc: Global, tree: &Tree) -> Result<Vec<u16>, AllocError>
 
 // Returns the path of a node as a quoted text, if it has one.
 fn path_of(alloc: Global, tree: &Tree, node: u16) -> Result<Option<Vec<u8>>, AllocError>
-    ensures { IfOk result (λ path. option_map (λ p. p.items) path ≡ path_text tree.now.tree node) }
+    ensures { IfOk result (λ path. option_map (λ p. p.items) path ≡ node_path_text tree.now.tree node) }
 {
     if !has_path(tree, node) {
         return Ok(None);

@@ -2,7 +2,7 @@
 ghost use Rattle.std.specs.Prelude.{◌≡◌, ◌++◌, ◌∷◌, [], filter, map, position, IfOk, OnOk, Some};
 ghost use Rattle.pv_exposure.specs.Collected.{exposed_more, exposed_none, exposed_with, findings_of, is_of as is_of_numbers};
 ghost use Rattle.pv_exposure.specs.StateFiles.{AreFilesOf, IsFileOf, described, described_file, is_safe_at};
-ghost use Rattle.pv_exposure.specs.Stored.{IsVisit, located_in, with_file, with_files};
+ghost use Rattle.pv_exposure.specs.Stored.{IsVisit, located_in_visit, exposed_with_file, exposed_with_files};
 ghost use Rattle.pv_model.specs.Machine.{files_of_tree, program_numbers, Process, process_at, State, Tree};
 
 use crate::files::{StateFile, StateFiles};
@@ -99,7 +99,7 @@ impl ProgramRecord {
     ) -> Result<(), AllocError>
         requires visit { IsVisit visit.now }
         requires file { IsFileOf visit.now.first.now.tree visit.now.parts.now file.now }
-        ensures { OnOk result ((p : Process) → process_at visit.now.parts.now visit.now.pid ≡ Some p → self.new ≡ with_file visit.now.first.now.tree (located_in visit.now p) self.old file.now.node) }
+        ensures { OnOk result ((p : Process) → process_at visit.now.parts.now visit.now.pid ≡ Some p → self.new ≡ exposed_with_file visit.now.first.now.tree (located_in_visit visit.now p) self.old file.now.node) }
     {
         let key = key_of_line(alloc, line_of(visit), &file.text)?;
         self.leaks.add(alloc, FindingKind::Leak, visit, file, &key)?;
@@ -117,7 +117,7 @@ impl ProgramRecord {
     ) -> Result<(), AllocError>
         requires visit { IsVisit visit.now }
         requires files { map described files.now ≡ map (described_file visit.now.first.now.tree visit.now.parts.now.tree) (files_of_tree visit.now.parts.now.tree) }
-        ensures { OnOk result ((p : Process) → process_at visit.now.parts.now visit.now.pid ≡ Some p → self.new ≡ with_files visit.now.first.now.tree (located_in visit.now p) self.old (files_of_tree visit.now.parts.now.tree)) }
+        ensures { OnOk result ((p : Process) → process_at visit.now.parts.now visit.now.pid ≡ Some p → self.new ≡ exposed_with_files visit.now.first.now.tree (located_in_visit visit.now p) self.old (files_of_tree visit.now.parts.now.tree)) }
     {
         for file in files {
             self.add_file(alloc, visit, file)?;
@@ -128,7 +128,7 @@ impl ProgramRecord {
     // Adds the findings about a live process of the program.
     fn add(&mut self, alloc: Global, visit: &Visit<'_>) -> Result<(), AllocError>
         requires { IsVisit visit.now }
-        ensures { OnOk result ((p : Process) → process_at visit.now.parts.now visit.now.pid ≡ Some p → self.new ≡ exposed_more visit.now.first.now.tree self.old (located_in visit.now p)) }
+        ensures { OnOk result ((p : Process) → process_at visit.now.parts.now visit.now.pid ≡ Some p → self.new ≡ exposed_more visit.now.first.now.tree self.old (located_in_visit visit.now p)) }
     {
         self.add_files(alloc, visit, &visit.files.files)?;
         let safe = safe_among(alloc, visit.files, &self.safe)?;
@@ -182,7 +182,7 @@ pub(crate) fn add_process(
     visit: &Visit<'_>,
 ) -> Result<(), AllocError>
     requires { IsVisit visit.now }
-    ensures { OnOk result ((p : Process) → process_at visit.now.parts.now visit.now.pid ≡ Some p → records.new.items ≡ exposed_with visit.now.first.now.tree named.now records.old.items (located_in visit.now p)) }
+    ensures { OnOk result ((p : Process) → process_at visit.now.parts.now visit.now.pid ≡ Some p → records.new.items ≡ exposed_with visit.now.first.now.tree named.now records.old.items (located_in_visit visit.now p)) }
 {
     let program = visit.parts.processes().program(visit.pid);
     let numbers = program_numbers(alloc, program)?;

@@ -1,7 +1,7 @@
 //! The lines of programs, in memory.
 ghost use Rattle.std.specs.Prelude.{◌≡◌, ◌++◌, ◌∷◌, [], bytes_eq, codes, flat_map, if◌then◌else◌, map, IfOk, OnOk, Some};
 ghost use Rattle.std.specs.List.{list_any};
-ghost use Rattle.pv_exposure.specs.Answers.{lines_of_all};
+ghost use Rattle.pv_exposure.specs.Answers.{all_exposed_lines};
 ghost use Rattle.pv_exposure.specs.Collected.{all_lines_recorded_of, all_recorded_lines, recorded_lines_by, recorded_text, last_recorded, lines_of_exposed, lines_recorded_of, ranges_recorded};
 ghost use Rattle.pv_exposure.specs.Stored.{all_recorded, first_at, recorded_in, recorded_of_file};
 ghost use Rattle.pv_model.specs.Machine.{witness_text, answer_bytes, answer_line, answer_line_bytes, counted_from};
@@ -287,7 +287,7 @@ pub(crate) fn text_of_all(
     states: usize,
     programs: &[ProgramRecord],
 ) -> Result<Vec<u8>, AllocError>
-    ensures { IfOk result (λ text. text.items ≡ answer_bytes (lines_of_all kind tree.now.tree complete states programs.now)) }
+    ensures { IfOk result (λ text. text.items ≡ answer_bytes (all_exposed_lines kind tree.now.tree complete states programs.now)) }
 {
     let mut out = Gathered::new(alloc);
     append_programs(alloc, &mut out, tree, complete, programs)?;

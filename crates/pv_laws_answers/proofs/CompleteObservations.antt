@@ -4,7 +4,7 @@ use Rattle.std.specs.List.{AllByRecursion, list_any}
 use Rattle.pv_model.specs.Machine.{lines_of_accesses, Found, Move, move, moves_of, states_found, is_complete, AnswerLine, answer_line_bytes, Numbers, Observer, Observation, observed, observations, first_observations, of_process, of_calls, Bytes, live_processes, Program, Process, State, process_at, step, run}
 use Rattle.pv_model.specs.Answers.Access.{reported_accesses}
 use Rattle.pv_model.specs.Answers.Observed.{observations_at}
-use Rattle.pv_laws_trees.proofs.Entries.{bytes_eq-itself}
+use Rattle.pv_laws_trees.proofs.DirectoryEntries.{bytes_eq-itself}
 use Rattle.pv_laws_answers.specs.Accesses.{EachAccessIsListed, is_access_listed}
 use Rattle.pv_laws_answers.specs.Search.{IsSearchable}
 use Rattle.pv_laws_answers.proofs.CompleteSearches.{found-there, all-found}

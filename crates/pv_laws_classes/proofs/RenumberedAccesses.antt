@@ -14,8 +14,8 @@ use Rattle.pv_model.specs.Machine.{node_brief, AnswerLine, answer_line, of_next,
 use Rattle.pv_model.specs.Answers.Observed.{CallObserver}
 use Rattle.pv_model.specs.Touch.{reports_of_place, reports_of_descriptor}
 use Rattle.pv_laws_states.specs.States.{EncodesPrograms, IsValid}
-use Rattle.pv_laws_states.proofs.BySteps.{step-keeps_whole}
-use Rattle.pv_laws_classes.specs.Canonical.{AreAlike}
+use Rattle.pv_laws_states.proofs.ValidBySteps.{step-keeps_valid}
+use Rattle.pv_laws_classes.specs.Canonical.{AreEqualRenumbered}
 use Rattle.pv_laws_classes.specs.Renumbering.{renumbered_process}
 use Rattle.pv_laws_classes.proofs.RenumberedLists.{Uses}
 use Rattle.pv_laws_classes.proofs.RenumberedDescriptors.{opened-same, directory-file}
@@ -160,9 +160,9 @@ module _ {X : Type 0} (observe : CallObserver X) where
 
 -- an observer of calls has the same items for the steps of a process from two states that are equal up to a renumbering
 pub of-classes : {X : Type 0} (observe : CallObserver X) → IsSame observe → (program_of : Bytes → Option Program) → EncodesPrograms program_of
-    → (s t : State) (pid : ℕ) → IsValid s → IsValid t → AreAlike s t → of_calls observe t pid (step program_of t pid) ≡ of_calls observe s pid (step program_of s pid)
+    → (s t : State) (pid : ℕ) → IsValid s → IsValid t → AreEqualRenumbered s t → of_calls observe t pid (step program_of t pid) ≡ of_calls observe s pid (step program_of s pid)
 of-classes observe same program_of encodes s t pid whole_s whole_t (f, is) =
     let both = renumbered-steps program_of f s t pid whole_s whole_t is in
     observed-same observe same pid (step program_of s pid) (step program_of t pid) both.outcome
-    (related-of both.renumbering (step program_of s pid).after (step program_of t pid).after (step-keeps_whole program_of encodes s pid whole_s) (step-keeps_whole program_of encodes t pid whole_t) both.after)
+    (related-of both.renumbering (step program_of s pid).after (step program_of t pid).after (step-keeps_valid program_of encodes s pid whole_s) (step-keeps_valid program_of encodes t pid whole_t) both.after)
     s t (related-of f s t whole_s whole_t is)

@@ -1,4 +1,4 @@
--- A process that looks alike in two states: the accesses of its next step, and why it is not closed to a file.
+-- A process that looks the same in two states: the accesses of its next step, and why it is not closed to a file.
 use Rattle.std.proofs.Common.{◌≡◌, ◌∙◌, sym, ap, ap₂, subst, ℕ, ℤ, pos, negsuc, Bool, if◌then◌else◌, ◌==◌, List, [], ◌∷◌, ◌++◌, map, filter, filter_map, take, codes, Option, None, Some, is_none, option_map, option_and_then, option_to_list, refl}
 use Rattle.pv_model.specs.declared.call.Call.{Call}
 use Rattle.pv_model.specs.declared.call.Call.TheVariants.{Execve, Read, Unveil, Write, Ftruncate}
@@ -20,9 +20,9 @@ use Rattle.pv_model.specs.Touch.{reports_of_place, reports_of_descriptor}
 use Rattle.pv_laws_classes.specs.Liveness.{with_values}
 use Rattle.pv_laws_classes.specs.Shown.{shown_process}
 
--- ---- states in which a process looks alike
+-- ---- states in which a process looks the same
 
--- two processes are the same but for registers and buffer
+-- two processes are the same except for registers and buffer
 abbrev pub AreAlike : Option Process → Option Process → Type 0
 AreAlike None o = o ≡ None
 AreAlike (Some p) o = (registers : List ℤ) × (buffer : Bytes) × (o ≡ Some (with_values registers buffer p))
@@ -33,7 +33,7 @@ pub record LooksAlike (pid : ℕ) (s t : State) : Type 0 where
   pub files : t.files ≡ s.files
   pub process : AreAlike (process_at s pid) (process_at t pid)
 
--- what holds of the state with other processes holds of a state with the same tree and open files
+-- a property of the state with other processes holds for a state with the same tree and open files
 pub by-fields : (P : State → Type 0) (s t : State) → t.tree ≡ s.tree → t.files ≡ s.files → P (record s { processes = t.processes; last_process = t.last_process }) → P t
 by-fields P s t tree files is = subst P (λ i. record { tree = sym tree i; files = sym files i; processes = t.processes; last_process = t.last_process }) is
 

@@ -77,7 +77,7 @@ module _ (program_of : Bytes → Option Program) (limit : ℕ) (s : State) where
 
   abbrev pub lines_of_reduced_requests : Requests → List AnswerLine
   lines_of_reduced_requests rs =
-      flat_map reduced_policy_of_program (counted_from 1 (groups Policy.program_key rs))
+      flat_map reduced_policy_of_program (counted_from 1 (groups Policy.request_program_key rs))
       ++ classes_done_line ∷ []
 
   -- the lines of all calls

@@ -1,5 +1,5 @@
--- What `access`, `policy` and `exposure` show of a process in a state. It depends neither on numbers of open files, nor on
--- dead variables, nor on steps of other processes on registers; so the reduced search finds all of it.
+-- The data of a process that `access`, `policy` and `exposure` show in a state. They depend neither on numbers of open
+-- files, nor on dead variables, nor on steps of other processes on registers; so the reduced search finds all of them.
 use Rattle.std.specs.Prelude.{◌≡◌, ◌≢◌, ℕ, ◌≤◌, IsTrue, List, [], ◌∷◌, ◌++◌, length, map, Contains, Option, option_map, is_some}
 use Rattle.std.specs.List.{AllByRecursion}
 use Rattle.pv_model.specs.declared.call.Call.{Call}
@@ -14,9 +14,9 @@ use Rattle.pv_laws_answers.specs.Witnesses.{AreSteps, EachToLater}
 use Rattle.pv_laws_classes.specs.Reduced.{may_step, bound_at, reduced_found, is_reduced_complete}
 use Rattle.pv_laws_classes.specs.ReducedAnswers.{reduced_accesses, reduced_unread_files}
 
--- ---- what is shown
+-- ---- the shown data
 
--- what `policy` shows of a call: all of a request but the rest of the state and of the process before it
+-- the data of a call that `policy` shows: all of a request except the rest of the state and of the process before it
 pub record ShownCall : Type 0 where
   pub tree : Tree
   pub program : Program
@@ -35,7 +35,7 @@ shown_call r = record {
   asked = r.asked;
 }
 
--- what `exposure` shows of a process: its program and line, and why it is not closed to a file
+-- the data of a process that `exposure` shows: its program and line, and why it is not closed to a file
 pub record ShownProcess : Type 0 where
   pub tree : Tree
   pub program : Program
@@ -45,7 +45,7 @@ pub record ShownProcess : Type 0 where
 abbrev pub shown_process : State → Process → ShownProcess
 shown_process s p = record { tree = s.tree; program = p.program; line = p.line; leaks = leaks s p }
 
--- what the three show of a process and its next step
+-- the data of a process and its next step that the three show
 pub record Shown : Type 0 where
   pub outcome : Outcome
   pub accesses : List Access
@@ -68,7 +68,7 @@ module _ (program_of : Bytes → Option Program) where
 
 -- ---- processes
 
--- a visited state in which a process shows what it shows after a schedule, and may make the next step; its witness is no
+-- a visited state in which a process shows the same as after a schedule, and may make the next step; its witness is no
 -- longer than the schedule
 pub record IsSeen (program_of : Bytes → Option Program) (limit : ℕ) (s : State) (pids : List ℕ) (pid : ℕ) : Type 0 where
   pub visited : Found
@@ -96,8 +96,8 @@ AreSeenAmong program_of found those = (f : Found) (pid : ℕ) → Contains those
 
 -- if both searches are complete, whatever their limits, each visits such a state for each live process of each state that
 -- the other visits
-abbrev pub BothSeeTheSame : Type 0
-BothSeeTheSame =
+abbrev pub BothSearchesSeeTheSame : Type 0
+BothSearchesSeeTheSame =
     (program_of : Bytes → Option Program) (limit other : ℕ) (s : State) → IsSearchable program_of limit s → IsSearchable program_of other s
     → IsTrue (is_complete program_of limit s) → IsTrue (is_reduced_complete program_of s other)
     → AreSeenAmong program_of (reduced_found program_of s other) (states_found program_of limit s) × AreSeenAmong program_of (states_found program_of limit s) (reduced_found program_of s other)
@@ -124,7 +124,7 @@ pub record IsShortestAccess (program_of : Bytes → Option Program) (s : State) 
   pub shortest : (pids : List ℕ) (pid : ℕ) (l : AnswerLine) → AreSteps program_of (pids ++ pid ∷ []) s → Contains (access_lines_of program_of (run program_of pids s).final pid) l
       → answer_line_bytes l ≡ answer_line_bytes o.item → length before ≤ length pids
 
--- so it is of each listed access, and no two have the same line, whether the search is complete or not
+-- this holds for each listed access, and no two have the same line, whether the search is complete or not
 pub record ListedAccessesReduced (program_of : Bytes → Option Program) (limit : ℕ) (s : State) : Type 0 where
   pub happen : AllByRecursion (IsShortestAccess program_of s) (reduced_accesses program_of limit s)
   pub once : EachToLater (λ o q. answer_line_bytes o.item ≢ answer_line_bytes q.item) (reduced_accesses program_of limit s)

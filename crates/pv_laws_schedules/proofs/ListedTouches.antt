@@ -7,12 +7,12 @@ use Rattle.pv_model.specs.Machine.{Access, executes, changes_name, accesses, lin
 use Rattle.pv_model.specs.Answers.Access.{opens, reads, reports, writes, access_line, accesses_by_open, accesses_by_success, nodes_of_places, nodes_reported, places_changed, reported_accesses}
 use Rattle.pv_model.specs.Touch.{Touch, change_entry, reports_of_descriptor, reports_of_place, IsNodeOfDescriptor, IsNodeOfPlace}
 use Rattle.pv_laws_states.specs.States.{EncodesPrograms, IsValid}
-use Rattle.pv_laws_states.proofs.BySteps.{run-keeps_whole}
+use Rattle.pv_laws_states.proofs.ValidBySteps.{run-keeps_valid}
 use Rattle.pv_laws_answers.specs.Accesses.{is_access_listed}
 use Rattle.pv_laws_answers.proofs.Lists.{Among, among-left, among-map, among-right, among-filter_map, any-among}
 use Rattle.pv_laws_answers.proofs.CompleteObservations.{all-observed}
 use Rattle.pv_laws_schedules.specs.Access.{lines_of_touch, TouchesAreListed}
-use Rattle.pv_laws_classes.proofs.SeenProcesses.{themselves}
+use Rattle.pv_laws_classes.proofs.ReducedProcesses.{themselves}
 use Rattle.pv_laws_schedules.proofs.ReadAccess.{reads-accessed}
 use Rattle.pv_laws_schedules.proofs.TouchAccesses.{name-accessed, open-accessed, write-accessed}
 
@@ -86,6 +86,6 @@ module _ (program_of : Bytes → Option Program) (u : State) (pid : ℕ) where
 
 pub touches-listed : TouchesAreListed
 touches-listed program_of limit s pids pid touch it complete touches =
-    let own = touch-accessed program_of (run program_of pids s).final pid it.encodes (run-keeps_whole program_of it.encodes pids s it.whole) touch touches in
+    let own = touch-accessed program_of (run program_of pids s).final pid it.encodes (run-keeps_valid program_of it.encodes pids s it.whole) touch touches in
     any-among (λ line. is_access_listed line (reported_accesses program_of limit s)) own.line (lines_of_touch (run program_of pids s).final (step program_of (run program_of pids s).final pid).after pid touch) own.of_touch
     (all-observed (of_calls lines_of_accesses) answer_line_bytes program_of limit s it complete pids pid own.process own.live own.line own.of_step)

@@ -4,7 +4,7 @@ use Rattle.pv_model.specs.Machine.{accesses, states_found, is_complete, answer_b
 use Rattle.pv_model.specs.Answers.OnLiterals.{answers_on_literals}
 use Rattle.pv_model_questions.specs.Exposure.{exposed_lines}
 use Rattle.pv_model_questions.specs.Fixed.{edits}
-use Rattle.pv_laws_trees.proofs.Entries.{bytes_eq-same}
+use Rattle.pv_laws_trees.proofs.DirectoryEntries.{bytes_eq-same}
 use Rattle.pv_laws_states.specs.ExampleStates.{no_programs}
 use Rattle.pv_laws_classes.specs.Canonical.{canonical}
 use Rattle.pv_laws_classes.specs.Reduced.{representative, reduced_found}

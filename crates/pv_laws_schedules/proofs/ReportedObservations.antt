@@ -12,10 +12,10 @@ use Rattle.pv_laws_answers.proofs.NewKeys.{new-came, new-first, new-differ}
 use Rattle.pv_laws_answers.proofs.SoundStates.{made-by, witness-more}
 use Rattle.pv_laws_answers.proofs.WitnessOrders.{to_later-weaker}
 use Rattle.pv_laws_schedules.specs.Access.{IsFirstObserved, IsAccessLine, IsListedAccess, ListedAccessesHappen}
-use Rattle.pv_laws_classes.proofs.SeenProcesses.{themselves}
+use Rattle.pv_laws_classes.proofs.ReducedProcesses.{themselves}
 use Rattle.pv_laws_schedules.proofs.ReachedStates.{ReachedIn, own-move, reached, rising, sound-at}
-use Rattle.pv_laws_schedules.proofs.Rising.{IsRising, rising-flat}
-use Rattle.pv_laws_schedules.proofs.SeenStates.{AreSound}
+use Rattle.pv_laws_schedules.proofs.RisingLists.{IsRising, rising-flat}
+use Rattle.pv_laws_schedules.proofs.ShownStates.{AreSound}
 
 module _ {X : Type 0} (observe : Observer X) (program_of : Bytes → Option Program) where
   -- an observation is made at one of the states

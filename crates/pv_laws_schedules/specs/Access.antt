@@ -9,7 +9,7 @@ use Rattle.pv_model.specs.Touch.{Touch, change_entry}
 use Rattle.pv_laws_states.specs.States.{EncodesPrograms, IsFirstTree, IsValid}
 use Rattle.pv_laws_answers.specs.Accesses.{is_access_listed}
 use Rattle.pv_laws_answers.specs.Search.{IsSearchable}
-use Rattle.pv_laws_answers.specs.Unread.{IsReadByNone, StartsWithOtherBytes}
+use Rattle.pv_laws_answers.specs.Unread.{IsNeverRead, StartsWithOtherBytes}
 use Rattle.pv_laws_answers.specs.Witnesses.{AreSteps, EachToLater}
 
 -- an item is observed of the last step of its witness, and each schedule with such a step is as long
@@ -37,7 +37,7 @@ pub record IsListedAccess (program_of : Bytes → Option Program) (s : State) (o
   pub first : IsFirstObserved (of_calls lines_of_accesses) answer_line_bytes program_of s o
   pub access : IsAccessLine program_of (run program_of first.before s).final o.move.pid o.item
 
--- so it is of each listed access, and no two have the same line, whether the search is complete or not
+-- this holds for each listed access, and no two have the same line, whether the search is complete or not
 pub record ListedAccesses (program_of : Bytes → Option Program) (limit : ℕ) (s : State) : Type 0 where
   pub happen : AllByRecursion (IsListedAccess program_of s) (reported_accesses program_of limit s)
   pub once : EachToLater (λ o q. answer_line_bytes o.item ≢ answer_line_bytes q.item) (reported_accesses program_of limit s)
@@ -50,7 +50,7 @@ ListedAccessesHappen = (program_of : Bytes → Option Program) (limit : ℕ) (s 
 -- no step of a live process from a visited state reads a file that is listed as unread
 abbrev pub UnreadFilesAreReadByNone : Type 0
 UnreadFilesAreReadByNone =
-    (program_of : Bytes → Option Program) (limit : ℕ) (s : State) (f : ℕ) → IsSearchable program_of limit s → Contains (unread_files program_of limit s) f → IsReadByNone program_of limit s f
+    (program_of : Bytes → Option Program) (limit : ℕ) (s : State) (f : ℕ) → IsSearchable program_of limit s → Contains (unread_files program_of limit s) f → IsNeverRead program_of limit s f
 
 -- if the search is complete, each image that differs only in the bytes of such a file, with equal length, boots and has
 -- the same texts and witnesses
@@ -79,7 +79,7 @@ TouchesAreListed =
     → IsTrue (list_any (λ line. is_access_listed line (reported_accesses program_of limit s))
     (lines_of_touch (run program_of pids s).final (step program_of (run program_of pids s).final pid).after pid touch))
 
--- ---- what justifies an access
+-- ---- the justification of an access
 
 -- each access is justified as the touch that it can be: the promises of its call are held, and a descriptor, or a place that
 -- the table allows, leads to the node or the name

@@ -2,7 +2,7 @@
 use Rattle.std.specs.Prelude.{◌≡◌, ℕ, List, [], ◌∷◌, codes, Option, Some, option_map, refl}
 use Rattle.pv_model.specs.Answers.Access.{access_lines}
 use Rattle.pv_model.specs.Machine.{answer_bytes, Bytes, program_of}
-use Rattle.pv_laws_worked.specs.Bundles.{lines_text}
+use Rattle.pv_laws_worked.specs.Bundles.{text_of_lines}
 use Rattle.pv_laws_worked.specs.Questions.{questions_on_literals, started}
 
 -- the text of `access` for a bundle, with a limit on the number of states
@@ -23,7 +23,7 @@ pub truncation_and_creation : access_text 1000 (
     codes "write 3 0" ∷
     codes "put \"m\"" ∷
     codes "write 3 1" ∷
-    codes "schedule" ∷ []) ≡ Some (lines_text (
+    codes "schedule" ∷ []) ≡ Some (text_of_lines (
     codes "    1 BY    1 1" ∷
     codes "    1 WRIT  \"/old\"" ∷
     codes "    1 BY    1 1" ∷
@@ -58,7 +58,7 @@ pub refused_programs_are_read : access_text 1000 (
     codes "execve \"/bad\"" ∷
     codes "execve \"/way\"" ∷
     codes "execve \"/none\"" ∷
-    codes "schedule" ∷ []) ≡ Some (lines_text (
+    codes "schedule" ∷ []) ≡ Some (text_of_lines (
     codes "    1 BY    1 2" ∷
     codes "    1 READ  \"/bad\"" ∷
     codes "    1 BY    1 3" ∷
@@ -78,7 +78,7 @@ pub no_bytes_no_access : access_text 1000 (
     codes "write 0 0" ∷
     codes "open \"/none\" r" ∷
     codes "mkdir \"/f\"" ∷
-    codes "schedule" ∷ []) ≡ Some (lines_text (
+    codes "schedule" ∷ []) ≡ Some (text_of_lines (
     codes "    1 BY    1 1" ∷
     codes "    1 OPEN  rw \"/f\"" ∷
     codes "    0 UNRD  \"/f\"" ∷
@@ -99,7 +99,7 @@ pub accesses_of_reused_numbers : access_text 1000 (
     codes "lseek 0 0 set" ∷
     codes "read 0 4" ∷
     codes "stat \"/other\"" ∷
-    codes "schedule" ∷ []) ≡ Some (lines_text (
+    codes "schedule" ∷ []) ≡ Some (text_of_lines (
     codes "    1 BY    1 1" ∷
     codes "    1 NAME  \"/secret\"" ∷
     codes "    1 BY    1 2" ∷
@@ -131,7 +131,7 @@ pub both_names_of_rename : access_text 1000 (
     codes "rename \"/d\" \"/d/\"" ∷
     codes "rename \"/f\" \"/d/f\"" ∷
     codes "rename \"/d\" \"/d/e\"" ∷
-    codes "schedule" ∷ []) ≡ Some (lines_text (
+    codes "schedule" ∷ []) ≡ Some (text_of_lines (
     codes "    1 BY    1 1" ∷
     codes "    1 NAME  \"/f\"" ∷
     codes "    1 BY    1 2" ∷
@@ -153,7 +153,7 @@ pub second_name_of_link : access_text 1000 (
     codes "exec \"/init\" 2" ∷
     codes "link \"/f\" \"/g\"" ∷
     codes "execve \"/p\"" ∷
-    codes "schedule" ∷ []) ≡ Some (lines_text (
+    codes "schedule" ∷ []) ≡ Some (text_of_lines (
     codes "    1 BY    1 1" ∷
     codes "    1 NAME  \"/g\"" ∷
     codes "    1 BY    1 2" ∷
@@ -174,7 +174,7 @@ pub nodes_of_descriptors : access_text 1000 (
     codes "unlink \"/d/f\"" ∷
     codes "lseek 0 0 set" ∷
     codes "fstat 0" ∷
-    codes "schedule" ∷ []) ≡ Some (lines_text (
+    codes "schedule" ∷ []) ≡ Some (text_of_lines (
     codes "    1 BY    1 1" ∷
     codes "    1 OPEN  r \"/d/f\"" ∷
     codes "    1 BY    1 2" ∷
@@ -200,7 +200,7 @@ pub nodes_without_paths : access_text 1000 (
     codes "openat 0 \".\" r" ∷
     codes "stat \"..\"" ∷
     codes "mkdir \"n\"" ∷
-    codes "schedule" ∷ []) ≡ Some (lines_text (
+    codes "schedule" ∷ []) ≡ Some (text_of_lines (
     codes "    1 BY    1 1" ∷
     codes "    1 NAME  \"/w\"" ∷
     codes "    1 BY    1 2" ∷
@@ -227,7 +227,7 @@ pub files_of_two_names : access_text 1000 (
     codes "read 0 1" ∷
     codes "unlink \"/z/g\"" ∷
     codes "fstat 0" ∷
-    codes "schedule" ∷ []) ≡ Some (lines_text (
+    codes "schedule" ∷ []) ≡ Some (text_of_lines (
     codes "    1 BY    1 1" ∷
     codes "    1 OPEN  r \"/z/g\"" ∷
     codes "    1 BY    1 2" ∷
@@ -248,7 +248,7 @@ pub each_process_has_its_own : access_text 1000 (
     codes "exec \"/init\" 2" ∷
     codes "fork" ∷
     codes "stat \"/f\"" ∷
-    codes "schedule" ∷ []) ≡ Some (lines_text (
+    codes "schedule" ∷ []) ≡ Some (text_of_lines (
     codes "    1 BY    1 2" ∷
     codes "    1 TELL  \"/f\"" ∷
     codes "    2 BY    1 1, 2 1" ∷
@@ -265,7 +265,7 @@ pub unread_if_complete : access_text 2 (
     codes "exec \"/init\" 2" ∷
     codes "stat \"/f\"" ∷
     codes "getpid" ∷
-    codes "schedule" ∷ []) ≡ Some (lines_text (
+    codes "schedule" ∷ []) ≡ Some (text_of_lines (
     codes "    1 BY    1 1" ∷
     codes "    1 TELL  \"/f\"" ∷
     codes "    0 DONE  2 states, not complete" ∷ []))

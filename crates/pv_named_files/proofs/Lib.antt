@@ -1,3 +1,3 @@
--- Lemmas about the files of a tree: Listed (their order), Notes (notes and their files).
-pub mod Listed
-pub mod Notes
+-- Lemmas about the files of a tree: ListedFiles (their order), FileNotes (notes and their files).
+pub mod ListedFiles
+pub mod FileNotes

@@ -1,7 +1,7 @@
 //! The files of a tree that have names, in the order of a listing, each once.
 //!
-//! `files` returns them. `note` has the note of a file: a text with its number, by which a table of texts tells whether a
-//! file is new. Contracts cite the files that the definitions in `pv_model` give.
+//! `files` returns them. `note` has the note of a file: a text with its number, by which a table of texts determines
+//! whether a file is new. Contracts cite the files that the definitions in `pv_model` give.
 #![tactic(auto)]
 
 mod files;

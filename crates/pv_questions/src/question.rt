@@ -22,8 +22,8 @@ pub enum Question<'a> {
     Reach(Option<u32>),
     /// The explained trace of the run.
     Explain {
-        /// Whether the reason is also written for each failed call that neither a promise nor a table refused, and what
-        /// each execve(2) did to the restraints of its process.
+        /// Whether the reason is also written for each failed call that neither a promise nor a table refused, and the
+        /// effect of each execve(2) on the restraints of its process.
         errors: bool,
         /// Whether a line is also written for each walk that was checked and allowed.
         allowed: bool,
@@ -56,7 +56,7 @@ pub enum TreeQuestion<'a> {
     },
     /// A search of the states of the machine that boots on the tree.
     Search {
-        /// What the search answers.
+        /// The answer of the search.
         search: Search,
         /// The maximum number of visited states: 0 counts as 1.
         states: u32,
@@ -72,16 +72,16 @@ pub enum Format {
     Manifest,
 }
 
-/// What a search of all schedules answers.
+/// The question that a search of all schedules answers.
 #[derive(Clone, Copy)]
 pub enum Search {
-    /// What can happen.
+    /// The possible steps.
     Explore(SearchKind),
-    /// Which process can access what.
+    /// The accesses of each process.
     Access(SearchKind),
-    /// What an attacker gains who takes over a process, at each line of its program.
+    /// The gains of an attacker who takes over a process, at each line of its program.
     Exposure(SearchKind),
-    /// What each program needs of its sandbox, and what it holds and never uses.
+    /// The needs of each program, and the promises and permissions that it holds and never uses.
     Policy {
         /// The search.
         kind: SearchKind,

@@ -1,4 +1,4 @@
--- The search of all states and the reduced search, side by side.
+-- The full search and the reduced search.
 use Rattle.std.specs.Prelude.{ℕ, Bool, true, false, List}
 use Rattle.pv_explore.specs.Observing
 use Rattle.pv_explore.specs.Visiting.{Visits}
@@ -34,10 +34,10 @@ count_line Reduced count complete = classes_line count complete
 -- ---- observations
 
 module _ (observe : Observer Bytes) (limit : ℕ) (s : State) where
-  -- what a search with an observer writes
+  -- the output of a search with an observer
   abbrev pub observed_by : SearchKind → Bytes
   observed_by Full = Observing.observed_bytes observe limit s
-  observed_by Reduced = Lines.observed_bytes observe limit s
+  observed_by Reduced = Lines.reduced_observed_bytes observe limit s
 
   -- its result: the number of visited states, whether no state was left out, the number of different trees at the ends of
   -- schedules, and the texts recorded

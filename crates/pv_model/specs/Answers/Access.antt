@@ -1,4 +1,4 @@
--- The text of `access`: which process can access what, under any schedule.
+-- The text of `access`: the accesses of each process under any schedule.
 use Rattle.std.specs.Prelude.{ℕ, pos, Bool, true, false, not, ◌&&◌, ◌==◌, if◌then◌else◌, List, [], ◌∷◌, ◌++◌, map, flat_map, filter, filter_map, codes, Option, None, Some, is_none, option_map, option_and_then, option_to_list}
 use Rattle.std.specs.List.{list_any}
 use Rattle.pv_model.specs.declared.call.Call.{Call}
@@ -70,7 +70,7 @@ module _ (s : State) (p : Process) where
   abbrev pub node_of_descriptor : Call → List ℕ
   node_of_descriptor call = option_to_list (option_map (λ file. file.1.node) (option_and_then (open_file s p) (descriptor_of call)))
 
-  -- the file that a read returns bytes of, or that an execve finds not to parse as a program
+  -- the file whose bytes a read returns, or that an execve cannot parse as a program
   abbrev pub nodes_read : Call → Outcome → List ℕ
   nodes_read (Read d n) (Text taken) = if taken.len == 0 then [] else node_of_descriptor (Read d n)
   nodes_read (Execve path) (Failed ENOEXEC cause) = nodes_of_places (Execve path)
@@ -80,7 +80,7 @@ module _ (s : State) (p : Process) where
   nodes_executed (Execve path) (Value n) = nodes_of_places (Execve path)
   nodes_executed call _ = []
 
-  -- the file that a call writes at least one byte to, or gives a length
+  -- the file to which a call writes at least one byte, or whose length it sets
   abbrev pub nodes_written : Call → Outcome → List ℕ
   nodes_written (Write d n) (Value count) = if count == 0 then [] else node_of_descriptor (Write d n)
   nodes_written (Ftruncate d n) (Value count) = node_of_descriptor (Ftruncate d n)

@@ -1,6 +1,6 @@
-use Rattle.pv_reduced.proofs.OfAnswers.Writing.{or_as, or_longer}
-use Rattle.pv_reduced.proofs.OfStepLines.Stops.{still_ok, stopped, then_stops}
-use Rattle.pv_access.proofs.Written.{access-bytes, complete-found, last-bytes}
+use Rattle.pv_reduced.proofs.OfAnswers.WriterContracts.{or_as, or_longer}
+use Rattle.pv_reduced.proofs.OfStepLines.StoppedWriters.{still_ok, stopped, then_stops}
+use Rattle.pv_access.proofs.AccessBytes.{access-bytes, complete-found, last-bytes}
 use Rattle.pv_access.proofs.access.write_access.Goals as goal
 
 pub returns-in_err-searched-clause-written : goal.returns-in_err-searched-clause-written

@@ -1,7 +1,7 @@
 use Rattle.std.proofs.Common.{◌≡◌, ◌∷◌, ◌++◌, [], List, append-nil, sym}
 use Rattle.std.proofs.lemmas.Grind.{flat_map-append}
-use Rattle.pv_reduced.proofs.OfAnswers.Writing.{or_as, or_longer, or_ok, writes_as}
-use Rattle.pv_reduced.proofs.OfStepLines.Stops.{stopped, then_writes, unwritten}
+use Rattle.pv_reduced.proofs.OfAnswers.WriterContracts.{or_as, or_longer, or_ok, writes_as}
+use Rattle.pv_reduced.proofs.OfStepLines.StoppedWriters.{stopped, then_writes, unwritten}
 use Rattle.pv_access.specs.Unread.{unread_lines}
 use Rattle.pv_model.specs.Machine.{AnswerLine, answer_bytes, answer_line_bytes}
 use Rattle.pv_reduced.specs.Kinds.{count_line}

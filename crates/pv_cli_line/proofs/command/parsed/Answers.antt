@@ -5,7 +5,7 @@ use Rattle.clap.specs.declared.parser.matches.ArgMatches.{ArgMatches}
 use Rattle.clap.specs.declared.error.kind.ErrorKind.TheVariants.{OutOfMemory}
 use Rattle.pv_cli_line.specs.Line.{LacksNumber, RefusesWords, is_verbose_in, of_parser}
 use Rattle.pv_cli_line.specs.Parser.{pvsim_app}
-use Rattle.pv_cli_line.proofs.LineLemmas.{asked_by, nothing-asked, refused_by_turns, verbose_by, refused_by_parser, refused_result, pvsim_has_matches, pvsim_is_simple}
+use Rattle.pv_cli_line.proofs.LineMatches.{asked_by, nothing-asked, refused_by_turns, verbose_by, refused_by_parser, refused_result, pvsim_has_matches, pvsim_is_simple}
 use Rattle.pv_cli_line.proofs.command.parsed.Goals as goal
 
 pub returns-in_err-matches-clause-refused : goal.returns-in_err-matches-clause-refused
@@ -23,7 +23,7 @@ returns-in_err-matches-clause-refused g c =
 appears : (parser : Parser) (words : List Text) (m : ArgMatches) → app_of parser ≡ pvsim_app → HasMatchesOf (app_of parser) words m → subcommand_rows_of m ≡ subcommand_of pvsim_app words
 appears parser words m app_is has = (subst (λ (app : App). HasMatchesOf app words m) app_is has pvsim_has_matches).1
 
--- so are the arguments before its name
+-- the same holds for the arguments before its name
 above : (parser : Parser) (words : List Text) (m : ArgMatches) → app_of parser ≡ pvsim_app → HasMatchesOf (app_of parser) words m → rows_of (found_of m) ≡ matches_of pvsim_app words
 above parser words m app_is has = (subst (λ (app : App). HasMatchesOf app words m) app_is has pvsim_has_matches).0
 

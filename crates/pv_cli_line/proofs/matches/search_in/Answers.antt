@@ -1,5 +1,5 @@
 use Rattle.clap.specs.Words.{subcommand_rows_of}
-use Rattle.pv_cli_line.proofs.LineLemmas.{no_search, none_by}
+use Rattle.pv_cli_line.proofs.LineMatches.{no_search, none_by}
 use Rattle.pv_cli_line.proofs.matches.search_in.Goals as goal
 
 pub returns-clause-none : goal.returns-clause-none

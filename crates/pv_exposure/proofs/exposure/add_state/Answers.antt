@@ -1,12 +1,12 @@
 use Rattle.std.proofs.Common.{◌∙◌, List, Option, Some, ap, sym, refl, subst}
 use Rattle.pv_model.specs.Machine.{Found, ProcessRecord, live_process}
 use Rattle.pv_programs.specs.OfProcs.ProcessTable.{ProcessTable, number_after}
-use Rattle.pv_programs.proofs.OfAnswers.Following.{Recorded, all-after, fewer-after, next-record, none-after, records_after}
+use Rattle.pv_programs.proofs.OfAnswers.ProcessSequence.{Recorded, all-after, fewer-after, next-record, none-after, records_after}
 use Rattle.pv_exposure.specs.Collected.{Exposed, exposed_after}
 use Rattle.pv_exposure.specs.Stored.{located_if}
-use Rattle.pv_exposure.specs.Seen.{IsSeen, found_seen}
+use Rattle.pv_exposure.specs.Seen.{IsSeenState, found_seen}
 use Rattle.pv_reduced.specs.OfExplore.Visiting.{Visits}
-use Rattle.pv_exposure.proofs.Adding.{after-both, located-next, located_among}
+use Rattle.pv_exposure.proofs.FindingAddition.{after-both, located-next, located_among}
 use Rattle.pv_exposure.proofs.exposure.add_state.Goals as goal
 
 pub loop-pid-init : goal.loop-pid-init
@@ -20,7 +20,7 @@ loop-pid-init c =
     }
 
 pub add_number-requires : goal.add_number-requires
-add_number-requires c = subst (λ (v : Visits). IsSeen v c.args.seen.now) (sym c.loop-pid.invariant.unchanged) c.requires
+add_number-requires c = subst (λ (v : Visits). IsSeenState v c.args.seen.now) (sym c.loop-pid.invariant.unchanged) c.requires
 
 pub loop-pid-smaller : goal.loop-pid-smaller
 loop-pid-smaller c =

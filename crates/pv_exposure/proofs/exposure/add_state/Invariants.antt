@@ -1,8 +1,8 @@
 use Rattle.std.proofs.Common.{◌≡◌, length}
-use Rattle.pv_programs.proofs.OfAnswers.Following.{records_after}
+use Rattle.pv_programs.proofs.OfAnswers.ProcessSequence.{records_after}
 use Rattle.pv_exposure.specs.Collected.{exposed_after}
 use Rattle.pv_exposure.specs.Seen.{found_seen}
-use Rattle.pv_exposure.proofs.Adding.{located_among}
+use Rattle.pv_exposure.proofs.FindingAddition.{located_among}
 use Rattle.pv_exposure.proofs.exposure.add_state.Given as goal
 
 abbrev pub invariant-loop-pid : goal.invariant-loop-pid

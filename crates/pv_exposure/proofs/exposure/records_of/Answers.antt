@@ -1,6 +1,6 @@
 use Rattle.std.proofs.Common.{◌∙◌, ◌<◌, ap, length, slice_get, arith}
 use Rattle.pv_reduced.specs.OfExplore.Visiting.{Visits}
-use Rattle.pv_exposure.proofs.Visits.{visit-next}
+use Rattle.pv_exposure.proofs.VisitRecords.{visit-next}
 use Rattle.pv_exposure.proofs.exposure.records_of.Goals as goal
 
 pub loop-number-preserved : goal.loop-number-preserved

@@ -1,8 +1,8 @@
 use Rattle.std.proofs.Common.{◌∙◌}
 use Rattle.std.proofs.lemmas.Result.{err_from_is_err_and}
-use Rattle.pv_programs.proofs.OfAnswers.Writing.{or_as, or_ok}
-use Rattle.pv_reduced.proofs.OfExplore.Stopped.{unfinished, unwritten}
-use Rattle.pv_exposure.proofs.Written.{search-text}
+use Rattle.pv_programs.proofs.OfAnswers.WriterContracts.{or_as, or_ok}
+use Rattle.pv_reduced.proofs.OfExplore.StoppedAnswers.{unfinished, unwritten}
+use Rattle.pv_exposure.proofs.SearchText.{search-text}
 use Rattle.pv_exposure.proofs.exposure.write_exposure.Goals as goal
 
 pub returns-in_err-lines-clause-written : goal.returns-in_err-lines-clause-written

@@ -2,7 +2,7 @@ use Rattle.std.proofs.Common.{◌≡◌, ◌∙◌, ◌++◌, ◌∷◌, [], ℕ
 use Rattle.std.proofs.lemmas.List.{map-append, take_more}
 use Rattle.pv_model.specs.Machine.{Bytes}
 use Rattle.pv_exposure.specs.StateFiles.{described_file}
-use Rattle.pv_exposure.proofs.Texts.{take-past}
+use Rattle.pv_exposure.proofs.ListTexts.{take-past}
 use Rattle.pv_exposure.proofs.files.describe.Goals as goal
 
 pub loop-node-preserved : goal.loop-node-preserved

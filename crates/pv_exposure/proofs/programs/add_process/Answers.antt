@@ -4,8 +4,8 @@ use Rattle.std.proofs.lemmas.Result.{on_ok_weaker}
 use Rattle.pv_model.specs.Machine.{program_key, Numbers, program_numbers, Process, Program}
 use Rattle.pv_programs.specs.OfProcs.ProcessTable.{ProcessTable, process_in}
 use Rattle.pv_exposure.specs.Collected.{Exposed, exposed_more, exposed_none, is_of}
-use Rattle.pv_exposure.specs.Stored.{located_in}
-use Rattle.pv_exposure.proofs.Adding.{record-new, record-there}
+use Rattle.pv_exposure.specs.Stored.{located_in_visit}
+use Rattle.pv_exposure.proofs.FindingAddition.{record-new, record-there}
 use Rattle.pv_exposure.proofs.programs.add_process.Goals as goal
 
 program-of : {a b : Program} → Some a ≡ Some b → a ≡ b
@@ -15,7 +15,7 @@ pub returns-in-Some : goal.returns-in-Some
 returns-in-Some c =
     on_ok_weaker c.add.result
     (λ added p at.
-    let l = located_in c.args.visit.now p in
+    let l = located_in_visit c.args.visit.now p in
     let es : List Exposed = c.args.records.now.items in
     let program : p.program ≡ c.program-program.result.now =
     program-of (sym (ap (λ (ps : ProcessTable). option_map (λ (me : Process). me.program) (process_in ps c.args.visit.now.pid)) c.processes.ensures ∙ ap (option_map (λ (me : Process). me.program)) at) ∙ c.program-program.ensures) in
@@ -28,7 +28,7 @@ returns-in-Some c =
 
 pub returns-in_ok-push-in-None : goal.returns-in_ok-push-in-None
 returns-in_ok-push-in-None c = λ p at.
-    let l = located_in c.args.visit.now p in
+    let l = located_in_visit c.args.visit.now p in
     let es : List Exposed = c.args.records.now.items in
     let program : p.program ≡ c.program-program.result.now =
     program-of (sym (ap (λ (ps : ProcessTable). option_map (λ (me : Process). me.program) (process_in ps c.args.visit.now.pid)) c.processes.ensures ∙ ap (option_map (λ (me : Process). me.program)) at) ∙ c.program-program.ensures) in

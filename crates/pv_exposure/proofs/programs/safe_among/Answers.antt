@@ -2,7 +2,7 @@ use Rattle.std.proofs.Common.{◌∙◌, ◌++◌, ◌∷◌, [], ℕ, Bool, Lis
 use Rattle.std.proofs.lemmas.List.{take_more}
 use Rattle.std.proofs.lemmas.List.Elements.{filter-append}
 use Rattle.pv_exposure.specs.StateFiles.{is_safe_at}
-use Rattle.pv_exposure.proofs.Texts.{take-past}
+use Rattle.pv_exposure.proofs.ListTexts.{take-past}
 use Rattle.pv_exposure.proofs.programs.safe_among.Goals as goal
 
 pub loop-node-preserved : goal.loop-node-preserved

@@ -4,7 +4,7 @@ use Rattle.pv_model.specs.Machine.{AnswerLine, answer_bytes, answer_line_bytes, 
 use Rattle.pv_model.specs.Answers.ProgramNames.{program_line}
 use Rattle.pv_model_questions.specs.Exposure.{safe_line}
 use Rattle.pv_exposure.specs.Collected.{all_lines_recorded_of}
-use Rattle.pv_exposure.proofs.Texts.{three}
+use Rattle.pv_exposure.proofs.ListTexts.{three}
 use Rattle.pv_exposure.proofs.text.append_program.Goals as goal
 
 pub returns : goal.returns

@@ -2,7 +2,7 @@ use Rattle.std.proofs.Common.{◌∙◌, ◌+◌, ◌++◌, ◌∷◌, List, app
 use Rattle.std.proofs.lemmas.List.{drop_all, drop_more}
 use Rattle.pv_model.specs.Machine.{answer_bytes, Bytes}
 use Rattle.pv_exposure.specs.Collected.{Exposed, lines_of_exposed}
-use Rattle.pv_exposure.proofs.Texts.{bytes_from, from-next}
+use Rattle.pv_exposure.proofs.ListTexts.{bytes_from, from-next}
 use Rattle.pv_exposure.proofs.text.append_programs.Goals as goal
 
 pub loop-k-preserved : goal.loop-k-preserved

@@ -1,5 +1,5 @@
 use Rattle.std.proofs.Common.{◌≡◌, ◌+◌, ◌++◌, drop}
-use Rattle.pv_exposure.proofs.Texts.{bytes_from}
+use Rattle.pv_exposure.proofs.ListTexts.{bytes_from}
 use Rattle.pv_exposure.proofs.text.append_programs.Given as goal
 
 abbrev pub invariant-loop-k : goal.invariant-loop-k

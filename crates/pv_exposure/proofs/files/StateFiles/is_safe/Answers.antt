@@ -1,6 +1,6 @@
 use Rattle.std.proofs.Common.{◌≡◌, ◌∙◌, Bool, true, false, Option, None, Some, ap, is_none, is_some, not, ℕ, refl}
 use Rattle.pv_model.specs.declared.verdict.Why.{Why}
-use Rattle.pv_exposure.proofs.DescribedFiles.{safe-none}
+use Rattle.pv_exposure.proofs.FileDescriptions.{safe-none}
 use Rattle.pv_exposure.proofs.files.StateFiles.is_safe.Goals as goal
 
 from-not : (o : Option (ℕ × Why)) (b : Bool) → is_some o ≡ not b → b ≡ is_none o

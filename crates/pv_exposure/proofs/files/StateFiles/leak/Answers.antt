@@ -1,6 +1,6 @@
 use Rattle.std.proofs.Common.{◌∙◌, Option, List, None, ℕ, ap, get_or}
 use Rattle.pv_model.specs.declared.verdict.Why.{Why}
-use Rattle.pv_exposure.proofs.DescribedFiles.{leak-at}
+use Rattle.pv_exposure.proofs.FileDescriptions.{leak-at}
 use Rattle.pv_exposure.proofs.files.StateFiles.leak.Goals as goal
 
 pub returns : goal.returns
