@@ -11,16 +11,18 @@ use Rattle.pv_reduced.specs.OfLawsClasses.Reduced.{reduced_moves_of}
 use Rattle.pv_reduced.specs.OfLawsClasses.ReducedAnswers.{reduced_access_lines}
 use Rattle.pv_laws_trees.proofs.DirectoryEntries.{bytes_eq-same}
 use Rattle.pv_model.specs.declared.call.Call.{Call}
-use Rattle.pv_model.specs.Machine.{Access, accesses, lines_of_accesses, Found, Move, moves_of, elements_with_new_keys, named_files, AnswerLine, answer_bytes, answer_line_bytes, Observation, Observer, observed, of_calls, of_next, of_process, Bytes, program_of, Next, inside, calls_for, next, Process, State, process_at, Stepped, Tree}
-use Rattle.pv_model.specs.Answers.Access.{access_line, access_lines, file_read, is_unread, unread_line}
+use Rattle.pv_model.specs.Machine.{Access, accesses, Found, Move, moves_of, elements_with_new_keys, named_files, AnswerLine, answer_bytes, answer_line_bytes, Observation, Observer, observed, of_calls, of_next, of_process, Bytes, program_of, Next, inside, calls_for, next, Process, State, process_at, Stepped, Tree}
+use Rattle.pv_model.specs.Answers.Access.{file_read, is_unread, unread_line}
 use Rattle.pv_model.specs.Answers.Explore.{by_line}
 use Rattle.pv_model.specs.Answers.Observed.{CallObserver, observation_lines}
+use Rattle.pv_model_questions.specs.Accesses.{access_lines, kept_files, lines_of_access, lines_of_accesses}
 use Rattle.pv_reduced.specs.declared.kind.SearchKind.{SearchKind}
 use Rattle.pv_reduced.specs.declared.kind.SearchKind.TheVariants.{Full, Reduced}
-use Rattle.pv_reduced.specs.Kinds.{IsSearchedBy, access_lines_by, count_line, found_by_kind, is_complete_by, observed_by}
+use Rattle.pv_reduced.specs.Kinds.{IsSearchedBy, count_line, found_by_kind, is_complete_by, observed_by}
 use Rattle.pv_reduced.specs.Lines
 use Rattle.pv_named_files.specs.Notes.{note}
 use Rattle.pv_named_files.proofs.FileNotes.{note-tested}
+use Rattle.pv_access.specs.Answers.{access_lines_by}
 use Rattle.pv_access.specs.Texts.{access_texts, note_texts, texts_by, texts_of_call}
 use Rattle.pv_access.specs.Unread.{last_lines, unread_file_line, unread_lines}
 use Rattle.pv_access.proofs.FileNotes.{note-hidden, shown-differs, unread-alike}
@@ -63,36 +65,38 @@ module _ {X Y : Type 0} (make : X → List Y) where
 
 -- ---- accesses with their lines
 
+-- an access, with its line if it is kept
 abbrev Lined : Type 0
-Lined = Access × AnswerLine
+Lined = Access × List AnswerLine
 
-abbrev accesses_lined : CallObserver Lined
-accesses_lined s pid p call now = map (λ x. (x, access_line s pid p call now x)) (accesses s pid p call now)
-
--- the access, its line, and its texts
+-- the access, its lines, and its texts
 abbrev one_access : Lined → List Access
 one_access x = x.0 ∷ []
 
-abbrev one_line : Lined → List AnswerLine
-one_line x = x.1 ∷ []
+abbrev its_lines : Lined → List AnswerLine
+its_lines x = x.1
 
 abbrev its_texts : Lined → List Bytes
-its_texts x = note_texts (file_read x.0) ++ answer_line_bytes x.1 ∷ []
+its_texts x = note_texts (file_read x.0) ++ map answer_line_bytes x.1
 
-module _ {Y : Type 0} (make : Lined → List Y) (observe : CallObserver Y)
-    (made : (s : State) (pid : ℕ) (p : Process) (call : Call) (now : Stepped) → observe s pid p call now ≡ flat_map make (accesses_lined s pid p call now)) where
-  calls-made : (s : State) (pid : ℕ) (now : Stepped) → of_calls observe s pid now ≡ flat_map make (of_calls accesses_lined s pid now)
-  calls-made s pid now = by (process_at s pid)
-    where
-      by-next : (p : Process) (n : Next) → of_next observe s pid now p n ≡ flat_map make (of_next accesses_lined s pid now p n)
-      by-next p (inside q) = refl
-      by-next p (calls_for call) = made s pid p call now
+module _ (files : List Bytes) (start : Tree) where
+  abbrev accesses_lined : CallObserver Lined
+  accesses_lined s pid p call now = map (λ x. (x, lines_of_access files start s.tree now.after.tree pid x)) (accesses s pid p call now)
 
-      by : (o : Option Process) → of_process observe s pid now o ≡ flat_map make (of_process accesses_lined s pid now o)
-      by None = refl
-      by (Some p) = by-next p (next p)
+  module _ {Y : Type 0} (make : Lined → List Y) (observe : CallObserver Y)
+      (made : (s : State) (pid : ℕ) (p : Process) (call : Call) (now : Stepped) → observe s pid p call now ≡ flat_map make (accesses_lined s pid p call now)) where
+    calls-made : (s : State) (pid : ℕ) (now : Stepped) → of_calls observe s pid now ≡ flat_map make (of_calls accesses_lined s pid now)
+    calls-made s pid now = by (process_at s pid)
+      where
+        by-next : (p : Process) (n : Next) → of_next observe s pid now p n ≡ flat_map make (of_next accesses_lined s pid now p n)
+        by-next p (inside q) = refl
+        by-next p (calls_for call) = made s pid p call now
 
-module _ (line : Access → AnswerLine) where
+        by : (o : Option Process) → of_process observe s pid now o ≡ flat_map make (of_process accesses_lined s pid now o)
+        by None = refl
+        by (Some p) = by-next p (next p)
+
+module _ (line : Access → List AnswerLine) where
   abbrev lined : Access → Lined
   lined x = (x, line x)
 
@@ -100,9 +104,9 @@ module _ (line : Access → AnswerLine) where
   accesses-lined [] = refl
   accesses-lined (x ∷ xs) = ap (λ ys. x ∷ ys) (accesses-lined xs)
 
-  lines-lined : (xs : List Access) → map line xs ≡ flat_map one_line (map lined xs)
+  lines-lined : (xs : List Access) → flat_map line xs ≡ flat_map its_lines (map lined xs)
   lines-lined [] = refl
-  lines-lined (x ∷ xs) = ap (λ ls. line x ∷ ls) (lines-lined xs)
+  lines-lined (x ∷ xs) = ap (λ ls. line x ++ ls) (lines-lined xs)
 
   texts-lined : (xs : List Access) → flat_map (texts_by line) xs ≡ flat_map its_texts (map lined xs)
   texts-lined [] = refl
@@ -133,56 +137,66 @@ show-more had seen u same t shown = ap (λ b. bytes_eq t u || b) (same t shown)
 line_bytes-shown : (l : AnswerLine) → is_shown (answer_line_bytes l) ≡ true
 line_bytes-shown l = ap is_shown (sym (append-nil (answer_line_bytes l))) ∙ line-shown l.pid l.word l.text []
 
+-- the texts of a step, and those of later steps
+module _ (m : Move) (texts : List (Observation Bytes)) (lines : List (Observation AnswerLine)) where
+  abbrev texts_with_lines : List AnswerLine → List (Observation Bytes)
+  texts_with_lines ls = map (observed m) (map answer_line_bytes ls) ++ texts
+
+  abbrev with_lines : List AnswerLine → List (Observation AnswerLine)
+  with_lines ls = map (observed m) ls ++ lines
+
+  -- the texts are written as the lines are
+  abbrev AreWrittenWith : List AnswerLine → Type 0
+  AreWrittenWith ls =
+      (had seen : List Bytes) → ShowSame had seen → flat_map observation_bytes (elements_with_new_keys text_item had (texts_with_lines ls)) ≡ lines_written (elements_with_new_keys line_key seen (with_lines ls))
+
+  lines-written : AreWrittenWith [] → (ls : List AnswerLine) → AreWrittenWith ls
+  lines-written later [] = later
+  lines-written later (l ∷ ls) = one (lines-written later ls)
+    where
+      line : Bytes
+      line = answer_line_bytes l
+
+      shown : is_shown line ≡ true
+      shown = line_bytes-shown l
+
+      one : AreWrittenWith ls → AreWrittenWith (l ∷ ls)
+      one rest had seen same = by (list_any (bytes_eq line) had) (list_any (bytes_eq line) seen) (same line shown)
+        where
+          by : (a b : Bool) → a ≡ b
+              → flat_map observation_bytes (if a then elements_with_new_keys text_item had (texts_with_lines ls) else observed m line ∷ elements_with_new_keys text_item (line ∷ had) (texts_with_lines ls))
+              ≡ lines_written (if b then elements_with_new_keys line_key seen (with_lines ls) else observed m l ∷ elements_with_new_keys line_key (line ∷ seen) (with_lines ls))
+          by true true is = rest had seen same
+          by true false is = cc
+          by false true is = cc
+          by false false is =
+              ap₂ (λ (x y : Bytes). x ++ y)
+              (ap (λ b. if b then answer_line_bytes (by_line m) ++ line else []) shown)
+              (rest (line ∷ had) (line ∷ seen) (show-more had seen line same))
+              ∙ append_assoc (answer_line_bytes (by_line m)) line (lines_written (elements_with_new_keys line_key (line ∷ seen) (with_lines ls)))
+
+  -- a note is not written
+  noted-written : (ls : List AnswerLine) → AreWrittenWith ls → (noted : Option ℕ) (had seen : List Bytes) → ShowSame had seen
+      → flat_map observation_bytes (elements_with_new_keys text_item had (map (observed m) (note_texts noted ++ map answer_line_bytes ls) ++ texts)) ≡ lines_written (elements_with_new_keys line_key seen (with_lines ls))
+  noted-written ls written None had seen same = written had seen same
+  noted-written ls written (Some n) had seen same = by (list_any (bytes_eq (note n)) had)
+    where
+      by : (a : Bool)
+          → flat_map observation_bytes (if a then elements_with_new_keys text_item had (texts_with_lines ls) else observed m (note n) ∷ elements_with_new_keys text_item (note n ∷ had) (texts_with_lines ls))
+          ≡ lines_written (elements_with_new_keys line_key seen (with_lines ls))
+      by true = written had seen same
+      by false = written (note n ∷ had) seen (show-note had seen n same)
+
 abbrev AreWritten : List (Observation Lined) → Type 0
 AreWritten os = (had seen : List Bytes) → ShowSame had seen
-    → flat_map observation_bytes (elements_with_new_keys text_item had (flat_map (made_of its_texts) os)) ≡ lines_written (elements_with_new_keys line_key seen (flat_map (made_of one_line) os))
+    → flat_map observation_bytes (elements_with_new_keys text_item had (flat_map (made_of its_texts) os)) ≡ lines_written (elements_with_new_keys line_key seen (flat_map (made_of its_lines) os))
 
 accesses-written : (os : List (Observation Lined)) → AreWritten os
 accesses-written [] had seen same = refl
-accesses-written (o ∷ os) had seen same = with-note (accesses-written os) (file_read o.item.0)
-  where
-    m : Move
-    m = o.move
-
-    line : Bytes
-    line = answer_line_bytes o.item.1
-
-    texts : List (Observation Bytes)
-    texts = flat_map (made_of its_texts) os
-
-    lines : List (Observation AnswerLine)
-    lines = flat_map (made_of one_line) os
-
-    -- the line of the access, and the later accesses
-    with-line : AreWritten os → (had : List Bytes) → ShowSame had seen
-        → flat_map observation_bytes (elements_with_new_keys text_item had (observed m line ∷ texts)) ≡ lines_written (elements_with_new_keys line_key seen (observed m o.item.1 ∷ lines))
-    with-line later had same = by (list_any (bytes_eq line) had) (list_any (bytes_eq line) seen) (same line shown)
-      where
-        shown : is_shown line ≡ true
-        shown = line_bytes-shown o.item.1
-
-        by : (a b : Bool) → a ≡ b
-            → flat_map observation_bytes (if a then elements_with_new_keys text_item had texts else observed m line ∷ elements_with_new_keys text_item (line ∷ had) texts)
-            ≡ lines_written (if b then elements_with_new_keys line_key seen lines else observed m o.item.1 ∷ elements_with_new_keys line_key (line ∷ seen) lines)
-        by true true is = later had seen same
-        by true false is = cc
-        by false true is = cc
-        by false false is =
-            ap₂ (λ (x y : Bytes). x ++ y)
-            (ap (λ b. if b then answer_line_bytes (by_line m) ++ line else []) shown)
-            (later (line ∷ had) (line ∷ seen) (show-more had seen line same))
-            ∙ append_assoc (answer_line_bytes (by_line m)) line (lines_written (elements_with_new_keys line_key (line ∷ seen) lines))
-
-    with-note : AreWritten os → (noted : Option ℕ)
-        → flat_map observation_bytes (elements_with_new_keys text_item had (map (observed m) (note_texts noted ++ line ∷ []) ++ texts)) ≡ lines_written (elements_with_new_keys line_key seen (observed m o.item.1 ∷ lines))
-    with-note later None = with-line later had same
-    with-note later (Some n) = by (list_any (bytes_eq (note n)) had)
-      where
-        by : (a : Bool)
-            → flat_map observation_bytes (if a then elements_with_new_keys text_item had (observed m line ∷ texts) else observed m (note n) ∷ elements_with_new_keys text_item (note n ∷ had) (observed m line ∷ texts))
-            ≡ lines_written (elements_with_new_keys line_key seen (observed m o.item.1 ∷ lines))
-        by true = with-line later had same
-        by false = with-line later (note n ∷ had) (show-note had seen n same)
+accesses-written (o ∷ os) had seen same =
+    let texts = flat_map (made_of its_texts) os in
+    let lines = flat_map (made_of its_lines) os in
+    noted-written o.move texts lines o.item.1 (lines-written o.move texts lines (accesses-written os) o.item.1) (file_read o.item.0) had seen same
 
 -- ---- the recorded notes
 
@@ -223,14 +237,19 @@ recorded-any t had (o ∷ os) =
     by false there e is was now =
         ap (λ b. before || (b || new)) is ∙ absorbed before e new rest now ∙ ap (λ b. before || (b || rest)) (sym is)
 
+-- no line is a note
+lines-hidden : (n : ℕ) (m : Move) (texts : List (Observation Bytes)) (ls : List AnswerLine)
+    → list_any (bytes_eq (note n)) (map text_item (map (observed m) (map answer_line_bytes ls) ++ texts)) ≡ list_any (bytes_eq (note n)) (map text_item texts)
+lines-hidden n m texts [] = refl
+lines-hidden n m texts (l ∷ ls) =
+    ap (λ b. b || list_any (bytes_eq (note n)) (map text_item (map (observed m) (map answer_line_bytes ls) ++ texts))) (note-hidden n (answer_line_bytes l) (line_bytes-shown l))
+    ∙ lines-hidden n m texts ls
+
 notes-of_texts : (n : ℕ) (os : List (Observation Lined))
     → list_any (bytes_eq (note n)) (map text_item (flat_map (made_of its_texts) os)) ≡ list_any (λ m. m == n) (filter_map (λ o. file_read o.item) (flat_map (made_of one_access) os))
 notes-of_texts n [] = refl
 notes-of_texts n (o ∷ os) = by (file_read o.item.0) (notes-of_texts n os)
   where
-    line : Bytes
-    line = answer_line_bytes o.item.1
-
     texts : List (Observation Bytes)
     texts = flat_map (made_of its_texts) os
 
@@ -238,38 +257,40 @@ notes-of_texts n (o ∷ os) = by (file_read o.item.0) (notes-of_texts n os)
     files = filter_map (λ o. file_read o.item) (flat_map (made_of one_access) os)
 
     by : (noted : Option ℕ) → list_any (bytes_eq (note n)) (map text_item texts) ≡ list_any (λ m. m == n) files
-        → list_any (bytes_eq (note n)) (map text_item (map (observed o.move) (note_texts noted ++ line ∷ []) ++ texts)) ≡ list_any (λ m. m == n) (cons_option noted files)
-    by None later = ap₂ (λ a b. a || b) (note-hidden n line (line_bytes-shown o.item.1)) later
-    by (Some k) later =
-        ap₂ (λ a b. a || b) (note-tested n k) (ap₂ (λ a b. a || b) (note-hidden n line (line_bytes-shown o.item.1)) later)
+        → list_any (bytes_eq (note n)) (map text_item (map (observed o.move) (note_texts noted ++ map answer_line_bytes o.item.1) ++ texts)) ≡ list_any (λ m. m == n) (cons_option noted files)
+    by None later = lines-hidden n o.move texts o.item.1 ∙ later
+    by (Some k) later = ap₂ (λ a b. a || b) (note-tested n k) (lines-hidden n o.move texts o.item.1 ∙ later)
 
 -- ---- a complete run of a search
 
-module _ (moves : Found → List Move) (found : List Found) where
+module _ (files : List Bytes) (start : Tree) (moves : Found → List Move) (found : List Found) where
+  abbrev observed_lined : Observer Lined
+  observed_lined = of_calls (accesses_lined files start)
+
   abbrev all_lined : List (Observation Lined)
-  all_lined = observed_from moves (of_calls accesses_lined) found
+  all_lined = observed_from moves observed_lined found
 
-  texts-made : observed_from moves access_texts found ≡ flat_map (made_of its_texts) all_lined
+  texts-made : observed_from moves (access_texts files start) found ≡ flat_map (made_of its_texts) all_lined
   texts-made =
-      states-made its_texts (of_calls accesses_lined) access_texts
-      (calls-made its_texts texts_of_call (λ s pid p call now. texts-lined (access_line s pid p call now) (accesses s pid p call now))) moves found
+      states-made its_texts observed_lined (access_texts files start)
+      (calls-made files start its_texts (texts_of_call files start) (λ s pid p call now. texts-lined (lines_of_access files start s.tree now.after.tree pid) (accesses s pid p call now))) moves found
 
-  lines-made : observed_from moves (of_calls lines_of_accesses) found ≡ flat_map (made_of one_line) all_lined
+  lines-made : observed_from moves (of_calls (lines_of_accesses files start)) found ≡ flat_map (made_of its_lines) all_lined
   lines-made =
-      states-made one_line (of_calls accesses_lined) (of_calls lines_of_accesses)
-      (calls-made one_line lines_of_accesses (λ s pid p call now. lines-lined (access_line s pid p call now) (accesses s pid p call now))) moves found
+      states-made its_lines observed_lined (of_calls (lines_of_accesses files start))
+      (calls-made files start its_lines (lines_of_accesses files start) (λ s pid p call now. lines-lined (lines_of_access files start s.tree now.after.tree pid) (accesses s pid p call now))) moves found
 
   accesses-made : observed_from moves (of_calls accesses) found ≡ flat_map (made_of one_access) all_lined
   accesses-made =
-      states-made one_access (of_calls accesses_lined) (of_calls accesses)
-      (calls-made one_access accesses (λ s pid p call now. accesses-lined (access_line s pid p call now) (accesses s pid p call now))) moves found
+      states-made one_access observed_lined (of_calls accesses)
+      (calls-made files start one_access accesses (λ s pid p call now. accesses-lined (lines_of_access files start s.tree now.after.tree pid) (accesses s pid p call now))) moves found
 
   -- the texts that are recorded, the accesses that are reported, and the files that are read or executed
   abbrev texts_first : List (Observation Bytes)
-  texts_first = elements_with_new_keys text_item [] (observed_from moves access_texts found)
+  texts_first = elements_with_new_keys text_item [] (observed_from moves (access_texts files start) found)
 
   abbrev lines_first : List (Observation AnswerLine)
-  lines_first = elements_with_new_keys line_key [] (observed_from moves (of_calls lines_of_accesses) found)
+  lines_first = elements_with_new_keys line_key [] (observed_from moves (of_calls (lines_of_accesses files start)) found)
 
   abbrev files_noted : List ℕ
   files_noted = filter_map (λ o. file_read o.item) (observed_from moves (of_calls accesses) found)
@@ -284,19 +305,19 @@ module _ (moves : Found → List Move) (found : List Found) where
   -- the note of a file is recorded if and only if a step reads or executes it
   notes-recorded : (n : ℕ) → list_any (bytes_eq (note n)) (map text_item texts_first) ≡ list_any (λ m. m == n) files_noted
   notes-recorded n =
-      recorded-any (note n) [] (observed_from moves access_texts found)
+      recorded-any (note n) [] (observed_from moves (access_texts files start) found)
       ∙ ap (λ os. list_any (bytes_eq (note n)) (map text_item os)) texts-made
       ∙ notes-of_texts n all_lined
       ∙ ap (λ os. list_any (λ m. m == n) (filter_map (λ o. file_read o.item) os)) (sym accesses-made)
 
   module _ (limit : ℕ) (s : State) (complete : Bool) (last : AnswerLine) where
     abbrev lines_unread : List AnswerLine
-    lines_unread = if complete then map (unread_line program_of limit s) (filter (is_unread program_of limit s files_noted) (named_files s.tree)) else []
+    lines_unread = if complete then map (unread_line program_of limit s) (kept_files files s.tree (filter (is_unread program_of limit s files_noted) (named_files s.tree))) else []
 
     -- the lines after those of the accesses are those of the recorded notes
-    lines-unread : unread_lines s.tree (map text_item texts_first) complete ++ last ∷ [] ≡ lines_unread ++ last ∷ []
+    lines-unread : unread_lines s.tree files (map text_item texts_first) complete ++ last ∷ [] ≡ lines_unread ++ last ∷ []
     lines-unread =
-        ap (λ files. (if complete then map (unread_file_line s.tree) files else []) ++ last ∷ [])
+        ap (λ ns. (if complete then map (unread_file_line s.tree) (kept_files files s.tree ns) else []) ++ last ∷ [])
         (unread-alike s.tree (map text_item texts_first) files_noted notes-recorded (named_files s.tree))
 
     -- the bytes of all lines
@@ -310,7 +331,7 @@ module _ (moves : Found → List Move) (found : List Found) where
 
 -- ---- both kinds of search
 
-module _ (limit : ℕ) (s : State) where
+module _ (files : List Bytes) (limit : ℕ) (s : State) where
   -- the moves of a search of a kind from a state
   abbrev moves_by : SearchKind → Found → List Move
   moves_by Full = moves_of program_of
@@ -320,31 +341,31 @@ module _ (limit : ℕ) (s : State) where
   last_line kind = count_line kind (length (found_by_kind kind limit s)) (is_complete_by kind limit s)
 
   abbrev texts_recorded : SearchKind → List Bytes
-  texts_recorded kind = map text_item (texts_first (moves_by kind) (found_by_kind kind limit s))
+  texts_recorded kind = map text_item (texts_first files s.tree (moves_by kind) (found_by_kind kind limit s))
 
   -- the lines after those of the accesses
   abbrev pub end_lines : SearchKind → List AnswerLine
-  end_lines kind = lines_unread (moves_by kind) (found_by_kind kind limit s) limit s (is_complete_by kind limit s) (last_line kind) ++ last_line kind ∷ []
+  end_lines kind = lines_unread files s.tree (moves_by kind) (found_by_kind kind limit s) limit s (is_complete_by kind limit s) (last_line kind) ++ last_line kind ∷ []
 
   last-alike : (kind : SearchKind) (t : Tree) (texts : List Bytes) (states : ℕ) (complete : Bool)
       → t ≡ s.tree → texts ≡ texts_recorded kind → states ≡ length (found_by_kind kind limit s) → complete ≡ is_complete_by kind limit s
-      → answer_bytes (last_lines t kind texts states complete) ≡ answer_bytes (end_lines kind)
+      → answer_bytes (last_lines t files kind texts states complete) ≡ answer_bytes (end_lines kind)
   last-alike kind t texts states complete same texts_are states_are complete_is =
-      (λ i. answer_bytes (last_lines (same i) kind (texts_are i) (states_are i) (complete_is i)))
-      ∙ ap answer_bytes (lines-unread (moves_by kind) (found_by_kind kind limit s) limit s (is_complete_by kind limit s) (last_line kind))
+      (λ i. answer_bytes (last_lines (same i) files kind (texts_are i) (states_are i) (complete_is i)))
+      ∙ ap answer_bytes (lines-unread files s.tree (moves_by kind) (found_by_kind kind limit s) limit s (is_complete_by kind limit s) (last_line kind))
 
   pub last-bytes : (kind : SearchKind) (t : Tree) (states : ℕ) (complete : Bool) (ends : ℕ) (texts : List Bytes)
-      → t ≡ s.tree → IsSearchedBy access_texts limit s kind states complete ends texts
-      → answer_bytes (last_lines t kind texts states complete) ≡ answer_bytes (end_lines kind)
+      → t ≡ s.tree → IsSearchedBy (access_texts files s.tree) limit s kind states complete ends texts
+      → answer_bytes (last_lines t files kind texts states complete) ≡ answer_bytes (end_lines kind)
   last-bytes Full t states complete ends texts same it = last-alike Full t texts states complete same it.texts_are it.states_are it.complete_is
   last-bytes Reduced t states complete ends texts same it = last-alike Reduced t texts states complete same it.texts_are it.states_are it.complete_is
 
   pub complete-found : (kind : SearchKind) (states : ℕ) (complete : Bool) (ends : ℕ) (texts : List Bytes)
-      → IsSearchedBy access_texts limit s kind states complete ends texts → complete ≡ is_complete_by kind limit s
+      → IsSearchedBy (access_texts files s.tree) limit s kind states complete ends texts → complete ≡ is_complete_by kind limit s
   complete-found Full states complete ends texts it = it.complete_is
   complete-found Reduced states complete ends texts it = it.complete_is
 
-  pub access-bytes : (kind : SearchKind) → observed_by access_texts limit s kind ++ answer_bytes (end_lines kind) ≡ answer_bytes (access_lines_by kind limit s)
+  pub access-bytes : (kind : SearchKind) → observed_by (access_texts files s.tree) limit s kind ++ answer_bytes (end_lines kind) ≡ answer_bytes (access_lines_by files kind limit s)
   unfolding Observing.observed_bytes Lines.reduced_observed_bytes access_lines reduced_access_lines
-  access-bytes Full = all-bytes (moves_by Full) (found_by_kind Full limit s) limit s (is_complete_by Full limit s) (last_line Full)
-  access-bytes Reduced = all-bytes (moves_by Reduced) (found_by_kind Reduced limit s) limit s (is_complete_by Reduced limit s) (last_line Reduced)
+  access-bytes Full = all-bytes files s.tree (moves_by Full) (found_by_kind Full limit s) limit s (is_complete_by Full limit s) (last_line Full)
+  access-bytes Reduced = all-bytes files s.tree (moves_by Reduced) (found_by_kind Reduced limit s) limit s (is_complete_by Reduced limit s) (last_line Reduced)

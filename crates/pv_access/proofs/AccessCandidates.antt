@@ -1,7 +1,7 @@
 -- The accesses of a call are those of its candidates whose condition the outcome satisfies, and the new descriptor.
-use Rattle.std.proofs.Common.{◌≡◌, ◌∙◌, ◌⊎◌, sym, ap, ap₂, ℕ, ℤ, Bool, true, false, not, ◌==◌, if◌then◌else◌, List, [], ◌∷◌, ◌++◌, append_assoc, map, filter, Option, None, Some, refl}
+use Rattle.std.proofs.Common.{◌≡◌, ◌∙◌, sym, ap, ap₂, ℕ, ℤ, Bool, true, false, not, ◌==◌, if◌then◌else◌, List, [], ◌∷◌, ◌++◌, append_assoc, map, filter, Some, refl}
 use Rattle.std.specs.Prelude.{filter_map, is_none}
-use Rattle.std.proofs.lemmas.List.{append-nil, map-append}
+use Rattle.std.proofs.lemmas.List.{append-nil}
 use Rattle.pv_model.specs.declared.call.Call.{Call}
 use Rattle.pv_model.specs.declared.call.Call.TheVariants.{Execve, Open, OpenAt, Read, Write, Lseek, Fstat, Ftruncate, Getdents, Fchdir, Chdir, Stat, Lstat, Readlink, Mkdir, Symlink, Link, Unlink, Rmdir, Rename}
 use Rattle.pv_model.specs.declared.errno.Errno.TheVariants.{ENOEXEC}
@@ -14,7 +14,7 @@ use Rattle.pv_model.specs.declared.promise.Promise.{Promise}
 use Rattle.pv_model.specs.declared.outcome.Outcome.TheVariants.{Value, Text, Failed, Killed, Exited, Blocked, Gone}
 use Rattle.pv_model.specs.declared.place.Place.{Place}
 use Rattle.pv_model.specs.Machine.{Access, executes, changes_name, accesses, node_of_descriptor, Bytes, name_of, node_of, Process, State, Stepped, flags_of, has_succeeded, places}
-use Rattle.pv_model.specs.Answers.Access.{reads, writes, reports, accesses_by_open, if_truncated, nodes_executed, nodes_of_places, nodes_read, nodes_reported, nodes_written, places_changed}
+use Rattle.pv_model.specs.Answers.Access.{reads, writes, reports, accesses_by_open, nodes_executed, nodes_of_places, nodes_read, nodes_reported, nodes_written, places_changed}
 use Rattle.pv_access.specs.declared.condition.Condition.{Condition}
 use Rattle.pv_access.specs.declared.condition.Condition.TheVariants.{NoProgram, AnyValue, SomeCount, SomeBytes, Success}
 use Rattle.pv_access.specs.Candidates.{Candidate, accesses_with, candidates_at, candidates_by, is_satisfied, name_candidates, node_candidates, open_candidates}

@@ -1,24 +1,22 @@
 -- A call that succeeds, or an execve(2), has begun its walks, so they end at the places of the definitions.
-use Rattle.std.proofs.Common.{◌≡◌, ◌∙◌, sym, ap, ap₂, subst, ℕ, ℤ, Bool, true, false, not, if◌then◌else◌, List, [], ◌∷◌, ◌++◌, map, Option, None, Some, refl}
+use Rattle.std.proofs.Common.{◌≡◌, ◌∙◌, sym, ap, ap₂, subst, ℕ, Bool, true, false, if◌then◌else◌, List, [], ◌++◌, map, Option, Some, refl}
 use Rattle.std.specs.Prelude.{filter, filter_map, is_none}
 use Rattle.std.specs.List.{cons_option}
 use Rattle.pv_model.specs.declared.call.Call.{Call}
-use Rattle.pv_model.specs.declared.call.Call.TheVariants.{Exit, GetPid, GetPpid, Fork, Wait, Pledge, Unveil, Execve, Open, OpenAt, Close, Dup, Dup2, Read, Write, Lseek, Fstat, Ftruncate, Getdents, Fchdir, Chdir, Stat, Lstat, Readlink, Mkdir, Symlink, Link, Unlink, Rmdir, Rename}
+use Rattle.pv_model.specs.declared.call.Call.TheVariants.{Execve, Open, OpenAt, Chdir, Stat, Lstat, Readlink, Mkdir, Symlink, Link, Unlink, Rmdir, Rename}
 use Rattle.pv_model.specs.declared.call.Start.{Start}
-use Rattle.pv_model.specs.declared.call.Start.TheVariants.{WorkingDirectory, Descriptor as AtDescriptor}
-use Rattle.pv_model.specs.declared.errno.Errno.{Errno}
-use Rattle.pv_model.specs.declared.errno.Errno.TheVariants.{EBADF, EINVAL, ENOSYS, ENOTDIR}
+use Rattle.pv_model.specs.declared.errno.Errno.TheVariants.{EINVAL}
 use Rattle.pv_model.specs.declared.open_flags.OpenFlags.{OpenFlags}
 use Rattle.pv_model.specs.declared.outcome.Outcome.{Outcome}
 use Rattle.pv_model.specs.declared.outcome.Outcome.TheVariants.{Value, Text}
 use Rattle.pv_model.specs.declared.place.Place.{Place}
-use Rattle.pv_model.specs.Machine.{answer, answer_by_attempt, at_next_line, effect, Access, node_of_descriptor, changes_name, Attempt, done, refused, after_walks, give, demand, refuse_if, ◌>>=◌, ◌>>◌, Bytes, check_start, contradicts, open_at, Effect, end_of, name_of, node_of, Process, Program, State, process_at, with_process, has_succeeded, place_found, places, Walk, open_walk, walks_of}
+use Rattle.pv_model.specs.Machine.{answer, answer_by_attempt, at_next_line, effect, Access, node_of_descriptor, changes_name, Attempt, done, refused, after_walks, refuse_if, ◌>>◌, Bytes, check_start, contradicts, open_at, Effect, end_of, name_of, node_of, Process, Program, State, process_at, with_process, has_succeeded, place_found, places, open_walk}
 use Rattle.pv_model.specs.Answers.Access.{writes}
 use Rattle.pv_laws_states.proofs.CallOutcomes.{by_answer}
 use Rattle.pv_access.specs.declared.condition.Condition.{Condition}
 use Rattle.pv_access.specs.declared.condition.Condition.TheVariants.{AnyValue, Success}
 use Rattle.pv_access.specs.Candidates.{accesses_with, candidates, candidates_at, candidates_by, is_satisfied, open_candidates, name_candidates, node_candidates, places_begun}
-use Rattle.pv_reduced.specs.OfCallsPath.Ends.{end_begun, if_given}
+use Rattle.pv_reduced.specs.OfCallsPath.Ends.{if_given}
 use Rattle.pv_access.proofs.AccessCandidates.{with-append, with-by}
 
 abbrev is_done : {A : Type 0} → Attempt A → Bool

@@ -1,5 +1,5 @@
 -- A process has no descriptor past the sixteenth.
-use Rattle.std.proofs.Common.{◌≡◌, ℕ, pos, ◌<◌, ◌≤◌, length, Option, None, Some, option_map, refl, sym, ap, ◌∙◌, arith}
+use Rattle.std.proofs.Common.{◌≡◌, ℕ, pos, ◌<◌, ◌≤◌, length, Option, None, Some, option_map, refl, sym, ap, arith}
 use Rattle.pv_model.specs.Machine.{open_file, open_file_of, Numbered, at_number, Descriptor, OpenFile, Process, State, process_at}
 use Rattle.pv_laws_states.specs.States.{IsValid}
 use Rattle.pv_laws_trees.proofs.NumberedMaps.{at_number-below}

@@ -5,7 +5,7 @@
 //! finds the nodes and places of a call, `candidate` has a prepared access, and `word` has the words of lines.
 //!
 //! `access` writes the accesses of all schedules, which the search of `pv_explore` observes (`observer`). It then writes
-//! the files of the first tree that no step reads or executes (`unread`).
+//! the files of the first tree that no step reads or executes (`unread`). Lines may be about given files alone.
 #![tactic(auto)]
 
 mod access;

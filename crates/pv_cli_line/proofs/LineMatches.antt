@@ -1,9 +1,10 @@
 -- The matches of a line, or its refusal by the parser, and the command that it asks for.
-use Rattle.std.proofs.Common.{◌≡◌, ◌∙◌, ap, sym, subst, inl, inr, Bool, true, false, arith, if◌then◌else◌, bytes_eq, ℕ, List, [], ◌∷◌, length, map, codes, Option, None, Some, option_map, refl}
+use Rattle.std.proofs.Common.{◌≡◌, ◌∙◌, ◌⊎◌, ap, sym, subst, inl, inr, Bool, true, false, arith, if◌then◌else◌, bytes_eq, ℕ, List, [], ◌∷◌, length, map, codes, Option, None, Some, option_map, refl}
 use Rattle.std.proofs.lemmas.Bool.{and_parts, false_from_ne_true}
 use Rattle.std.proofs.lemmas.List.{length-map}
 use Rattle.std.proofs.lemmas.Slice.Eq.{bytes_eq-Decides}
 use Rattle.std.specs.Prelude.{◌<◌, ◌≤◌, Box, Result, Ok, Err, IfErr, IfOk, IsErrAnd}
+use Rattle.std.specs.List.{list_all}
 use Rattle.std.specs.Option.{IsSomeAnd}
 use Rattle.std.specs.Box.{box_value}
 use Rattle.clap.specs.Words.{HasKind, Row, Text, fault_of, first_of, found_of, kind_of, rows_of, subcommand_rows, takes}
@@ -34,7 +35,8 @@ use Rattle.pv_cli_line.specs.declared.command.CommandLine.{CommandLine}
 use Rattle.pv_cli_line.specs.declared.command.LineFault.{LineFault}
 use Rattle.pv_cli_line.specs.declared.command.LineFault.TheVariants as line
 use Rattle.pv_cli_line.specs.declared.matches.Migration.{Migration}
-use Rattle.pv_cli_line.specs.Line.{AreComparedIn, AreInvalidTurns, HasTexts, IsCommandIn, IsMigrationOf, IsPlain, IsQuestionIn, IsCommandLineError, IsTextIn, IsTextless, IsTreeIn, IsValidIn, IsValidTreeIn, IsWithoutNumbers, RefusesLine, RefusesTurns, RefusesTurnsOf, RefusesWords, entered_text, is_verbose_in, is_verbose_line, of_kind, of_parser, search_name, turns_of}
+use Rattle.pv_cli_line.specs.Paths.{is_plain_path}
+use Rattle.pv_cli_line.specs.Line.{AreComparedIn, AreFaultyFiles, AreInvalidTurns, HasTexts, IsCommandIn, IsMigrationOf, IsPlain, IsQuestionIn, IsCommandLineError, IsTextIn, IsTextless, IsTreeIn, IsValidIn, IsValidTreeIn, IsWithoutNumbers, RefusesFiles, RefusesLine, RefusesMany, RefusesTurns, RefusesTurnsOf, RefusesWords, entered_text, command_files, is_verbose_in, is_verbose_line, of_kind, of_parser, search_name, turns_of}
 use Rattle.pv_cli_line.specs.Parser.{pvsim_app}
 
 module _ {Z : Type 0} where
@@ -241,19 +243,25 @@ module _ (words : List Text) (entered : Option (Text × List Row)) (appears : en
   there = subst (λ (e : Option (Text × List Row)). IsCommandIn e command) appears is
 
   pub asked_by : (r : Result CommandLine LineFault) (verbose : Bool) → IfOk r (λ line. (line.command ≡ command) × (line.is_verbose ≡ verbose))
-      → IfOk r (λ line. AreInvalidTurns line.command None) → IfOk r (λ line. IsValidIn (subcommand_of pvsim_app words) line.command)
-  asked_by (Ok line) verbose same turns = (subst (λ (k : Command). IsCommandIn (subcommand_of pvsim_app words) k) (sym same.0) there, turns)
-  asked_by (Err fault) verbose same turns = tt
+      → IfOk r (λ line. AreInvalidTurns line.command None) → IfOk r (λ line. AreFaultyFiles line.command None)
+      → IfOk r (λ line. IsValidIn (subcommand_of pvsim_app words) line.command)
+  asked_by (Ok line) verbose same turns files = (subst (λ (k : Command). IsCommandIn (subcommand_of pvsim_app words) k) (sym same.0) there, turns, files)
+  asked_by (Err fault) verbose same turns files = tt
 
   pub refused_by_turns : {T : Type 0} (r : Result T LineFault) → IfErr r (RefusesTurnsOf command) → IfErr r (RefusesWords words)
   refused_by_turns (Ok value) refuses = tt
   refused_by_turns (Err line.Memory) refuses = tt
   refused_by_turns (Err line.Number) refuses = absurd refuses
-  refused_by_turns (Err (line.Parser error)) refuses = inr (by (turns_of command) refl refuses.1)
+  refused_by_turns (Err (line.Parser error)) refuses = inr (of refuses.1)
     where
       by : (o : Option Text) → turns_of command ≡ o → IsSomeAnd o (λ turns. are_turns turns ≡ false) → RefusesTurns words error
       by None has faulty = absurd faulty
       by (Some turns) has faulty = record { kind = refuses.0; command = command; is_command = there; turns = turns; has_turns = has; are_none = faulty }
+
+      of : IsSomeAnd (turns_of command) (λ turns. are_turns turns ≡ false) ⊎ (list_all is_plain_path (command_files command) ≡ false)
+          → RefusesTurns words error ⊎ (RefusesFiles words error ⊎ RefusesMany words error)
+      of (inl faulty) = inl (by (turns_of command) refl faulty)
+      of (inr faulty) = inr (inl (record { kind = refuses.0; command = command; is_command = there; are_none = faulty }))
 
 pub verbose_by : (r : Result CommandLine LineFault) (command : Command) (verbose other : Bool) → IfOk r (λ line. (line.command ≡ command) × (line.is_verbose ≡ verbose))
     → verbose ≡ other → IfOk r (λ line. line.is_verbose ≡ other)
@@ -283,7 +291,7 @@ module _ (entered : Option (Text × List Row)) where
       → ((tree : TreeInput) → IsValidTreeIn entered (codes "graph") tree → ⊥)
       → (search : Search) (tree : TreeInput) → IsValidTreeIn entered (search_name search) tree → ⊥
   no_search explores accesses exposures policies graphs (Explore kind) = explores
-  no_search explores accesses exposures policies graphs (Access kind) = accesses
-  no_search explores accesses exposures policies graphs (Exposure kind) = exposures
+  no_search explores accesses exposures policies graphs (Access kind files) = accesses
+  no_search explores accesses exposures policies graphs (Exposure kind files) = exposures
   no_search explores accesses exposures policies graphs (Policy kind granted) = policies
   no_search explores accesses exposures policies graphs (Graph lists_tree) = graphs

@@ -1,7 +1,9 @@
 -- The command in the words of a command line.
-use Rattle.std.specs.Prelude.{◌≡◌, ◌≢◌, ◌⊎◌, ⊤, ℕ, ◌<◌, Bool, ◌&&◌, ◌||◌, not, nat_le, true, false, if◌then◌else◌, bytes_eq, List, [], ◌∷◌, length, codes, Option, None, Some, IfSome, option_map}
+use Rattle.std.specs.Prelude.{◌≡◌, ◌≢◌, ◌⊎◌, ⊤, ℕ, ◌<◌, Bool, ◌&&◌, ◌||◌, not, nat_le, true, false, if◌then◌else◌, bytes_eq, IsTrue, List, [], ◌∷◌, length, filter_map, codes, Option, None, Some, IfSome, option_map, unwrap_or}
+use Rattle.std.specs.Borrow.{Bor}
+use Rattle.std.specs.List.{list_all, list_any}
 use Rattle.std.specs.Option.{IsSomeAnd}
-use Rattle.clap.specs.Words.{Row, Text, IsAmong, fault_of, first_of, kind_of, matches_of, subcommand_of, takes}
+use Rattle.clap.specs.Words.{Row, Text, IsAmong, all_of, fault_of, first_of, kind_of, matches_of, subcommand_of, takes}
 use Rattle.clap.specs.declared.error.Error.{Error}
 use Rattle.clap.specs.declared.error.kind.ErrorKind.{ErrorKind}
 use Rattle.clap.specs.declared.error.kind.ErrorKind.TheVariants.{OutOfMemory, MissingRequiredArgument, ValueValidation}
@@ -24,6 +26,8 @@ use Rattle.pv_cli_commands.specs.declared.command.TreeInput.TheVariants.{Image, 
 use Rattle.pv_cli_commands.specs.OfQuestions.declared.question.Question.{Question}
 use Rattle.pv_cli_commands.specs.OfQuestions.declared.question.Question.TheVariants.{Trace, State, Reach, Explain, Needs, Audit, Reasons}
 use Rattle.pv_cli_commands.specs.OfQuestions.Schedules.{are_turns}
+use Rattle.pv_cli_commands.specs.OfQuestions.FilePaths.{paths_of}
+use Rattle.pv_cli_commands.specs.OfQuestions.declared.question.Files.{Files}
 use Rattle.pv_cli_commands.specs.OfQuestions.declared.question.RunQuestion.{RunQuestion}
 use Rattle.pv_cli_commands.specs.OfQuestions.declared.question.TreeQuestion.{TreeQuestion}
 use Rattle.pv_cli_commands.specs.OfQuestions.declared.question.TreeQuestion.TheVariants.{Listing, File, Turns, Search as OfSearch}
@@ -43,6 +47,7 @@ use Rattle.pv_cli_line.specs.declared.texts.Given.TheVariants.{Nothing, One, Bot
 use Rattle.pv_source.specs.declared.source.Output.{Output}
 use Rattle.pv_source.specs.declared.source.Output.TheVariants.{Translation, ProgramLines}
 use Rattle.pv_cli_line.specs.Parser.{pvsim_app}
+use Rattle.pv_cli_line.specs.Paths.{is_plain_path}
 
 -- the empty predicate, and the empty relation
 abbrev pub Never : {A : Type 0} → (A → Type 0) → Type 0
@@ -208,8 +213,8 @@ output_entered entered = if is_given (entered_text entered (codes "source") (cod
 -- the name of the command of a search
 abbrev pub search_name : Search → Text
 search_name (Explore kind) = codes "explore"
-search_name (Access kind) = codes "access"
-search_name (Exposure kind) = codes "exposure"
+search_name (Access kind files) = codes "access"
+search_name (Exposure kind files) = codes "exposure"
 search_name (Policy kind granted) = codes "policy"
 search_name (Graph lists_tree) = codes "graph"
 
@@ -217,11 +222,29 @@ search_name (Graph lists_tree) = codes "graph"
 abbrev pub kind_entered : Option (Text × List Row) → Text → SearchKind
 kind_entered entered command = if is_given (entered_text entered command (codes "reduced")) then Reduced else Full
 
--- the flags of the command of a search are those entered
+-- the texts of an argument that may be given more than once, if the command was entered
+abbrev pub entered_texts : Option (Text × List Row) → Text → Text → Option (List Text)
+entered_texts None command argument = None
+entered_texts (Some p) command argument = if bytes_eq p.0 command then all_of argument p.1 else None
+
+-- the files of a search that were entered
+abbrev pub files_entered : Option (Text × List Row) → Text → List Text
+files_entered entered command = unwrap_or (entered_texts entered command (codes "file")) []
+
+-- the paths that there are
+abbrev pub present_paths : List (Option (Bor (List ℕ))) → List Text
+present_paths paths = filter_map (λ path. option_map (λ p. p.now) path) paths
+
+abbrev pub paths_in : Files → List Text
+paths_in files = present_paths (paths_of files)
+
+-- the flags and files of the command of a search are those entered
 abbrev pub HasFlags : Option (Text × List Row) → Search → Type 0
 HasFlags entered (Explore kind) = kind_entered entered (codes "explore") ≡ kind
-HasFlags entered (Access kind) = kind_entered entered (codes "access") ≡ kind
-HasFlags entered (Exposure kind) = kind_entered entered (codes "exposure") ≡ kind
+HasFlags entered (Access kind files) =
+    (kind_entered entered (codes "access") ≡ kind) × (paths_in files ≡ files_entered entered (codes "access"))
+HasFlags entered (Exposure kind files) =
+    (kind_entered entered (codes "exposure") ≡ kind) × (paths_in files ≡ files_entered entered (codes "exposure"))
 HasFlags entered (Policy kind granted) =
     (kind_entered entered (codes "policy") ≡ kind) × (is_given (entered_text entered (codes "policy") (codes "granted")) ≡ granted)
 HasFlags entered (Graph lists_tree) = is_given (entered_text entered (codes "graph") (codes "tree")) ≡ lists_tree
@@ -394,6 +417,39 @@ IsWithoutNumbers (AskTree (OfSearch search states) tree) = ⊥
 IsWithoutNumbers (Compare inputs pairs) = ⊥
 IsWithoutNumbers command = ⊤
 
+-- the paths of the files of a command
+abbrev pub files_of_search : Search → List Text
+files_of_search (Access kind files) = paths_in files
+files_of_search (Exposure kind files) = paths_in files
+files_of_search search = []
+
+abbrev pub files_of_question : TreeQuestion → List Text
+files_of_question (OfSearch search states) = files_of_search search
+files_of_question question = []
+
+abbrev pub command_files : Command → List Text
+command_files (AskTree question tree) = files_of_question question
+command_files command = []
+
+-- the files of a command; without files it has no path
+abbrev pub AreGivenPaths : Command → Option Files → Type 0
+AreGivenPaths command None = command_files command ≡ []
+AreGivenPaths command (Some files) = command_files command ≡ paths_in files
+
+-- there is a path, and it is not plain
+abbrev pub is_faulty : Option (Bor (List ℕ)) → Bool
+is_faulty None = false
+is_faulty (Some path) = not (is_plain_path path.now)
+
+-- all paths are plain, or this one is not
+abbrev pub AreFaultyPaths : List Text → Option Text → Type 0
+AreFaultyPaths paths None = list_all is_plain_path paths ≡ true
+AreFaultyPaths paths (Some path) = IsTrue (list_any (bytes_eq path) paths) × (is_plain_path path ≡ false)
+
+-- the same for the files of a command
+abbrev pub AreFaultyFiles : Command → Option Text → Type 0
+AreFaultyFiles command path = AreFaultyPaths (command_files command) path
+
 -- the turns of a command, in place of a schedule
 abbrev pub turns_of_run : RunInput → Option Text
 turns_of_run (OfImage image (AsTurns turns)) = Some turns.now
@@ -414,15 +470,19 @@ abbrev pub AreInvalidTurns : Command → Option Text → Type 0
 AreInvalidTurns command None = IfSome (turns_of command) (λ turns. are_turns turns ≡ true)
 AreInvalidTurns command (Some turns) = (turns_of command ≡ Some turns) × (are_turns turns ≡ false)
 
--- a refusal of the turns of a command
+-- a refusal of the turns of a command, or of its files
 abbrev pub RefusesTurnsOf : Command → LineFault → Type 0
 RefusesTurnsOf command line.Memory = ⊤
 RefusesTurnsOf command line.Number = ⊥
-RefusesTurnsOf command (line.Parser error) = (kind_of error ≡ ValueValidation) × IsSomeAnd (turns_of command) (λ turns. are_turns turns ≡ false)
+RefusesTurnsOf command (line.Parser error) =
+    (kind_of error ≡ ValueValidation)
+    × (IsSomeAnd (turns_of command) (λ turns. are_turns turns ≡ false) ⊎ (list_all is_plain_path (command_files command) ≡ false))
 
--- the matches are of this command, and its turns are turns
+-- the matches are of this command, its turns are turns, and its files have plain paths
 abbrev pub IsValidIn : Option (Text × List Row) → Command → Type 0
-IsValidIn entered command = IsCommandIn entered command × IfSome (turns_of command) (λ turns. are_turns turns ≡ true)
+IsValidIn entered command =
+    IsCommandIn entered command × IfSome (turns_of command) (λ turns. are_turns turns ≡ true)
+    × (list_all is_plain_path (command_files command) ≡ true)
 
 -- the words, whose first is the name of the program, ask for this command
 abbrev pub IsAsked : List Text → Command → Type 0
@@ -470,6 +530,30 @@ pub record RefusesTurns (words : List Text) (error : Error) : Type 0 where
   pub turns : Text
   pub has_turns : turns_of command ≡ Some turns
   pub are_none : are_turns turns ≡ false
+
+-- the words ask for a command about a file whose path is not plain
+pub record RefusesFiles (words : List Text) (error : Error) : Type 0 where
+  pub kind : kind_of error ≡ ValueValidation
+  pub command : Command
+  pub is_command : IsCommandIn (subcommand_of pvsim_app words) command
+  pub are_none : list_all is_plain_path (command_files command) ≡ false
+
+-- the name of the command of a search that may be about given files
+abbrev pub IsAboutFiles : Text → Type 0
+IsAboutFiles command = (command ≡ codes "access") ⊎ (command ≡ codes "exposure")
+
+-- such a search was entered with more files than a question has
+pub record HasManyFiles (entered : Option (Text × List Row)) : Type 0 where
+  pub command : Text
+  pub is_about_files : IsAboutFiles command
+  pub tree : TreeInput
+  pub are_entered : IsValidTreeIn entered command tree
+  pub are_many : 8 < length (files_entered entered command)
+
+-- the words ask for a search with more files than a question has
+pub record RefusesMany (words : List Text) (error : Error) : Type 0 where
+  pub kind : kind_of error ≡ ValueValidation
+  pub are_many : HasManyFiles (subcommand_of pvsim_app words)
 
 -- a question about a run was entered with a number of steps that is not a number
 pub record LacksSteps (entered : Option (Text × List Row)) : Type 0 where
@@ -523,10 +607,11 @@ LacksNumber entered =
 abbrev pub IsReadFrom : Option (Text × List Row) → Parsed → Type 0
 IsReadFrom entered (found.Command command) = IsCommandIn entered command
 IsReadFrom entered found.Number = LacksNumber entered
+IsReadFrom entered found.ManyFiles = HasManyFiles entered
 
 -- a refusal of the words after the name of the program
 abbrev pub RefusesWords : List Text → LineFault → Type 0
-RefusesWords words (line.Parser error) = IsCommandLineError words error ⊎ RefusesTurns words error
+RefusesWords words (line.Parser error) = IsCommandLineError words error ⊎ (RefusesTurns words error ⊎ (RefusesFiles words error ⊎ RefusesMany words error))
 RefusesWords words line.Number = LacksNumber (subcommand_of pvsim_app words)
 RefusesWords words line.Memory = ⊤
 

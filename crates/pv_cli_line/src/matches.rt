@@ -1,11 +1,11 @@
 //! The command in the matches of the parser.
-ghost use Rattle.std.specs.Prelude.{◌≡◌, ◌⊎◌, ℕ, List, codes, Option, None, Some, IfSome};
+ghost use Rattle.std.specs.Prelude.{◌≡◌, ◌⊎◌, ◌<◌, ℕ, List, codes, length, Option, None, Some, IfSome};
 ghost use Rattle.clap.specs.Words.{subcommand_rows_of as entered};
-ghost use Rattle.pv_cli_line.specs.Line.{AreComparedIn, AreMigrationTextsIn, HasFlags, HasTexts, IsCommandIn, IsCommandOf, IsReadFrom, IsMigrationOf, IsPlain, IsQuestionIn, IsRunIn, IsTracedIn, IsTracedTextIn, IsTreeIn, IsValidRunIn, IsValidTreeIn, IsWithoutNumbers, Never, NeverBoth, entered_text, errors_entered, kind_entered, output_entered, question_name, search_name, size_in};
+ghost use Rattle.pv_cli_line.specs.Line.{AreComparedIn, AreMigrationTextsIn, HasFlags, HasTexts, IsAboutFiles, IsCommandIn, IsCommandOf, IsReadFrom, IsMigrationOf, IsPlain, IsQuestionIn, IsRunIn, IsTracedIn, IsTracedTextIn, IsTreeIn, IsValidRunIn, IsValidTreeIn, IsWithoutNumbers, Never, NeverBoth, entered_text, errors_entered, files_entered, kind_entered, output_entered, question_name, search_name, size_in};
 
 use crate::texts::{
-    RunTexts, TreeTexts, count_of, is_flag_given, run_in, run_texts_in, size_of, states_of,
-    text_of, tree_in, tree_texts_in, version_of,
+    RunTexts, TreeTexts, count_of, files_in, is_flag_given, run_in, run_texts_in, size_of,
+    states_of, text_of, tree_in, tree_texts_in, version_of,
 };
 use clap::ArgMatches;
 use pv_cli_commands::questions::{Question, RunQuestion, Search, SearchKind, TreeQuestion};
@@ -105,6 +105,8 @@ pub(crate) enum Parsed<'a> {
     Command(Command<'a>),
     // A command with a numeric argument that is not a number.
     Number,
+    // A command with more files than a question has.
+    ManyFiles,
 }
 
 // Returns the name of the command that asks a question about a run.
@@ -354,23 +356,23 @@ fn turns_in<'a>(matches: &ArgMatches<'a>) -> Option<Parsed<'a>>
 }
 
 // Returns the name of the command of a search.
-fn name_of_search(search: Search) -> &'static str
-    ensures { result.now ≡ search_name search }
+fn name_of_search(search: Search<'_>) -> &'static str
+    ensures { result.now ≡ search_name search.entry }
 {
     match search {
         Search::Explore(_) => "explore",
-        Search::Access(_) => "access",
-        Search::Exposure(_) => "exposure",
+        Search::Access { .. } => "access",
+        Search::Exposure { .. } => "exposure",
         Search::Policy { .. } => "policy",
         Search::Graph { .. } => "graph",
     }
 }
 
 // Returns the command of a search, if the matches are of it.
-fn search_by<'a>(matches: &ArgMatches<'a>, search: Search) -> Option<Parsed<'a>>
+fn search_by<'a>(matches: &ArgMatches<'a>, search: Search<'a>) -> Option<Parsed<'a>>
     requires { HasFlags (entered matches.now) search }
     ensures found { IfSome result (IsReadFrom (entered matches.now)) }
-    ensures none { result ≡ None → Never (IsValidTreeIn (entered matches.now) (search_name search)) }
+    ensures none { result ≡ None → Never (IsValidTreeIn (entered matches.now) (search_name search.entry)) }
 {
     let command = name_of_search(search);
     let tree = tree_in(matches, command)?;
@@ -394,6 +396,42 @@ fn kind_in(matches: &ArgMatches<'_>, command: &str) -> SearchKind
     }
 }
 
+// Returns that a search has more files than a question, if the matches are of the given command.
+#[tactic(auto, using(crate::proofs::Files::has_many_files))]
+fn many_files_in<'a>(matches: &ArgMatches<'a>, command: &str) -> Option<Parsed<'a>>
+    requires name { IsAboutFiles command.now }
+    requires many { 8 < length (files_entered (entered matches.now) command.now) }
+    ensures found { IfSome result (IsReadFrom (entered matches.now)) }
+    ensures none { result ≡ None → Never (IsValidTreeIn (entered matches.now) command.now) }
+{
+    tree_in(matches, command)?;
+    Some(Parsed::ManyFiles)
+}
+
+// Returns the command of `access`, if the matches are of it.
+fn access_in<'a>(matches: &ArgMatches<'a>) -> Option<Parsed<'a>>
+    ensures found { IfSome result (IsReadFrom (entered matches.now)) }
+    ensures none { result ≡ None → Never (IsValidTreeIn (entered matches.now) (codes "access")) }
+{
+    let kind = kind_in(matches, "access");
+    let Some(files) = files_in(matches, "access") else {
+        return many_files_in(matches, "access");
+    };
+    search_by(matches, Search::Access { kind, files })
+}
+
+// Returns the command of `exposure`, if the matches are of it.
+fn exposure_in<'a>(matches: &ArgMatches<'a>) -> Option<Parsed<'a>>
+    ensures found { IfSome result (IsReadFrom (entered matches.now)) }
+    ensures none { result ≡ None → Never (IsValidTreeIn (entered matches.now) (codes "exposure")) }
+{
+    let kind = kind_in(matches, "exposure");
+    let Some(files) = files_in(matches, "exposure") else {
+        return many_files_in(matches, "exposure");
+    };
+    search_by(matches, Search::Exposure { kind, files })
+}
+
 // Returns the command of a search, if there is one in the matches.
 fn search_in<'a>(matches: &ArgMatches<'a>) -> Option<Parsed<'a>>
     ensures found { IfSome result (IsReadFrom (entered matches.now)) }
@@ -403,12 +441,10 @@ fn search_in<'a>(matches: &ArgMatches<'a>) -> Option<Parsed<'a>>
     if let Some(found) = search_by(matches, explore) {
         return Some(found);
     }
-    let access = Search::Access(kind_in(matches, "access"));
-    if let Some(found) = search_by(matches, access) {
+    if let Some(found) = access_in(matches) {
         return Some(found);
     }
-    let exposure = Search::Exposure(kind_in(matches, "exposure"));
-    if let Some(found) = search_by(matches, exposure) {
+    if let Some(found) = exposure_in(matches) {
         return Some(found);
     }
     let policy = Search::Policy {

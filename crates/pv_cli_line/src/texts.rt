@@ -1,9 +1,10 @@
 //! The texts and numbers of a command in the parser's matches.
-ghost use Rattle.std.specs.Prelude.{◌≡◌, Option, None, Some, IfSome, option_map};
+ghost use Rattle.std.specs.Prelude.{◌≡◌, ◌<◌, length, map, slice_get, Option, None, Some, IfSome, option_map};
 ghost use Rattle.clap.specs.Words.{found_of, rows_of, subcommand_rows_of as entered};
-ghost use Rattle.pv_cli_line.specs.Line.{AreRunTextsIn, AreTreeTextsIn, IsGivenIn, IsRunIn, IsScheduleOf, IsTextIn, IsTextless, IsTreeIn, IsValidRunIn, IsValidTreeIn, Never, NeverBoth, count_or_default, entered_text, is_given, is_set, is_flag_set_in, is_verbose_in, size_in, states_in, version_in};
+ghost use Rattle.pv_cli_line.specs.Line.{AreRunTextsIn, AreTreeTextsIn, IsGivenIn, IsRunIn, IsScheduleOf, IsTextIn, IsTextless, IsTreeIn, IsValidRunIn, IsValidTreeIn, Never, NeverBoth, count_or_default, entered_text, entered_texts, files_entered, is_given, is_set, is_flag_set_in, is_verbose_in, paths_in, size_in, states_in, version_in};
 
 use clap::ArgMatches;
+use pv_cli_commands::questions::Files;
 use pv_cli_commands::{RunInput, ScheduleInput, TextInput, TreeInput};
 use pv_model::Version;
 use pv_text::words::decimal;
@@ -115,6 +116,57 @@ pub(crate) fn is_flag_given(matches: &ArgMatches<'_>, command: &str, flag: &str)
         Some(text) => text == "true",
         None => false,
     }
+}
+
+// Returns the texts of an argument that may be given more than once, if the matches are of the given command.
+fn texts_of<'m, 'a>(
+    matches: &'m ArgMatches<'a>,
+    command: &str,
+    argument: &str,
+) -> Option<&'m [&'a str]>
+    ensures { option_map (λ texts. map (λ text. text.now) texts.now) result ≡ entered_texts (entered matches.now) command.now argument.now }
+{
+    let inner = matches.subcommand_matches(command)?;
+    inner.get_strs(argument)
+}
+
+// Returns the bytes of a text, if there is one with this number.
+fn path_at<'a>(texts: &[&'a str], number: usize) -> Option<&'a [u8]>
+    ensures { option_map (λ path. path.now) result ≡ option_map (λ text. text.now) (slice_get texts.now number) }
+{
+    let text = texts.get(number)?;
+    Some(text.as_bytes())
+}
+
+// Returns the bytes of texts. Returns `None` if there are more than 8.
+#[tactic(auto, using(crate::proofs::Files::are_paths))]
+fn files_of<'a>(texts: &[&'a str]) -> Option<Files<'a>>
+    ensures found { IfSome result (λ files. paths_in files ≡ map (λ text. text.now) texts.now) }
+    ensures none { result ≡ None → 8 < length texts.now }
+{
+    if texts.len() > 8 {
+        return None;
+    }
+    Some(Files {
+        paths: (
+            path_at(texts, 0),
+            path_at(texts, 1),
+            path_at(texts, 2),
+            path_at(texts, 3),
+            path_at(texts, 4),
+            path_at(texts, 5),
+            path_at(texts, 6),
+            path_at(texts, 7),
+        ),
+    })
+}
+
+// Returns the files of a search, if the matches are of the given command. Returns `None` if there are more than 8.
+pub(crate) fn files_in<'a>(matches: &ArgMatches<'a>, command: &str) -> Option<Files<'a>>
+    ensures found { IfSome result (λ files. paths_in files ≡ files_entered (entered matches.now) command.now) }
+    ensures none { result ≡ None → 8 < length (files_entered (entered matches.now) command.now) }
+{
+    files_of(texts_of(matches, command, "file").unwrap_or(&[]))
 }
 
 // The manifests and bundles that are given in place of an image.

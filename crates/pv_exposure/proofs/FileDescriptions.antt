@@ -6,9 +6,11 @@ use Rattle.std.proofs.lemmas.List.Folds.{list_all-append}
 use Rattle.pv_model.specs.declared.verdict.Why.{Why}
 use Rattle.pv_model.specs.Answers.Files.{unnamed_files}
 use Rattle.pv_model.specs.Answers.Numbers.{number_numbers}
-use Rattle.pv_model.specs.Machine.{files_of_tree, is_empty, is_file_at, is_file, named_files, elements_with_new_keys, Node, Numbered, at_number, Numbers, Process, State, Tree, live_processes, leaks, names_of}
+use Rattle.pv_model.specs.Machine.{Bytes, files_of_tree, is_empty, is_file_at, is_file, named_files, elements_with_new_keys, Node, Numbered, at_number, Numbers, Process, State, Tree, live_processes, leaks, names_of}
 use Rattle.pv_model.specs.Sealed.{first_leak, leak_or}
+use Rattle.pv_model_questions.specs.AboutFiles.{keeps_node}
 use Rattle.pv_model_questions.specs.Exposure.{are_all_closed, first_leak_of}
+use Rattle.pv_model_questions.specs.ExposureAbout.{kept_files_of}
 use Rattle.pv_exposure.specs.StateFiles.{IsFileOf, described, described_file, first_leak_at, is_safe_at}
 use Rattle.pv_exposure.specs.declared.files.StateFile.{StateFile}
 
@@ -33,11 +35,25 @@ new-all p had (x ∷ xs) all =
     by true here was now = was
     by false here was now = ap (λ b. b && list_all p (elements_with_new_keys number_numbers (number_numbers x ∷ had) xs)) here ∙ now
 
-pub are-files : (t : Tree) → list_all (is_file_at t) (files_of_tree t) ≡ true
+are-files : (t : Tree) → list_all (is_file_at t) (files_of_tree t) ≡ true
 are-files t =
     list_all-append (is_file_at t) (named_files t) (unnamed_files t)
     ∙ ap (λ b. b && list_all (is_file_at t) (unnamed_files t)) (new-all (is_file_at t) [] _ (filter-all (is_file_at t) (is_file_at t) (λ n is. is) _))
     ∙ filter-all (is_file_at t) (λ n. is_file_at t n && is_empty (names_of t n)) (λ n is. (and_parts (is_file_at t n) (is_empty (names_of t n)) is).0) _
+
+-- so are those that are kept
+all-filtered : (p q : ℕ → Bool) (xs : List ℕ) → list_all p xs ≡ true → list_all p (filter q xs) ≡ true
+all-filtered p q [] all = refl
+all-filtered p q (x ∷ xs) all =
+    let parts = and_parts (p x) (list_all p xs) all in
+    by (q x) parts.0 (all-filtered p q xs parts.1)
+  where
+    by : (b : Bool) → p x ≡ true → list_all p (filter q xs) ≡ true → list_all p (cond b (x ∷ filter q xs) (filter q xs)) ≡ true
+    by true here rest = ap (λ b. b && list_all p (filter q xs)) here ∙ rest
+    by false here rest = rest
+
+pub are-kept : (given : List Bytes) (first t : Tree) → list_all (is_file_at t) (kept_files_of given first t) ≡ true
+are-kept given first t = all-filtered (is_file_at t) (keeps_node given first t) (files_of_tree t) (are-files t)
 
 -- ---- a file of the list
 

@@ -122,12 +122,12 @@ pub bytes-both : (ls ms : List AnswerLine) → answer_bytes (ls ++ ms) ≡ answe
 bytes-both ls ms = flat_map-append answer_line_bytes ls ms
 
 -- the bytes of the programs from one on
-abbrev pub bytes_from : Tree → Bool → ℕ → List Exposed → Bytes
-bytes_from t complete k es = answer_bytes (flat_map (lines_of_exposed t complete) (counted_from k es))
+abbrev pub bytes_from : List Bytes → Tree → Bool → ℕ → List Exposed → Bytes
+bytes_from files t complete k es = answer_bytes (flat_map (lines_of_exposed files t complete) (counted_from k es))
 
-pub from-next : (t : Tree) (complete : Bool) (k : ℕ) (e : Exposed) (es : List Exposed)
-    → bytes_from t complete k (e ∷ es) ≡ answer_bytes (lines_of_exposed t complete (k, e)) ++ bytes_from t complete (k + 1) es
-from-next t complete k e es = bytes-both (lines_of_exposed t complete (k, e)) (flat_map (lines_of_exposed t complete) (counted_from (k + 1) es))
+pub from-next : (files : List Bytes) (t : Tree) (complete : Bool) (k : ℕ) (e : Exposed) (es : List Exposed)
+    → bytes_from files t complete k (e ∷ es) ≡ answer_bytes (lines_of_exposed files t complete (k, e)) ++ bytes_from files t complete (k + 1) es
+from-next files t complete k e es = bytes-both (lines_of_exposed files t complete (k, e)) (flat_map (lines_of_exposed files t complete) (counted_from (k + 1) es))
 
 -- the line of a program, and then its other lines
 pub three : (old first second new line : Bytes) (ls ms : List AnswerLine) → first ≡ old ++ line → second ≡ first ++ answer_bytes ls → new ≡ second ++ answer_bytes ms → new ≡ old ++ (line ++ answer_bytes (ls ++ ms))

@@ -6,7 +6,7 @@ use Rattle.std.proofs.lemmas.Grind.{flat_map-append}
 use Rattle.std.proofs.lemmas.List.Elements.{filter-append, filter_agree}
 use Rattle.std.proofs.lemmas.List.Folds.{list_all-append}
 use Rattle.std.proofs.lemmas.Simd.{map-map}
-use Rattle.pv_model.specs.Machine.{elements_with_new_keys, Located, program_key, Numbers, groups, Program, Tree}
+use Rattle.pv_model.specs.Machine.{elements_with_new_keys, Located, program_key, Numbers, groups, Bytes, Program, Tree}
 use Rattle.pv_model.specs.Answers.Observed.{with_equal_key}
 use Rattle.pv_model_questions.specs.declared.finding_kind.FindingKind.{FindingKind}
 use Rattle.pv_model_questions.specs.declared.finding_kind.FindingKind.TheVariants.{Leak, Peer, Edit, Read}
@@ -36,15 +36,15 @@ and-true : (b : Bool) → (b && true) ≡ b
 and-true true = refl
 and-true false = refl
 
-module _ (first : Tree) (named : List ℕ) where
+module _ (files : List Bytes) (first : Tree) (named : List ℕ) where
   -- the record of a program from its processes
   abbrev pub summary : Program → List Located → Exposed
   summary program ls = record {
     program = program;
-    leaks = with_all [] (flat_map (recorded_at first Leak) ls);
-    peers = with_all [] (flat_map (recorded_at first Peer) ls);
-    edits = with_all [] (flat_map (recorded_at first Edit) ls);
-    reads = with_all [] (flat_map (recorded_at first Read) ls);
+    leaks = with_all [] (flat_map (recorded_at files first Leak) ls);
+    peers = with_all [] (flat_map (recorded_at files first Peer) ls);
+    edits = with_all [] (flat_map (recorded_at files first Edit) ls);
+    reads = with_all [] (flat_map (recorded_at files first Read) ls);
     safe = filter (λ f. list_all (is_safe_in f) ls) named;
   }
 
@@ -52,14 +52,14 @@ module _ (first : Tree) (named : List ℕ) where
   summary_of (l, ls) = summary l.process.program ls
 
   recorded-more : (kind : FindingKind) (ls : List Located) (l : Located)
-      → with_all (with_all [] (flat_map (recorded_at first kind) ls)) (recorded_at first kind l) ≡ with_all [] (flat_map (recorded_at first kind) (ls ++ l ∷ []))
+      → with_all (with_all [] (flat_map (recorded_at files first kind) ls)) (recorded_at files first kind l) ≡ with_all [] (flat_map (recorded_at files first kind) (ls ++ l ∷ []))
   recorded-more kind ls l =
-      sym (with-both [] (flat_map (recorded_at first kind) ls) (recorded_at first kind l))
+      sym (with-both [] (flat_map (recorded_at files first kind) ls) (recorded_at files first kind l))
       ∙ ap (with_all [])
-      (sym (flat_map-append (recorded_at first kind) ls (l ∷ [])
-      ∙ ap (λ (ks : List Recorded). flat_map (recorded_at first kind) ls ++ ks) (append-nil (recorded_at first kind l))))
+      (sym (flat_map-append (recorded_at files first kind) ls (l ∷ [])
+      ∙ ap (λ (ks : List Recorded). flat_map (recorded_at files first kind) ls ++ ks) (append-nil (recorded_at files first kind l))))
 
-  summary-more : (program : Program) (ls : List Located) (l : Located) → exposed_more first (summary program ls) l ≡ summary program (ls ++ l ∷ [])
+  summary-more : (program : Program) (ls : List Located) (l : Located) → exposed_more files first (summary program ls) l ≡ summary program (ls ++ l ∷ [])
   summary-more program ls l =
       let safe : filter (λ f. is_safe_in f l) (filter (λ f. list_all (is_safe_in f) ls) named) ≡ filter (λ f. list_all (is_safe_in f) (ls ++ l ∷ [])) named =
       sym (both-filters (λ f. list_all (is_safe_in f) ls) (λ f. is_safe_in f l) named)
@@ -95,15 +95,15 @@ module _ (first : Tree) (named : List ℕ) where
     alike-more : (f : Located) (b : Bool) → alike f l ≡ b → filter (alike f) later ≡ filter (alike f) ls ++ cond b (l ∷ []) []
     alike-more f b is = filter-append (alike f) ls (l ∷ []) ∙ ap (λ c. filter (alike f) ls ++ cond c (l ∷ []) []) is
 
-    moved : (f : Located) → alike f l ≡ true → exposed_more first (record_in ls f) l ≡ record_in later f
+    moved : (f : Located) → alike f l ≡ true → exposed_more files first (record_in ls f) l ≡ record_in later f
     moved f is = summary-more f.process.program (filter (alike f) ls) l ∙ ap (summary f.process.program) (sym (alike-more f true is))
 
     unmoved : (f : Located) → alike f l ≡ false → record_in ls f ≡ record_in later f
     unmoved f is = ap (summary f.process.program) (sym (alike-more f false is ∙ append-nil (filter (alike f) ls)))
 
-    alone : filter (alike l) ls ≡ [] → exposed_more first (exposed_none named l.process.program) l ≡ record_in later l
+    alone : filter (alike l) ls ≡ [] → exposed_more files first (exposed_none named l.process.program) l ≡ record_in later l
     alone none =
-        ap (λ e. exposed_more first e l) (summary-none l.process.program) ∙ summary-more l.process.program [] l
+        ap (λ e. exposed_more files first e l) (summary-none l.process.program) ∙ summary-more l.process.program [] l
         ∙ ap (summary l.process.program) (sym (alike-more l true (bytes_eq-itself (program_key l)) ∙ ap (λ (xs : List Located). xs ++ l ∷ []) none))
 
     others : (k : Numbers) → k ≡ program_key l → (fs : List Located) → keyed program_key k fs ≡ false → map (record_in ls) fs ≡ map (record_in later) fs
@@ -113,7 +113,7 @@ module _ (first : Tree) (named : List ℕ) where
         ap₂ (λ (x : Exposed) (xs : List Exposed). x ∷ xs) (unmoved f (ap (λ j. bytes_eq j (program_key f)) (sym same) ∙ parts.0)) (others k same fs parts.1)
 
     records-in : (fs : List Located) → AreApart program_key fs → (keyed program_key (program_key l) fs ≡ false → filter (alike l) ls ≡ [])
-        → exposed_with first named (map (record_in ls) fs) l ≡ map (record_in later) (unless_known program_key (keyed program_key (program_key l) fs) fs l)
+        → exposed_with files first named (map (record_in ls) fs) l ≡ map (record_in later) (unless_known program_key (keyed program_key (program_key l) fs) fs l)
     records-in [] apart none = ap (λ (e : Exposed). e ∷ []) (alone (none refl))
     records-in (f ∷ fs) apart none = by (alike f l) refl (records-in fs apart.1)
       where
@@ -122,8 +122,8 @@ module _ (first : Tree) (named : List ℕ) where
         onto false = refl
 
         by : (b : Bool) → alike f l ≡ b
-            → ((keyed program_key (program_key l) fs ≡ false → filter (alike l) ls ≡ []) → exposed_with first named (map (record_in ls) fs) l ≡ map (record_in later) (unless_known program_key (keyed program_key (program_key l) fs) fs l))
-            → (if b then exposed_more first (record_in ls f) l ∷ map (record_in ls) fs else record_in ls f ∷ exposed_with first named (map (record_in ls) fs) l)
+            → ((keyed program_key (program_key l) fs ≡ false → filter (alike l) ls ≡ []) → exposed_with files first named (map (record_in ls) fs) l ≡ map (record_in later) (unless_known program_key (keyed program_key (program_key l) fs) fs l))
+            → (if b then exposed_more files first (record_in ls f) l ∷ map (record_in ls) fs else record_in ls f ∷ exposed_with files first named (map (record_in ls) fs) l)
             ≡ map (record_in later) (unless_known program_key (b || keyed program_key (program_key l) fs) (f ∷ fs) l)
         by true is rest =
             ap₂ (λ (x : Exposed) (xs : List Exposed). x ∷ xs) (moved f is) (others (program_key f) (sym (bytes_eq-same (program_key l) (program_key f) is)) fs apart.0)
@@ -132,7 +132,7 @@ module _ (first : Tree) (named : List ℕ) where
             (rest (λ absent. none (ap (λ (b : Bool). b || keyed program_key (program_key l) fs) is ∙ absent)))
             ∙ ap (map (record_in later)) (onto (keyed program_key (program_key l) fs))
 
-    records-more : exposed_with first named (map (record_in ls) (elements_with_new_keys program_key [] ls)) l ≡ map (record_in later) (elements_with_new_keys program_key [] later)
+    records-more : exposed_with files first named (map (record_in ls) (elements_with_new_keys program_key [] ls)) l ≡ map (record_in later) (elements_with_new_keys program_key [] later)
     records-more =
         records-in (elements_with_new_keys program_key [] ls) (firsts-apart program_key ls) (none-alike program_key l ls)
         ∙ ap (map (record_in later)) (sym (firsts-more program_key ls l))
@@ -142,9 +142,9 @@ module _ (first : Tree) (named : List ℕ) where
   records_in ls = map (λ f. summary_of (with_equal_key program_key ls f)) (elements_with_new_keys program_key [] ls)
 
   -- the records of processes in sequence
-  records-from : (ls more : List Located) → exposed_after first named (records_in ls) more ≡ records_in (ls ++ more)
+  records-from : (ls more : List Located) → exposed_after files first named (records_in ls) more ≡ records_in (ls ++ more)
   records-from ls [] = ap records_in (sym (append-nil ls))
-  records-from ls (l ∷ more) = ap (λ (es : List Exposed). exposed_after first named es more) (records-more ls l) ∙ records-from (ls ++ l ∷ []) more ∙ ap records_in (append_assoc ls (l ∷ []) more)
+  records-from ls (l ∷ more) = ap (λ (es : List Exposed). exposed_after files first named es more) (records-more ls l) ∙ records-from (ls ++ l ∷ []) more ∙ ap records_in (append_assoc ls (l ∷ []) more)
 
-  pub records-are : (ls : List Located) → exposed_after first named [] ls ≡ map summary_of (groups program_key ls)
+  pub records-are : (ls : List Located) → exposed_after files first named [] ls ≡ map summary_of (groups program_key ls)
   records-are ls = records-from [] ls ∙ sym (map-map summary_of (with_equal_key program_key ls) (elements_with_new_keys program_key [] ls))

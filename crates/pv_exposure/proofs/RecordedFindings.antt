@@ -13,10 +13,11 @@ use Rattle.pv_model.specs.Machine.{elements_with_new_keys, Located, in_ranges, f
 use Rattle.pv_model.specs.Answers.Exposure.{range_text}
 use Rattle.pv_model.specs.Answers.Observed.{with_equal_key}
 use Rattle.pv_model_questions.specs.declared.finding_kind.FindingKind.{FindingKind}
-use Rattle.pv_model_questions.specs.Exposure.{Finding, greatest_finding_line, last_finding, finding_lines, finding_lines_by, findings_at, finding_line, lines_found, lines_of_findings}
+use Rattle.pv_model_questions.specs.Exposure.{Finding, greatest_finding_line, last_finding, finding_lines, finding_lines_by, finding_line, lines_found, lines_of_findings}
 use Rattle.pv_laws_trees.proofs.DirectoryEntries.{bytes_eq-same, bytes_eq-itself}
 use Rattle.pv_laws_trees.proofs.ListTests.{flat-same}
 use Rattle.pv_reduced.proofs.OfExplore.NumberRanges.{among-most}
+use Rattle.pv_model_questions.specs.ExposureAbout.{findings_about}
 use Rattle.pv_exposure.specs.Collected.{Recorded, all_recorded_lines, greatest, has_key, recorded_at, recorded_finding_lines, recorded_lines_by, recorded_of, key_of_recorded, last_recorded, ranges_recorded, with_all}
 use Rattle.pv_exposure.proofs.FirstKeys.{keyed}
 
@@ -277,15 +278,15 @@ module _ (kind : FindingKind) where
       (elements_with_new_keys finding_file [] xs)
       ∙ sym (flat_map-map (finding_lines kind) (with_equal_key finding_file xs) (elements_with_new_keys finding_file [] xs))
 
-  module _ (first : Tree) where
-    findings-mapped : (ls : List Located) → flat_map (recorded_at first kind) ls ≡ map recorded_of (flat_map (findings_at program_of first kind) ls)
+  module _ (files : List Bytes) (first : Tree) where
+    findings-mapped : (ls : List Located) → flat_map (recorded_at files first kind) ls ≡ map recorded_of (flat_map (findings_about files program_of first kind) ls)
     findings-mapped [] = refl
     findings-mapped (l ∷ ls) =
-        ap (λ (ks : List Recorded). recorded_at first kind l ++ ks) (findings-mapped ls)
-        ∙ sym (map-append recorded_of (findings_at program_of first kind l) (flat_map (findings_at program_of first kind) ls))
+        ap (λ (ks : List Recorded). recorded_at files first kind l ++ ks) (findings-mapped ls)
+        ∙ sym (map-append recorded_of (findings_about files program_of first kind l) (flat_map (findings_about files program_of first kind) ls))
 
     -- the lines of the stored findings are those of all findings
-    pub findings-written : (ls : List Located) → all_recorded_lines kind (with_all [] (flat_map (recorded_at first kind) ls)) ≡ lines_of_findings kind (flat_map (findings_at program_of first kind) ls)
+    pub findings-written : (ls : List Located) → all_recorded_lines kind (with_all [] (flat_map (recorded_at files first kind) ls)) ≡ lines_of_findings kind (flat_map (findings_about files program_of first kind) ls)
     findings-written ls =
-        lines-stored kind [] (flat_map (recorded_at first kind) ls) ∙ ap (all_recorded_lines kind) (findings-mapped ls)
-        ∙ groups-are (flat_map (findings_at program_of first kind) ls)
+        lines-stored kind [] (flat_map (recorded_at files first kind) ls) ∙ ap (all_recorded_lines kind) (findings-mapped ls)
+        ∙ groups-are (flat_map (findings_about files program_of first kind) ls)

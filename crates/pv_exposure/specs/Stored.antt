@@ -4,6 +4,7 @@ use Rattle.pv_model.specs.Machine.{Found, Located, first_of, Bytes, Process, pro
 use Rattle.pv_model_questions.specs.declared.finding_kind.FindingKind.{FindingKind}
 use Rattle.pv_model_questions.specs.declared.finding_kind.FindingKind.TheVariants.{Leak, Peer, Edit, Read}
 use Rattle.pv_model_questions.specs.Exposure.{read_observer, finding_by, reason_by}
+use Rattle.pv_named_files.specs.FirstPaths.{files_given, first_tree}
 use Rattle.pv_reduced.specs.OfSession.Running.{stepped}
 use Rattle.pv_exposure.specs.Collected.{Exposed, Recorded, recorded_of, with_all}
 use Rattle.pv_exposure.specs.StateFiles.{AreFilesOf}
@@ -35,7 +36,7 @@ located_in_visit v p = located_by (record { witness = v.witness.now; state = v.p
 -- a process is live, with the files of its state, and the file that its next step reads
 pub record IsVisit (v : Visit) : Type 0 where
   pub live : IsSome (process_at v.parts.now v.pid)
-  pub files : AreFilesOf v.first.now.tree v.parts.now v.files.now
+  pub files : AreFilesOf (files_given v.paths.now) (first_tree v.paths.now) v.parts.now v.files.now
   pub read : option_to_list v.read ≡ read_observer v.parts.now v.pid (stepped v.parts.now v.pid)
 
 -- the findings of a file text

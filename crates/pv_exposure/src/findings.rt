@@ -6,6 +6,7 @@ ghost use Rattle.pv_exposure.specs.StateFiles.{IsFileOf};
 ghost use Rattle.pv_exposure.specs.Stored.{IsVisit, all_recorded, located_in_visit, recorded_by_file, recorded_in};
 ghost use Rattle.pv_model.specs.Machine.{Process, process_at};
 ghost use Rattle.pv_model_questions.specs.Exposure.{witness_by};
+ghost use Rattle.pv_named_files.specs.FirstPaths.{first_tree};
 
 use crate::files::StateFile;
 use crate::reasons::{Visit, reason_of};
@@ -121,9 +122,9 @@ impl FindingList {
         key: &[u8],
     ) -> Result<(), AllocError>
         requires visit { IsVisit visit.now }
-        requires file { IsFileOf visit.now.first.now.tree visit.now.parts.now file.now }
+        requires file { IsFileOf (first_tree visit.now.paths.now) visit.now.parts.now file.now }
         requires key { (p : Process) → process_at visit.now.parts.now visit.now.pid ≡ Some p → key.now ≡ record_key p.line file.now.text.items }
-        ensures { OnOk result ((p : Process) → process_at visit.now.parts.now visit.now.pid ≡ Some p → self.new ≡ with_all self.old (recorded_by_file visit.now.first.now.tree kind (located_in_visit visit.now p) file.now.node)) }
+        ensures { OnOk result ((p : Process) → process_at visit.now.parts.now visit.now.pid ≡ Some p → self.new ≡ with_all self.old (recorded_by_file (first_tree visit.now.paths.now) kind (located_in_visit visit.now p) file.now.node)) }
     {
         if self.keys.contains(key) {
             return Ok(());

@@ -9,17 +9,17 @@ use crate::files::StateFiles;
 use pv_audit::leak;
 use pv_model::Why;
 use pv_model_questions::{EditReason, FindingKind};
+use pv_named_files::FirstPaths;
 use pv_programs::answers::{Decimal, Fragment, Plain, text_of};
 use pv_programs::calls_state::Parts;
 use pv_streams::{Failed, Sink};
-use pv_tree::Tree;
 use std::alloc::{AllocError, Global};
 
 /// A live process of a visited state.
 #[derive(Clone, Copy)]
 pub(crate) struct Visit<'a> {
-    /// The first tree.
-    pub(crate) first: &'a Tree,
+    /// The first tree, and the files that findings are about.
+    pub(crate) paths: &'a FirstPaths<'a>,
     /// The state.
     pub(crate) parts: &'a Parts,
     /// The files of the state.

@@ -2,8 +2,9 @@
 use Rattle.std.proofs.Common.{◌≡◌, ◌≢◌, ◌∙◌, sym, ap, subst, ℕ, ◌≤◌, Bool, true, not, ◌&&◌, ◌==◌, bytes_eq, List, [], ◌∷◌, ◌++◌, length, length-append, filter, codes, Option, refl, arith}
 use Rattle.std.specs.List.{AllByRecursion, list_any, list_all}
 use Rattle.std.specs.Cmp.{both_ways}
-use Rattle.pv_model.specs.Machine.{Access, accesses, lines_of_accesses, Found, Move, states_found, is_complete, named_files, AnswerLine, answer_line_bytes, Observer, Observation, observations, first_observations, of_calls, Bytes, same_node, Program, State, step, run, root, find_entry}
-use Rattle.pv_model.specs.Answers.Access.{file_read, reported_accesses, files_read, unread_files}
+use Rattle.pv_model.specs.Machine.{Access, accesses, Found, Move, states_found, is_complete, named_files, AnswerLine, answer_line_bytes, Observer, Observation, observations, first_observations, of_calls, Bytes, same_node, Program, State, step, run, Tree, root, find_entry}
+use Rattle.pv_model.specs.Answers.Access.{file_read, files_read, unread_files}
+use Rattle.pv_model_questions.specs.Accesses.{lines_of_accesses, reported_accesses}
 use Rattle.pv_laws_trees.proofs.DirectoryEntries.{bytes_eq-itself}
 use Rattle.pv_laws_answers.specs.Accesses.{is_access_listed}
 use Rattle.pv_laws_answers.specs.Search.{IsSearchable}
@@ -58,22 +59,22 @@ module _ {X : Type 0} (observe : Observer X) (program_of : Bytes → Option Prog
         record { from = from; reached = steps-reached program_of s pids parts.0; within = own-move program_of from pid parts.1; items = refl; no_longer = omega arith };
   }
 
-abbrev lines_observer : Observer AnswerLine
-lines_observer = of_calls lines_of_accesses
+abbrev lines_observer : List Bytes → Tree → Observer AnswerLine
+lines_observer files first = of_calls (lines_of_accesses files first)
 
 -- ---- the accesses of a search
 
-module _ (program_of : Bytes → Option Program) (s : State) where
+module _ (program_of : Bytes → Option Program) (s : State) (files : List Bytes) where
   -- each access in a list is a shortest one with its line, and no two have the same line
   record AreShortest (os : List (Observation AnswerLine)) : Type 0 where
-    happen : (o : Observation AnswerLine) → Among o os → IsShortestAccess program_of s o
+    happen : (o : Observation AnswerLine) → Among o os → IsShortestAccess program_of s files o
     once : EachToLater (λ o q. answer_line_bytes o.item ≢ answer_line_bytes q.item) os
 
   -- the line of each access of each schedule is in the list
   abbrev AreAll : List (Observation AnswerLine) → Type 0
   AreAll os =
       (pids : List ℕ) (pid : ℕ) (l : AnswerLine) → AreSteps program_of (pids ++ pid ∷ []) s
-      → Among l (access_lines_of program_of (run program_of pids s).final pid)
+      → Among l (access_lines_of program_of files s.tree (run program_of pids s).final pid)
       → (o : Observation AnswerLine) × Among o os × (answer_line_bytes o.item ≡ answer_line_bytes l)
 
   -- two such lists have accesses with the same lines and witnesses of the same lengths
@@ -82,7 +83,7 @@ module _ (program_of : Bytes → Option Program) (s : State) where
     equal-in o h =
         let is = one.happen o h in
         let q = all is.before o.move.pid o.item (subst (λ (w : List ℕ). AreSteps program_of w s) is.witness is.steps)
-        (themselves (access_lines_of program_of (run program_of is.before s).final o.move.pid) o.item is.item) in
+        (themselves (access_lines_of program_of files s.tree (run program_of is.before s).final o.move.pid) o.item is.item) in
         (q.0, q.1, sym q.2)
 
     has-equal : (o : Observation AnswerLine) → Among o os → HasEqualAccess qs o
@@ -120,9 +121,9 @@ module _ (program_of : Bytes → Option Program) (s : State) where
   -- the first accesses of a search are such lists
   module _
       {C : Type 0} {class_of : Found → C} {same : Found → Found → Bool} {moves : Found → List Move} (search : IsSearch program_of s class_of same moves)
-      (limit : ℕ) (room : 1 ≤ limit) (of_class : IsOfClass lines_observer search limit room) where
+      (limit : ℕ) (room : 1 ≤ limit) (of_class : IsOfClass (lines_observer files s.tree) search limit room) where
     abbrev all : List (Observation AnswerLine)
-    all = all_observations lines_observer search limit room
+    all = all_observations (lines_observer files s.tree) search limit room
 
     abbrev listed : List (Observation AnswerLine)
     listed = first_observations answer_line_bytes all
@@ -130,44 +131,44 @@ module _ (program_of : Bytes → Option Program) (s : State) where
     are-shortest : AreShortest listed
     are-shortest = record {
       happen = λ o h.
-          let last = of-last lines_observer search limit room o (new-came (λ (q : Observation AnswerLine). answer_line_bytes q.item) [] all o h) in
+          let last = of-last (lines_observer files s.tree) search limit room o (new-came (λ (q : Observation AnswerLine). answer_line_bytes q.item) [] all o h) in
           record {
             before = last.from.witness;
             witness = last.witness;
             steps = last.steps;
-            item = among-contains o.item (access_lines_of program_of (run program_of last.from.witness s).final o.move.pid) last.item;
+            item = among-contains o.item (access_lines_of program_of files s.tree (run program_of last.from.witness s).final o.move.pid) last.item;
             shortest = λ pids pid l steps has alike.
-                first-shortest lines_observer search limit room of_class answer_line_bytes o h last pids pid l steps
-                (themselves (access_lines_of program_of (run program_of pids s).final pid) l has) alike;
+                first-shortest (lines_observer files s.tree) search limit room of_class answer_line_bytes o h last pids pid l steps
+                (themselves (access_lines_of program_of files s.tree (run program_of pids s).final pid) l has) alike;
           };
       once = new-differ (λ (o : Observation AnswerLine). answer_line_bytes o.item) [] all;
     }
 
     are-all : list_all (λ m. is_known same m (found search limit room)) (made_moves search limit room) ≡ true → AreAll listed
-    are-all complete = first-observed lines_observer search limit room of_class complete answer_line_bytes
+    are-all complete = first-observed (lines_observer files s.tree) search limit room of_class complete answer_line_bytes
 
 -- ---- the accesses of the reduced search, and of the full search
 
-module _ (program_of : Bytes → Option Program) (limit : ℕ) (s : State) (it : IsSearchable program_of limit s) where
+module _ (program_of : Bytes → Option Program) (limit : ℕ) (s : State) (files : List Bytes) (it : IsSearchable program_of limit s) where
   module _ (invariant : IsInvariant program_of) where
-    lines-of_class : IsOfClass lines_observer (reduced-search program_of s it.encodes it.whole) limit it.room
-    lines-of_class = reduced-of_class lines_observer program_of limit s it (λ x. x.access_lines) (λ t pid. refl) invariant
+    lines-of_class : IsOfClass (lines_observer files s.tree) (reduced-search program_of s it.encodes it.whole) limit it.room
+    lines-of_class = reduced-of_class (lines_observer files s.tree) program_of limit s it (λ x. x.access_lines files s.tree) (λ t pid. refl) invariant
 
-    reduced-shortest : AreShortest program_of s (reduced_accesses program_of limit s)
+    reduced-shortest : AreShortest program_of s files (reduced_accesses program_of limit s files)
     unfolding reduced_found visited
-    reduced-shortest = are-shortest program_of s (reduced-search program_of s it.encodes it.whole) limit it.room lines-of_class
+    reduced-shortest = are-shortest program_of s files (reduced-search program_of s it.encodes it.whole) limit it.room lines-of_class
 
-    reduced-all : is_reduced_complete program_of s limit ≡ true → AreAll program_of s (reduced_accesses program_of limit s)
+    reduced-all : is_reduced_complete program_of s limit ≡ true → AreAll program_of s files (reduced_accesses program_of limit s files)
     unfolding reduced_found visited
-    reduced-all = are-all program_of s (reduced-search program_of s it.encodes it.whole) limit it.room lines-of_class
+    reduced-all = are-all program_of s files (reduced-search program_of s it.encodes it.whole) limit it.room lines-of_class
 
-  full-shortest : AreShortest program_of s (reported_accesses program_of limit s)
+  full-shortest : AreShortest program_of s files (reported_accesses program_of limit s files)
   unfolding states_found visited
-  full-shortest = are-shortest program_of s (full-search program_of limit s it) limit it.room (full-of_class lines_observer program_of limit s it)
+  full-shortest = are-shortest program_of s files (full-search program_of limit s it) limit it.room (full-of_class (lines_observer files s.tree) program_of limit s it)
 
-  full-all : is_complete program_of limit s ≡ true → AreAll program_of s (reported_accesses program_of limit s)
+  full-all : is_complete program_of limit s ≡ true → AreAll program_of s files (reported_accesses program_of limit s files)
   unfolding states_found visited
-  full-all = are-all program_of s (full-search program_of limit s it) limit it.room (full-of_class lines_observer program_of limit s it)
+  full-all = are-all program_of s files (full-search program_of limit s it) limit it.room (full-of_class (lines_observer files s.tree) program_of limit s it)
 
 -- ---- unread files
 
@@ -221,30 +222,30 @@ module _
 -- ---- the laws
 
 pub access-listed : (program_of : Bytes → Option Program) → IsInvariant program_of
-    → (limit : ℕ) (s : State) (pids : List ℕ) (pid : ℕ) → IsSearchable program_of limit s → is_reduced_complete program_of s limit ≡ true
+    → (limit : ℕ) (s : State) (files : List Bytes) (pids : List ℕ) (pid : ℕ) → IsSearchable program_of limit s → is_reduced_complete program_of s limit ≡ true
     → AreSteps program_of (pids ++ pid ∷ []) s
-    → AllByRecursion (λ access. is_access_listed access (reduced_accesses program_of limit s) ≡ true) (access_lines_of program_of (run program_of pids s).final pid)
-access-listed program_of invariant limit s pids pid it complete steps =
-    each-from_among (λ access. is_access_listed access (reduced_accesses program_of limit s) ≡ true) (access_lines_of program_of (run program_of pids s).final pid)
+    → AllByRecursion (λ access. is_access_listed access (reduced_accesses program_of limit s files) ≡ true) (access_lines_of program_of files s.tree (run program_of pids s).final pid)
+access-listed program_of invariant limit s files pids pid it complete steps =
+    each-from_among (λ access. is_access_listed access (reduced_accesses program_of limit s files) ≡ true) (access_lines_of program_of files s.tree (run program_of pids s).final pid)
     (λ l h.
-    let o = reduced-all program_of limit s it invariant complete pids pid l steps h in
-    any-among (λ (q : Observation AnswerLine). bytes_eq (answer_line_bytes q.item) (answer_line_bytes l)) o.0 (reduced_accesses program_of limit s) o.1
+    let o = reduced-all program_of limit s files it invariant complete pids pid l steps h in
+    any-among (λ (q : Observation AnswerLine). bytes_eq (answer_line_bytes q.item) (answer_line_bytes l)) o.0 (reduced_accesses program_of limit s files) o.1
     (ap (λ k. bytes_eq k (answer_line_bytes l)) o.2 ∙ bytes_eq-itself (answer_line_bytes l)))
 
 pub accesses-reduced : (program_of : Bytes → Option Program) → IsInvariant program_of
-    → (limit : ℕ) (s : State) → IsSearchable program_of limit s → ListedAccessesReduced program_of limit s
-accesses-reduced program_of invariant limit s it =
-    let are = reduced-shortest program_of limit s it invariant in
-    record { happen = each-from_among (IsShortestAccess program_of s) (reduced_accesses program_of limit s) are.happen; once = are.once }
+    → (limit : ℕ) (s : State) (files : List Bytes) → IsSearchable program_of limit s → ListedAccessesReduced program_of limit s files
+accesses-reduced program_of invariant limit s files it =
+    let are = reduced-shortest program_of limit s files it invariant in
+    record { happen = each-from_among (IsShortestAccess program_of s files) (reduced_accesses program_of limit s files) are.happen; once = are.once }
 
 pub same-accesses_reduced : (program_of : Bytes → Option Program) → IsInvariant program_of
-    → (limit other : ℕ) (s : State) → IsSearchable program_of limit s → IsSearchable program_of other s
+    → (limit other : ℕ) (s : State) (files : List Bytes) → IsSearchable program_of limit s → IsSearchable program_of other s
     → is_complete program_of limit s ≡ true → is_reduced_complete program_of s other ≡ true
-    → HaveSameAccesses (reduced_accesses program_of other s) (reported_accesses program_of limit s)
+    → HaveSameAccesses (reduced_accesses program_of other s files) (reported_accesses program_of limit s files)
     × (reduced_unread_files program_of other s ≡ unread_files program_of limit s)
-same-accesses_reduced program_of invariant limit other s it it' complete complete' = (
-  same-lists program_of s (reduced_accesses program_of other s) (reported_accesses program_of limit s)
-      (reduced-shortest program_of other s it' invariant) (full-shortest program_of limit s it)
-      (reduced-all program_of other s it' invariant complete') (full-all program_of limit s it complete),
+same-accesses_reduced program_of invariant limit other s files it it' complete complete' = (
+  same-lists program_of s files (reduced_accesses program_of other s files) (reported_accesses program_of limit s files)
+      (reduced-shortest program_of other s files it' invariant) (full-shortest program_of limit s files it)
+      (reduced-all program_of other s files it' invariant complete') (full-all program_of limit s files it complete),
   unread-same program_of invariant limit other s it it' complete complete',
 )

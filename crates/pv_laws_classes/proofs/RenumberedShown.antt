@@ -5,19 +5,20 @@ use Rattle.pv_model.specs.declared.call.Call.TheVariants.{Unveil}
 use Rattle.pv_model.specs.declared.promise.Promise.TheVariants.{Rpath, Cpath, Exec}
 use Rattle.pv_model.specs.declared.verdict.Why.{Why}
 use Rattle.pv_model.specs.declared.verdict.Why.TheVariants.{Reads}
-use Rattle.pv_model.specs.Machine.{Answered, answer, answer_of, accesses, lines_of_accesses, judged_walks, promises_needed, asked_by, of_next, of_process, of_calls, Bytes, Numbered, at_number, numbered_from, Next, inside, calls_for, next, leaks, OpenFile, Descriptor, Program, Process, State, reads, process_at, Stepped, step, place_found, Table, resolve, Walk, walks_of}
+use Rattle.pv_model.specs.Machine.{Answered, answer, answer_of, accesses, judged_walks, promises_needed, asked_by, of_next, of_process, of_calls, Bytes, Numbered, at_number, numbered_from, Next, inside, calls_for, next, leaks, OpenFile, Descriptor, Program, Process, State, reads, process_at, Stepped, step, place_found, Table, resolve, Walk, walks_of}
 use Rattle.pv_model.specs.Answers.Needs.{judged_at, begins_program}
 use Rattle.pv_model.specs.Answers.Observed.{CallObserver}
 use Rattle.pv_model.specs.Answers.Policy.{request}
 use Rattle.pv_model.specs.Sealed
 use Rattle.pv_model.specs.Sealed.{is_pledged_without, least_first}
+use Rattle.pv_model_questions.specs.Accesses.{lines_of_accesses}
 use Rattle.pv_laws_states.specs.States.{EncodesPrograms, IsValid}
 use Rattle.pv_laws_classes.specs.Canonical.{AreEqualRenumbered}
 use Rattle.pv_laws_classes.specs.Liveness.{is_live_below, cleared}
 use Rattle.pv_laws_classes.specs.Reduced.{representative}
 use Rattle.pv_laws_classes.specs.Renumbering.{renumbered_descriptor, renumbered_descriptors, renumbered_process}
 use Rattle.pv_laws_classes.specs.Shown.{ShownCall, shown_call, shown_process, shown_in}
-use Rattle.pv_laws_classes.proofs.RenumberedAccesses.{start-same, accesses-same, access-lines-same, IsSame, of-classes}
+use Rattle.pv_laws_classes.proofs.RenumberedAccesses.{start-same, accesses-same, lines-same, IsSame, of-classes}
 use Rattle.pv_laws_classes.proofs.RenumberedAttempts.{AreAnswered}
 use Rattle.pv_laws_classes.proofs.RenumberedFiles.{some-value}
 use Rattle.pv_laws_classes.proofs.CanonicalForms.{unique}
@@ -171,7 +172,7 @@ pub renumbered-shown : (program_of : Bytes → Option Program) → EncodesProgra
 renumbered-shown program_of encodes s t pid whole_s whole_t alike = λ i. record {
   outcome = (renumbered-steps program_of alike.0 s t pid whole_s whole_t alike.1).outcome i;
   accesses = of-classes accesses accesses-same program_of encodes s t pid whole_s whole_t alike i;
-  access_lines = of-classes lines_of_accesses access-lines-same program_of encodes s t pid whole_s whole_t alike i;
+  access_lines = λ files first. of-classes (lines_of_accesses files first) (lines-same files first) program_of encodes s t pid whole_s whole_t alike i;
   calls = calls-are i;
   process = processes-shown s t pid (related-of alike.0 s t whole_s whole_t alike.1) i;
 }

@@ -22,10 +22,10 @@ pub both-same : BothSearchesSeeTheSame
 both-same program_of limit other s it = both-see program_of (invariant program_of it.encodes) limit other s it
 
 pub each-access : EachAccessIsListedReduced
-each-access program_of limit s pids pid it = access-listed program_of (invariant program_of it.encodes) limit s pids pid it
+each-access program_of limit s files pids pid it = access-listed program_of (invariant program_of it.encodes) limit s files pids pid it
 
 pub listed-accesses : ListedAccessesHappenReduced
-listed-accesses program_of limit s it = accesses-reduced program_of (invariant program_of it.encodes) limit s it
+listed-accesses program_of limit s files it = accesses-reduced program_of (invariant program_of it.encodes) limit s files it
 
 pub same-accesses : ReducedAccessesAreSame
-same-accesses program_of limit other s it = same-accesses_reduced program_of (invariant program_of it.encodes) limit other s it
+same-accesses program_of limit other s files it = same-accesses_reduced program_of (invariant program_of it.encodes) limit other s files it

@@ -6,6 +6,7 @@ use Rattle.pv_model.specs.Answers.Access
 use Rattle.pv_model.specs.Answers.Needs.{begins_program}
 use Rattle.pv_model.specs.Answers.Policy.{request}
 use Rattle.pv_model.specs.Step.{step_by_call}
+use Rattle.pv_model_questions.specs.Accesses.{lines_of_accesses}
 use Rattle.pv_laws_states.specs.States.{EncodesPrograms, IsValid}
 use Rattle.pv_laws_states.proofs.Processes.{process_at-other}
 use Rattle.pv_laws_answers.proofs.OfLawsAccess.ProcessesAfterEnds.{step-is}
@@ -28,7 +29,7 @@ module _ (program_of : Bytes → Option Program) where
   shown_next s pid now p n = record {
     outcome = now.outcome;
     accesses = of_next Access.accesses s pid now p n;
-    access_lines = of_next Access.lines_of_accesses s pid now p n;
+    access_lines = λ files first. of_next (lines_of_accesses files first) s pid now p n;
     calls = map shown_call (of_next (request program_of) s pid now p n);
     process = Some (shown_process s p);
   }
@@ -37,7 +38,7 @@ module _ (program_of : Bytes → Option Program) where
   shown_at s pid now o = record {
     outcome = now.outcome;
     accesses = of_process Access.accesses s pid now o;
-    access_lines = of_process Access.lines_of_accesses s pid now o;
+    access_lines = λ files first. of_process (lines_of_accesses files first) s pid now o;
     calls = map shown_call (of_process (request program_of) s pid now o);
     process = option_map (shown_process s) o;
   }
@@ -73,7 +74,7 @@ module _ (program_of : Bytes → Option Program) where
             λ i. record {
               outcome = outcome i;
               accesses = accesses-same s ps last pid p rs bs one two outcome after call i;
-              access_lines = access-lines-same s ps last pid p rs bs one two outcome after call i;
+              access_lines = λ files first. access-lines-same s ps last pid p rs bs one two outcome after call files first i;
               calls = record {
                 tree = s.tree;
                 program = p.program;
@@ -92,7 +93,7 @@ module _ (program_of : Bytes → Option Program) where
 
         next-same : (n m : Next) → next p ≡ n → next q ≡ m → call_in m ≡ call_in n → shown_next u pid two q m ≡ shown_next s pid one p n
         next-same (inside r) (inside v) comes goes same =
-            λ i. record { outcome = outcome i; accesses = []; access_lines = []; calls = []; process = Some (process-same s ps last p rs bs i) }
+            λ i. record { outcome = outcome i; accesses = []; access_lines = λ files first. []; calls = []; process = Some (process-same s ps last p rs bs i) }
         next-same (inside r) (calls_for call) comes goes same = cc same
         next-same (calls_for call) (inside v) comes goes same = cc same
         next-same (calls_for call) (calls_for more) comes goes same =
@@ -102,7 +103,7 @@ module _ (program_of : Bytes → Option Program) where
       shown-at : (a b : Option Process) → process_at s pid ≡ a → process_at u pid ≡ b → AreAlike a b → call_next b ≡ call_next a
           → shown_at u pid two b ≡ shown_at s pid one a
       shown-at None b at away is same =
-          ap (shown_at u pid two) is ∙ (λ i. record { outcome = outcome i; accesses = []; access_lines = []; calls = []; process = None })
+          ap (shown_at u pid two) is ∙ (λ i. record { outcome = outcome i; accesses = []; access_lines = λ files first. []; calls = []; process = None })
       shown-at (Some p) b at away is same =
           ap (shown_at u pid two) is.2
           ∙ next-same p at is.0 is.1 (away ∙ is.2) (next p) (next (with_values is.0 is.1 p)) refl refl (sym (ap call_next is.2) ∙ same)

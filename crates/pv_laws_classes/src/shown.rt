@@ -14,7 +14,8 @@ pub fn both_see_the_same()
     ensures { BothSearchesSeeTheSame }
 {}
 
-/// If the reduced search is complete, each access of each step of a live process in each schedule is listed.
+/// If the reduced search is complete, each access of each step of a live process in each schedule is listed. With given
+/// files, so is each that is about one of them.
 pub fn each_access_is_listed_reduced()
     ensures { EachAccessIsListedReduced }
 {}
@@ -26,7 +27,7 @@ pub fn listed_accesses_happen_reduced()
 {}
 
 /// If the reduced and the full search are complete, both list the same accesses, with witnesses of the same lengths,
-/// and the same files as unread.
+/// and the same files as unread; so they do about given files.
 pub fn reduced_accesses_are_same()
     ensures { ReducedAccessesAreSame }
 {}

@@ -7,7 +7,7 @@
 --   JustifiedAccesses, ReducedAccesses (the reduced search).
 -- - `exposure`: KeyGroups (elements with equal keys), FixedProcesses (reasons of EDIT), FindingReasons, ExposureLines,
 --   AllFiles, ReducedExposureLines (the reduced search), UnlistedRuns (runs from lines that are not listed),
---   LeastReasons (the reasons of an audit).
+--   LeastReasons (the reasons of an audit), AboutFiles (given files).
 -- - `policy`: VisitedCalls (the calls of visited states), NeededPromises (promises), NeededPermissions (permissions),
 --   TargetLines (their lines), GrantedNeeds (granted calls), FewerPromises (a step with other promises), IdlePromises,
 --   PermissionSets, OtherTables (a step with another table), IdlePermissions.
@@ -37,6 +37,7 @@ pub mod FixedProcesses
 pub mod FindingReasons
 pub mod ExposureLines
 pub mod AllFiles
+pub mod AboutFiles
 pub mod ReducedExposureLines
 pub mod ShortestWitnesses
 pub mod UnlistedRuns

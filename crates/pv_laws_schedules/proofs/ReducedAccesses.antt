@@ -2,8 +2,9 @@
 use Rattle.std.proofs.Common.{◌≡◌, ◌∙◌, sym, ap, ap₂, subst, ℕ, true, false, not, ◌==◌, eq-eqb, List, [], ◌∷◌, ◌++◌, map, length, codes, Contains, Option, None, Some, is_some, ⊎_elim, refl}
 use Rattle.std.specs.List.{list_any}
 use Rattle.std.proofs.lemmas.Bool.{and_parts, not-true}
-use Rattle.pv_model.specs.Machine.{Access, executes, accesses, lines_of_accesses, Move, move, moves_of, AnswerLine, named_files, Observation, observed, of_next, of_process, of_calls, Bytes, same_node, Next, Program, Process, State, process_at, step, run, read_file, file_bytes, with_bytes, Touches, trace_bytes, root, find_entry}
+use Rattle.pv_model.specs.Machine.{Access, executes, accesses, Move, move, moves_of, AnswerLine, named_files, Observation, observed, of_next, of_process, of_calls, Bytes, same_node, Next, Program, Process, State, process_at, step, run, read_file, file_bytes, with_bytes, Touches, trace_bytes, root, find_entry}
 use Rattle.pv_model.specs.Answers.Access.{reads, file_read, is_unread}
+use Rattle.pv_model_questions.specs.Accesses.{lines_of_accesses}
 use Rattle.pv_laws_states.specs.States.{EncodesPrograms, IsValid}
 use Rattle.pv_laws_states.proofs.ValidBySteps.{run-keeps_valid, step-keeps_valid}
 use Rattle.pv_laws_access.specs.Sealing.{RunsDifferInFile}
@@ -26,11 +27,12 @@ use Rattle.pv_laws_schedules.proofs.ReachedStates.{own-move}
 use Rattle.pv_laws_schedules.proofs.ReadAccess.{IsReadAccess, reads-accessed}
 
 pub touches-listed_reduced : TouchesAreListedReduced
-touches-listed_reduced program_of limit s pids pid touch it complete steps touches =
-    let own = touch-accessed program_of (run program_of pids s).final pid it.encodes (run-keeps_valid program_of it.encodes pids s it.whole) touch touches in
-    any-among (λ line. is_access_listed line (reduced_accesses program_of limit s)) own.line (lines_of_touch (run program_of pids s).final (step program_of (run program_of pids s).final pid).after pid touch) own.of_touch
-    (each-among (λ (access : AnswerLine). is_access_listed access (reduced_accesses program_of limit s) ≡ true)
-    (of_calls lines_of_accesses (run program_of pids s).final pid (step program_of (run program_of pids s).final pid)) (each-access program_of limit s pids pid it complete steps) own.line own.of_step)
+touches-listed_reduced program_of limit s files pids pid touch it complete steps touches kept =
+    let u = (run program_of pids s).final in
+    let own = touch-accessed program_of files s.tree u pid it.encodes (run-keeps_valid program_of it.encodes pids s it.whole) touch touches kept in
+    any-among (λ line. is_access_listed line (reduced_accesses program_of limit s files)) own.line (lines_of_touch s.tree u.tree (step program_of u pid).after.tree pid touch) own.of_touch
+    (each-among (λ (access : AnswerLine). is_access_listed access (reduced_accesses program_of limit s files) ≡ true)
+    (of_calls (lines_of_accesses files s.tree) u pid (step program_of u pid)) (each-access program_of limit s files pids pid it complete steps) own.line own.of_step)
 
 -- ---- unread files
 

@@ -1,7 +1,7 @@
 -- The common names of the machine: each is defined in the module that its line names.
 pub use Rattle.pv_model.specs.Answer.{Answered, answer_by_attempt, answer_of, answer_where, at_next_line, update, update_live, with_front}
 unfoldable pub use Rattle.pv_model.specs.Answer.{answer, effect}
-pub use Rattle.pv_model.specs.Answers.Access.{Access, changes_name, executes, lines_of_accesses, node_of_descriptor}
+pub use Rattle.pv_model.specs.Answers.Access.{Access, changes_name, executes, node_of_descriptor}
 unfoldable pub use Rattle.pv_model.specs.Answers.Access.{accesses}
 pub use Rattle.pv_model.specs.Answers.Compare.{Comparison, FoundPair, PairMove, alike, different, differs, pair_moves}
 unfoldable pub use Rattle.pv_model.specs.Answers.Compare.{comparison}

@@ -13,7 +13,7 @@ use Rattle.pv_model.specs.Answers.ProgramNames.{program_line}
 use Rattle.pv_model.specs.Bytes.{Bytes, is_empty}
 use Rattle.pv_model.specs.Held.{among, live_processes}
 use Rattle.pv_model.specs.Sealed.{first_leak, leaks, why_text}
-use Rattle.pv_model.specs.State.{Program, Process, State}
+use Rattle.pv_model.specs.State.{Program, State}
 use Rattle.pv_model.specs.Step.{step}
 use Rattle.pv_model.specs.Tree.{Tree}
 use Rattle.pv_model_questions.specs.declared.finding_kind.FindingKind.{FindingKind}

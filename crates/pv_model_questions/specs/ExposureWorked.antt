@@ -1,14 +1,15 @@
 -- The text of `exposure` for small bundles, as a second implementation answers.
-use Rattle.std.specs.Prelude.{⊤, ◌≡◌, ℕ, List, [], ◌∷◌, length, codes, Option, Some, option_map, refl}
+use Rattle.std.specs.Prelude.{⊤, ◌≡◌, ℕ, List, [], ◌∷◌, codes, Option, Some, option_map, refl}
 use Rattle.std.specs.Result.{result_ok}
 use Rattle.pv_model.specs.Answers.OnLiterals.{answers_on_literals}
 use Rattle.pv_model.specs.Answers.Explore.{done_line}
-use Rattle.pv_model.specs.Machine.{answer_bytes, Bytes, program_of, booted, bundle_started, started_on, Started, states_found, is_complete, State, machine_on_literals, text_at, add_entry, read_bundle, read_manifest, read_program}
+use Rattle.pv_model.specs.Machine.{answer_bytes, Bytes, program_of, booted, bundle_started, started_on, states_found, is_complete, State, text_at, add_entry, read_bundle, read_manifest, read_program}
 use Rattle.pv_model.specs.Grammar.Arguments.{parsed_flags}
 use Rattle.pv_model.specs.Grammar.Instructions.{instruction_by}
 use Rattle.pv_model.specs.Grammar.Manifests.{entry_by}
 use Rattle.pv_model.specs.Sealed.{leaks}
 use Rattle.pv_model_questions.specs.Exposure.{exposed_lines}
+use Rattle.pv_model_questions.specs.ExposureAbout.{exposed_lines_about}
 use Rattle.pv_model_questions.specs.Fixed.{edits}
 use Rattle.pv_model_questions.specs.ExplainMoreWorked.{lines_text}
 
@@ -310,3 +311,50 @@ pub written_through_a_descriptor : exposed_text 1000 (
     codes "    0 DONE  9 states, complete" ∷ []))
 unfolding exposure_on_literals
 written_through_a_descriptor = refl
+
+-- the text of `exposure` about files for a bundle, with a limit on the number of states
+abbrev pub exposed_about_from : List Bytes → ℕ → State → Bytes
+exposed_about_from files limit s =
+    answer_bytes (exposed_lines_about files program_of s.tree (is_complete program_of limit s) (states_found program_of limit s) (done_line program_of limit s))
+
+abbrev pub exposure_text_about : List Bytes → ℕ → List Bytes → Option Bytes
+exposure_text_about files limit lines = option_map (λ s. exposed_about_from files limit s.state) (result_ok (bundle_started (lines_text lines)))
+
+-- about one file: the findings of its node under each path, and no SAFE line of another file
+pub exposure_about_a_renamed_file : exposure_text_about (codes "\"/d/key\"" ∷ []) 1000 (
+    codes "image 24 16" ∷
+    codes "dir \"/d\"" ∷
+    codes "bytes \"/d/key\" \"k1\"" ∷
+    codes "bytes \"/d/list\" \"l2\"" ∷
+    codes "exec \"/init\" 10" ∷
+    codes "rename \"/d/key\" \"/d/other\"" ∷
+    codes "open \"/d/other\" r" ∷
+    codes "read 0 1" ∷
+    codes "link \"/d/list\" \"/list\"" ∷
+    codes "open \"/list\" r" ∷
+    codes "read 1 1" ∷
+    codes "unlink \"/d/other\"" ∷
+    codes "read 0 1" ∷
+    codes "rename \"/d\" \"/e\"" ∷
+    codes "stat \"/e\"" ∷
+    codes "schedule" ∷ []) ≡ Some (lines_text (
+    codes "    0 PROG  1, \"/init\"" ∷
+    codes "    1 BY    " ∷
+    codes "    1 LEAK  \"/d/key\", lines 1, no table" ∷
+    codes "    1 BY    1 6" ∷
+    codes "    1 LEAK  \"/d/other\", first \"/d/key\", lines 2-7, reads descriptor 0" ∷
+    codes "    1 BY    1 10" ∷
+    codes "    1 LEAK  node 3, first \"/d/key\", lines 8-11, reads descriptor 0" ∷
+    codes "    1 BY    " ∷
+    codes "    1 EDIT  \"/d/key\", lines 1, no table" ∷
+    codes "    1 BY    1 6" ∷
+    codes "    1 EDIT  \"/d/other\", first \"/d/key\", lines 2-7, no table" ∷
+    codes "    1 BY    1 10" ∷
+    codes "    1 EDIT  node 3, first \"/d/key\", lines 8-11, no table" ∷
+    codes "    1 BY    1 3" ∷
+    codes "    1 READ  \"/d/other\", first \"/d/key\", lines 3" ∷
+    codes "    1 BY    1 8" ∷
+    codes "    1 READ  node 3, first \"/d/key\", lines 8" ∷
+    codes "    0 DONE  12 states, complete" ∷ []))
+unfolding exposure_on_literals exposed_lines_about
+exposure_about_a_renamed_file = refl

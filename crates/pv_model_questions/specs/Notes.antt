@@ -3,7 +3,7 @@ use Rattle.std.specs.Prelude.{ℕ, zero, suc, ◌+◌, Bool, true, false, not, �
 use Rattle.pv_model.specs.declared.promise.Promise.TheVariants.{Rpath, Cpath, Exec, Unveil}
 use Rattle.pv_model.specs.declared.verdict.AuditFault.{AuditFault}
 use Rattle.pv_model.specs.declared.verdict.Verdict.{Verdict}
-use Rattle.pv_model.specs.declared.verdict.Verdict.TheVariants.{Sealed, Frozen, Exposed}
+use Rattle.pv_model.specs.declared.verdict.Verdict.TheVariants.{Exposed}
 use Rattle.pv_model.specs.declared.verdict.Why.{Why}
 use Rattle.pv_model.specs.declared.verdict.Why.TheVariants.{NotLocked}
 use Rattle.pv_model.specs.Bytes.{is_empty}

@@ -15,6 +15,7 @@ use Rattle.pv_model.specs.RunFault.{of_boot, of_image, of_manifest}
 use Rattle.pv_run.specs.Machines.{IsBundleMachineError, RefusesMachine}
 use Rattle.pv_streams.specs.Sources.{FailsToGive}
 use Rattle.pv_questions.specs.Answering.{Answer, run_question_answer, of_lines}
+use Rattle.pv_questions.specs.FilePaths.{paths_of}
 use Rattle.pv_questions.specs.Files.{cat_of}
 use Rattle.pv_questions.specs.declared.question.RunQuestion.{RunQuestion}
 use Rattle.pv_questions.specs.declared.question.TreeQuestion.{TreeQuestion}
@@ -22,8 +23,10 @@ use Rattle.pv_questions.specs.declared.question.TreeQuestion.TheVariants.{Listin
 use Rattle.pv_questions.specs.declared.question.Search.{Search}
 use Rattle.pv_questions.specs.declared.question.Search.TheVariants.{Explore, Access, Exposure, Policy, Graph}
 use Rattle.pv_questions.specs.declared.stop.AskStop.{AskStop}
+use Rattle.pv_access.specs.Answers.{access_lines_by}
+use Rattle.pv_access.specs.OfNamedFiles.FirstPaths.{path_texts}
 use Rattle.pv_exposure.specs.Answers.{exposed_lines_by}
-use Rattle.pv_policy.specs.OfReduced.Kinds.{access_lines_by, explore_lines_by, is_complete_by, policy_lines_by}
+use Rattle.pv_policy.specs.OfReduced.Kinds.{explore_lines_by, is_complete_by, policy_lines_by}
 use Rattle.pv_questions.specs.declared.stop.AskStop.TheVariants.{Machine, File as NoFile}
 
 -- a manifest alone, if there is no line `schedule`
@@ -69,8 +72,8 @@ of_boot_error fault = Machine (of_boot fault)
 -- the lines of a search with a limit
 abbrev pub search_lines : Search → ℕ → State → List AnswerLine
 search_lines (Explore kind) limit s = explore_lines_by kind limit s
-search_lines (Access kind) limit s = access_lines_by kind limit s
-search_lines (Exposure kind) limit s = exposed_lines_by kind limit s
+search_lines (Access kind files) limit s = access_lines_by (path_texts (paths_of files)) kind limit s
+search_lines (Exposure kind files) limit s = exposed_lines_by (path_texts (paths_of files)) kind limit s
 search_lines (Policy kind granted) limit s = policy_lines_by granted kind limit s
 search_lines (Graph tree) limit s = graph_lines program_of limit tree s
 
@@ -89,8 +92,8 @@ IsSearch question = ⊥
 -- a search with a limit leaves no state out
 abbrev pub search_is_complete : Search → ℕ → State → Bool
 search_is_complete (Explore kind) limit s = is_complete_by kind limit s
-search_is_complete (Access kind) limit s = is_complete_by kind limit s
-search_is_complete (Exposure kind) limit s = is_complete_by kind limit s
+search_is_complete (Access kind files) limit s = is_complete_by kind limit s
+search_is_complete (Exposure kind files) limit s = is_complete_by kind limit s
 search_is_complete (Policy kind granted) limit s = is_complete_by kind limit s
 search_is_complete (Graph tree) limit s = is_complete program_of limit s
 

@@ -32,7 +32,7 @@ pub use laws::{
 pub use pv_compare::explore::{Progress, Unshown};
 pub use pv_policy::reduced::SearchKind;
 pub use pv_run as run;
-pub use question::{Format, Question, RunQuestion, Search, TreeQuestion};
+pub use question::{Files, Format, Question, RunQuestion, Search, TreeQuestion};
 pub use runs::{ask, ask_bundle, ask_by, ask_manifest_by, ask_manifest_run};
 pub use schedules::{is_turns, text_of_turns};
 pub use stop::AskStop;

@@ -116,13 +116,13 @@ fn answer_turns<W: Sink>(
 fn answer_search<W: Sink, P: Progress>(
     alloc: Global,
     store: Store,
-    search: Search,
+    search: Search<'_>,
     states: u32,
     progress: &mut P,
     out: &mut W,
 ) -> Result<(), AskStop>
-    ensures answered { Answers W.Sink (tree_answer (TreeQuestion.Search search states) store) (IsTreeStop (TreeQuestion.Search search states)) out.old out.new result }
-    ensures complete { ReportsComplete result (tree_is_complete (TreeQuestion.Search search states) store) }
+    ensures answered { Answers W.Sink (tree_answer (TreeQuestion.Search search.entry states) store) (IsTreeStop (TreeQuestion.Search search.entry states)) out.old out.new result }
+    ensures complete { ReportsComplete result (tree_is_complete (TreeQuestion.Search search.entry states) store) }
 {
     store.invariant();
     let first_machine = match FirstMachine::new(alloc, store) {

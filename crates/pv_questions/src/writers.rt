@@ -242,20 +242,26 @@ pub(crate) fn report_turns<W: Sink>(
 // Writes the answer of a search, and leaves its last lines buffered.
 fn write_search<W: Sink, P: Progress>(
     alloc: Global,
-    search: Search,
+    search: Search<'_>,
     first_machine: &FirstMachine,
     states: u32,
     progress: &mut P,
     out: &mut W,
 ) -> Result<bool, Stop>
     requires { 1 ≤ states }
-    ensures written { WritesOr W.Sink FailsBy (answer_bytes (search_lines search states first_machine.now)) out.old out.new result }
-    ensures complete { IfOk result (λ complete. complete ≡ search_is_complete search states first_machine.now) }
+    ensures written { WritesOr W.Sink FailsBy (answer_bytes (search_lines search.entry states first_machine.now)) out.old out.new result }
+    ensures complete { IfOk result (λ complete. complete ≡ search_is_complete search.entry states first_machine.now) }
 {
     match search {
         Search::Explore(kind) => kind.write_explore(alloc, first_machine, states, progress, out),
-        Search::Access(kind) => write_access(alloc, kind, first_machine, states, progress, out),
-        Search::Exposure(kind) => write_exposure(alloc, kind, first_machine, states, progress, out),
+        Search::Access { kind, files } => {
+            let paths = files.to_array();
+            write_access(alloc, kind, first_machine, states, &paths, progress, out)
+        }
+        Search::Exposure { kind, files } => {
+            let paths = files.to_array();
+            write_exposure(alloc, kind, first_machine, states, &paths, progress, out)
+        }
         Search::Policy { kind, granted } => {
             write_policy(alloc, kind, granted, first_machine, states, progress, out)
         }
@@ -266,15 +272,15 @@ fn write_search<W: Sink, P: Progress>(
 // Writes the answer of a search. Returns whether the visited states are all.
 pub(crate) fn report_search<W: Sink, P: Progress>(
     alloc: Global,
-    search: Search,
+    search: Search<'_>,
     first_machine: &FirstMachine,
     states: u32,
     progress: &mut P,
     out: &mut W,
 ) -> Result<bool, AskStop>
     requires { 1 ≤ states }
-    ensures written { ReportsText W.Sink (answer_bytes (search_lines search states first_machine.now)) out.old out.new result }
-    ensures complete { IfOk result (λ complete. complete ≡ search_is_complete search states first_machine.now) }
+    ensures written { ReportsText W.Sink (answer_bytes (search_lines search.entry states first_machine.now)) out.old out.new result }
+    ensures complete { IfOk result (λ complete. complete ≡ search_is_complete search.entry states first_machine.now) }
 {
     let end = write_search(alloc, search, first_machine, states, progress, out);
     flush_buffer(end, out)

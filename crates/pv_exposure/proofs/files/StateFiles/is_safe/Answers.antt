@@ -10,5 +10,5 @@ from-not (Some x) true is = cc is
 from-not (Some x) false is = refl
 
 pub returns : goal.returns
-returns c = λ first s are.
-    from-not c.leak.result c.is_none.result c.is_none.ensures ∙ ap (λ (o : Option (ℕ × Why)). is_none o) (c.leak.ensures first s are) ∙ safe-none c.args.node s
+returns c = λ given first s are.
+    from-not c.leak.result c.is_none.result c.is_none.ensures ∙ ap (λ (o : Option (ℕ × Why)). is_none o) (c.leak.ensures given first s are) ∙ safe-none c.args.node s

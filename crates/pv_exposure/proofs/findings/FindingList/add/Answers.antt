@@ -4,6 +4,7 @@ use Rattle.std.proofs.lemmas.Result.{on_ok_weaker}
 use Rattle.pv_model.specs.Machine.{Bytes, program_of}
 use Rattle.pv_model_questions.specs.Briefs.{brief_since}
 use Rattle.pv_model_questions.specs.Exposure.{reason_by}
+use Rattle.pv_named_files.specs.FirstPaths.{first_tree}
 use Rattle.pv_exposure.specs.Collected.{Recorded, has_key, key_of_recorded, record_key}
 use Rattle.pv_exposure.specs.Stored.{located_in_visit, recorded_in}
 use Rattle.pv_exposure.proofs.FindingAddition.{file-known, file-new, finding_as, has-key}
@@ -12,7 +13,7 @@ use Rattle.pv_exposure.proofs.findings.FindingList.add.Goals as goal
 pub returns-then-contains : goal.returns-then-contains
 returns-then-contains c = λ p at.
     let v = c.args.visit.now in
-    let t = v.first.now.tree in
+    let t = first_tree v.paths.now in
     let f = c.args.file.now.node in
     let ks : List Recorded = c.args.self.now in
     let key = record_key p.line (brief_since t v.parts.now.tree f) in
@@ -27,7 +28,7 @@ returns c =
     on_ok_weaker c.store.result
     (λ stored p at.
     let v = c.args.visit.now in
-    let t = v.first.now.tree in
+    let t = first_tree v.paths.now in
     let f = c.args.file.now.node in
     let l = located_in_visit v p in
     let kind = c.args.kind in
