@@ -1,9 +1,9 @@
--- Lemmas about accesses: Accessed (the accesses of a call by its candidates), Started (the walks that a call begins),
--- Prepared (the texts of candidates), Past (descriptors past the last), Notes (files without a note), Written (the bytes
--- of a search).
-pub mod Accessed
-pub mod Notes
-pub mod Past
-pub mod Prepared
-pub mod Started
-pub mod Written
+-- Lemmas about accesses: AccessCandidates (the accesses of a call by its candidates), BegunWalks (the walks that a call
+-- begins), PreparedTexts (the texts of candidates), DescriptorBounds (descriptors past the last), FileNotes (files
+-- without a note), AccessBytes (the bytes of a search).
+pub mod AccessCandidates
+pub mod FileNotes
+pub mod DescriptorBounds
+pub mod PreparedTexts
+pub mod BegunWalks
+pub mod AccessBytes

@@ -1,5 +1,5 @@
 -- The accesses that a call may have, known before it, each with the outcomes with which the call has it.
-use Rattle.std.specs.Prelude.{ℕ, Bool, true, false, not, ◌==◌, if◌then◌else◌, List, [], ◌∷◌, ◌++◌, map, filter, filter_map, Option, None, Some, is_none}
+use Rattle.std.specs.Prelude.{ℕ, Bool, true, false, not, ◌==◌, if◌then◌else◌, List, [], ◌++◌, map, filter, filter_map, Option, is_none}
 use Rattle.std.specs.List.{cons_option}
 use Rattle.pv_model.specs.declared.call.Call.{Call}
 use Rattle.pv_model.specs.declared.call.Call.TheVariants.{Execve, Open, OpenAt, Read, Write, Lseek, Fstat, Ftruncate, Getdents, Fchdir, Chdir, Stat, Lstat, Readlink, Mkdir, Symlink, Link, Unlink, Rmdir, Rename}
@@ -15,13 +15,13 @@ use Rattle.pv_access.specs.declared.condition.Condition.{Condition}
 use Rattle.pv_access.specs.declared.condition.Condition.TheVariants.{NoProgram, AnyValue, SomeCount, SomeBytes, Success}
 
 -- whether an outcome satisfies a condition
-abbrev pub holds : Condition → Outcome → Bool
-holds NoProgram (Failed ENOEXEC cause) = true
-holds AnyValue (Value n) = true
-holds SomeCount (Value n) = not (n == 0)
-holds SomeBytes (Text taken) = not (taken.len == 0)
-holds Success outcome = has_succeeded outcome
-holds condition outcome = false
+abbrev pub is_satisfied : Condition → Outcome → Bool
+is_satisfied NoProgram (Failed ENOEXEC cause) = true
+is_satisfied AnyValue (Value n) = true
+is_satisfied SomeCount (Value n) = not (n == 0)
+is_satisfied SomeBytes (Text taken) = not (taken.len == 0)
+is_satisfied Success outcome = has_succeeded outcome
+is_satisfied condition outcome = false
 
 -- an access, with the condition on the outcome under which the call has it
 abbrev pub Candidate : Type 0
@@ -79,7 +79,7 @@ module _ (s : State) (pid : ℕ) (p : Process) (call : Call) where
 
 -- the accesses of the candidates whose condition an outcome satisfies
 abbrev pub accesses_with : Outcome → List Candidate → List Access
-accesses_with outcome cs = map (λ c. c.1) (filter (λ c. holds c.0 outcome) cs)
+accesses_with outcome cs = map (λ c. c.1) (filter (λ c. is_satisfied c.0 outcome) cs)
 
 abbrev pub list_of_two : {X : Type 0} → Option X → Option X → List X
 list_of_two first second = cons_option first (cons_option second [])

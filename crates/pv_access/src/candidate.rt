@@ -1,15 +1,16 @@
 //! An access that a call may have, prepared before the call.
-ghost use Rattle.std.specs.Prelude.{◌≡◌, ◌++◌, ◌∷◌, [], codes, IfOk, OnOk};
-ghost use Rattle.pv_model.specs.Machine.{changes_name, answer_line, answer_line_bytes, node_brief};
-ghost use Rattle.pv_model.specs.Answers.Nodes.{name_words};
-ghost use Rattle.pv_access.specs.Texts.{access_at, all_prepared, line_in, prepared, texts_by, texts_in, texts_with, word_letters};
+ghost use Rattle.std.specs.Prelude.{◌≡◌, ◌++◌, ◌∷◌, [], map, option_map, option_to_list, IfOk, OnOk};
+ghost use Rattle.pv_model.specs.Machine.{changes_name, answer_line_bytes};
+ghost use Rattle.pv_named_files.specs.FirstPaths.{files_given, first_tree};
+ghost use Rattle.pv_access.specs.Texts.{access_at, all_prepared, access_lines_in, prepared, texts_by, texts_with};
 ghost use Rattle.pv_access.specs.declared.condition.Condition.TheVariants.{Success};
+ghost use Rattle.pv_named_files.specs.OfStepCache.Steps.{texts_in};
 
 use crate::condition::Condition;
 use crate::word::NodeWord;
 use pv_model::Outcome;
-use pv_named_files::note_of;
-use pv_reduced::answers::{Line, NameWords, NodeBrief, text_of};
+use pv_named_files::{FirstPaths, note_of};
+use pv_reduced::answers::{Line, NameWords, Plain, text_of};
 use pv_tree::Tree;
 use std::alloc::{AllocError, Global};
 
@@ -20,40 +21,49 @@ pub(crate) struct Candidate {
     pub(crate) condition: Condition,
     /// The file whose bytes the access depends on.
     pub(crate) noted: Option<u16>,
-    /// The line of the access.
-    pub(crate) line: Vec<u8>,
+    /// The line of the access, if it is kept.
+    pub(crate) line: Option<Vec<u8>>,
 }
 
-// Returns the line of an access to a node.
+// Returns the line of an access to a node, if it is kept.
 #[tactic(auto, unfolding(pv_model::specs::Trace::text_line))]
 fn node_line(
     alloc: Global,
+    paths: &FirstPaths<'_>,
     tree: &Tree,
     pid: u32,
     word: NodeWord,
     node: u16,
-) -> Result<Vec<u8>, AllocError>
-    ensures { IfOk result (λ line. line.items ≡ answer_line_bytes (answer_line pid (word_letters word) (node_brief tree.now.tree node))) }
+) -> Result<Option<Vec<u8>>, AllocError>
+    ensures { IfOk result (λ line. option_to_list (option_map (λ l. l.items) line) ≡ map answer_line_bytes (access_lines_in (files_given paths.now) (first_tree paths.now) tree.now.tree pid (access_at word node))) }
 {
+    if !paths.keeps_node(alloc, tree, node)? {
+        return Ok(None);
+    }
+    let text = paths.described(alloc, tree, node)?;
     let line = Line {
         pid,
         word: word.letters(),
-        text: NodeBrief { tree, node },
+        text: Plain(&text),
     };
-    text_of(alloc, &line)
+    Ok(Some(text_of(alloc, &line)?))
 }
 
-// Returns the line of a change of a name.
+// Returns the line of a change of a name, if it is kept.
 #[tactic(auto, unfolding(pv_model::specs::Trace::text_line))]
 fn name_line(
     alloc: Global,
+    paths: &FirstPaths<'_>,
     tree: &Tree,
     pid: u32,
     directory: u16,
     name: &[u8],
-) -> Result<Vec<u8>, AllocError>
-    ensures { IfOk result (λ line. line.items ≡ answer_line_bytes (answer_line pid (codes "NAME") (name_words tree.now.tree directory name.now))) }
+) -> Result<Option<Vec<u8>>, AllocError>
+    ensures { IfOk result (λ line. option_to_list (option_map (λ l. l.items) line) ≡ map answer_line_bytes (access_lines_in (files_given paths.now) (first_tree paths.now) tree.now.tree pid (changes_name directory name.now))) }
 {
+    if !paths.keeps_name(alloc, tree, directory, name)? {
+        return Ok(None);
+    }
     let text = NameWords {
         tree,
         directory,
@@ -64,7 +74,7 @@ fn name_line(
         word: *b"NAME",
         text,
     };
-    text_of(alloc, &line)
+    Ok(Some(text_of(alloc, &line)?))
 }
 
 /// Adds an access to a node.
@@ -75,15 +85,16 @@ fn name_line(
 pub(crate) fn push_node(
     alloc: Global,
     candidates: &mut Vec<Candidate>,
+    paths: &FirstPaths<'_>,
     tree: &Tree,
     pid: u32,
     condition: Condition,
     word: NodeWord,
     node: u16,
 ) -> Result<(), AllocError>
-    ensures { OnOk result (all_prepared candidates.new.items ≡ all_prepared candidates.old.items ++ (condition, texts_by (line_in tree.now.tree pid) (access_at word node)) ∷ []) }
+    ensures { OnOk result (all_prepared candidates.new.items ≡ all_prepared candidates.old.items ++ (condition, texts_by (access_lines_in (files_given paths.now) (first_tree paths.now) tree.now.tree pid) (access_at word node)) ∷ []) }
 {
-    let line = node_line(alloc, tree, pid, word, node)?;
+    let line = node_line(alloc, paths, tree, pid, word, node)?;
     let noted = word.noted(node);
     candidates.push(Candidate {
         condition,
@@ -101,14 +112,15 @@ pub(crate) fn push_node(
 pub(crate) fn push_name(
     alloc: Global,
     candidates: &mut Vec<Candidate>,
+    paths: &FirstPaths<'_>,
     tree: &Tree,
     pid: u32,
     directory: u16,
     name: &[u8],
 ) -> Result<(), AllocError>
-    ensures { OnOk result (all_prepared candidates.new.items ≡ all_prepared candidates.old.items ++ (Success, texts_by (line_in tree.now.tree pid) (changes_name directory name.now)) ∷ []) }
+    ensures { OnOk result (all_prepared candidates.new.items ≡ all_prepared candidates.old.items ++ (Success, texts_by (access_lines_in (files_given paths.now) (first_tree paths.now) tree.now.tree pid) (changes_name directory name.now)) ∷ []) }
 {
-    let line = name_line(alloc, tree, pid, directory, name)?;
+    let line = name_line(alloc, paths, tree, pid, directory, name)?;
     candidates.push(Candidate {
         condition: Condition::Success,
         noted: None,
@@ -129,7 +141,9 @@ fn push_texts(
     if let Some(node) = noted {
         texts.push(note_of(alloc, node)?)?;
     }
-    texts.push(line)?;
+    if let Some(line) = line {
+        texts.push(line)?;
+    }
     Ok(())
 }
 

@@ -1,6 +1,6 @@
 //! Conditions on the outcome of a call.
 ghost use Rattle.std.specs.Prelude.{◌≡◌};
-ghost use Rattle.pv_access.specs.Candidates.{holds};
+ghost use Rattle.pv_access.specs.Candidates.{is_satisfied};
 
 use pv_model::{Errno, Outcome};
 
@@ -22,7 +22,7 @@ pub(crate) enum Condition {
 impl Condition {
     /// Returns whether an outcome satisfies the condition.
     pub(crate) fn holds(self, outcome: Outcome) -> bool
-        ensures { result ≡ holds self outcome }
+        ensures { result ≡ is_satisfied self outcome }
     {
         match (self, outcome) {
             (Condition::NoProgram, Outcome::Failed(Errno::ENOEXEC, _))

@@ -1,13 +1,15 @@
 //! The files that no step of a search reads or executes.
 ghost use Rattle.std.specs.Prelude.{◌≡◌, ◌++◌, ◌∷◌, [], codes, filter, map, IfOk, OnOk};
-ghost use Rattle.pv_access.specs.Unread.{files_without_note, is_without_note, one_if, unread_file_line, unread_lines};
+ghost use Rattle.pv_model_questions.specs.Accesses.{kept_files};
+ghost use Rattle.pv_named_files.specs.FirstPaths.{files_given, first_tree};
+ghost use Rattle.pv_access.specs.Unread.{files_without_note, is_without_note, singleton_if, unread_file_line, unread_lines};
 ghost use Rattle.pv_model.specs.Machine.{named_files, answer_bytes, answer_line_bytes, find_entry, root};
 ghost use Rattle.pv_reduced.specs.OfSession.Running.{FailsBy};
 ghost use Rattle.pv_streams.specs.Sinks.{Writes, WritesOr};
 
 use crate::word::NodeBrief;
 use pv_model::limits::ROOT;
-use pv_named_files::{named_files, note_of};
+use pv_named_files::{FirstPaths, named_files, note_of};
 use pv_reduced::answers::{Fragment, Line};
 use pv_reduced::explore_crate::Searched;
 use pv_reduced::session::Stop;
@@ -51,7 +53,7 @@ fn push_unread(
     files: &mut Vec<u16>,
     file: u16,
 ) -> Result<(), AllocError>
-    ensures { OnOk result (files.new.items ≡ files.old.items ++ one_if (is_without_note tree.now.tree searched.now.texts file) file) }
+    ensures { OnOk result (files.new.items ≡ files.old.items ++ singleton_if (is_without_note tree.now.tree searched.now.texts file) file) }
 {
     if is_unread(alloc, tree, searched, file)? {
         return push_number(files, file);
@@ -106,40 +108,52 @@ fn write_files<W: Sink>(out: &mut W, tree: &Tree, files: &[u16]) -> Result<(), F
     Ok(())
 }
 
-// Writes a line UNRD for each file of the first tree, in the order of a listing, each once, that is not the file at
-// `/init` and that no step of a search read or executed.
+// Returns those of the unread files that are kept.
+fn kept_unread_files(
+    alloc: Global,
+    paths: &FirstPaths<'_>,
+    searched: &Searched,
+) -> Result<Vec<u16>, AllocError>
+    ensures { IfOk result (λ files. files.items ≡ kept_files (files_given paths.now) (first_tree paths.now) (files_without_note (first_tree paths.now) searched.now.texts)) }
+{
+    let files = unread_files(alloc, paths.tree, searched)?;
+    paths.kept(alloc, paths.tree, &files)
+}
+
+// Writes a line UNRD for each file of the first tree that is kept, in the order of a listing, each once, that is not the
+// file at `/init` and that no step of a search read or executed.
 fn write_unread_files<W: Sink>(
     alloc: Global,
-    tree: &Tree,
+    paths: &FirstPaths<'_>,
     searched: &Searched,
     out: &mut W,
 ) -> Result<(), Stop>
-    ensures { WritesOr W.Sink FailsBy (answer_bytes (map (unread_file_line tree.now.tree) (files_without_note tree.now.tree searched.now.texts))) out.old out.new result }
+    ensures { WritesOr W.Sink FailsBy (answer_bytes (map (unread_file_line (first_tree paths.now)) (kept_files (files_given paths.now) (first_tree paths.now) (files_without_note (first_tree paths.now) searched.now.texts)))) out.old out.new result }
 {
-    let Ok(files) = unread_files(alloc, tree, searched) else {
+    let Ok(files) = kept_unread_files(alloc, paths, searched) else {
         return Err(Stop::Memory);
     };
-    Ok(write_files(out, tree, &files)?)
+    Ok(write_files(out, paths.tree, &files)?)
 }
 
-/// Writes a line UNRD for each file of the first tree, in the order of a listing, each once, that is not the file at
-/// `/init` and that no step of a search read or executed. Writes nothing if the search is not complete.
+/// Writes a line UNRD for each file of the first tree that is kept, in the order of a listing, each once, that is not the
+/// file at `/init` and that no step of a search read or executed. Writes nothing if the search is not complete.
 ///
 /// # Errors
 ///
 /// - `Memory`, if there is no memory.
 /// - `Write`, if a write failed. The sink received a prefix of the lines.
-#[tactic(auto, using(pv_streams::proofs::Reporting::written_none))]
+#[tactic(auto, using(pv_streams::proofs::OutputTexts::written_none))]
 pub(crate) fn write_unread<W: Sink>(
     alloc: Global,
-    tree: &Tree,
+    paths: &FirstPaths<'_>,
     searched: &Searched,
     out: &mut W,
 ) -> Result<(), Stop>
-    ensures { WritesOr W.Sink FailsBy (answer_bytes (unread_lines tree.now.tree searched.now.texts searched.now.complete)) out.old out.new result }
+    ensures { WritesOr W.Sink FailsBy (answer_bytes (unread_lines (first_tree paths.now) (files_given paths.now) searched.now.texts searched.now.complete)) out.old out.new result }
 {
     if searched.complete {
-        return write_unread_files(alloc, tree, searched, out);
+        return write_unread_files(alloc, paths, searched, out);
     }
     Ok(())
 }

@@ -1,27 +1,28 @@
 -- Lemmas about answers.
--- - texts: Writing (a writer that calls others), Reported (the output of a sink), Rows (texts of many parts, the front of a buffer), Keywords (of a set),
---   Paths (of nodes)
--- - processes: Following (from one number to the next), NextOnes (the next instruction), Locations, OpenLines and
---   Holdings (descriptors, entries and memory), States (all processes)
--- - places: Permitted (by the governing entry), Listed (names, one entry at a time), Absent (entries for absent names),
---   Opened (open descriptors), Removed (removed directories), Reached (all lines)
-pub mod Reported
-pub mod Writing
-pub mod Rows
-pub mod Keywords
-pub mod Paths
-pub mod Following
-pub mod NextOnes
-pub mod Locations
-pub mod OpenLines
-pub mod Holdings
-pub mod States
-pub mod Permitted
-pub mod Listed
-pub mod Absent
-pub mod Opened
-pub mod Removed
-pub mod Reached
+-- - texts: WriterContracts (a writer that calls others), EqualOutputs (the output of a sink), TextParts (texts of many
+--   parts, the front of a buffer), KeywordTexts (of a set), NodePaths (of nodes)
+-- - processes: ProcessSequence (from one number to the next), InstructionWords (the next instruction), LocationLines,
+--   DescriptorLines and HeldLines (descriptors, entries and memory), ProcessLines (all processes)
+-- - places: PermissionsAtPlaces (by the governing entry), ListedLines (names, one entry at a time), AbsentNameEntries
+--   (entries for absent names), OpenDescriptors (open descriptors), RemovedDirectories (removed directories),
+--   PermissionLines (all lines)
+pub mod EqualOutputs
+pub mod WriterContracts
+pub mod TextParts
+pub mod KeywordTexts
+pub mod NodePaths
+pub mod ProcessSequence
+pub mod InstructionWords
+pub mod LocationLines
+pub mod DescriptorLines
+pub mod HeldLines
+pub mod ProcessLines
+pub mod PermissionsAtPlaces
+pub mod ListedLines
+pub mod AbsentNameEntries
+pub mod OpenDescriptors
+pub mod RemovedDirectories
+pub mod PermissionLines
 pub use Rattle.pv_listing.proofs as OfListing
 pub use Rattle.pv_calls_state.proofs.OfProcs
 pub use Rattle.pv_calls_state.proofs.OfUnveil

@@ -20,13 +20,13 @@ abbrev pub live_words : Option Process → Bytes
 live_words None = []
 live_words (Some p) = live_text p
 
-abbrev pub held_of : State → ℕ → Option Record → List AnswerLine
-held_of s pid None = []
-held_of s pid (Some r) = held_lines s pid r
+abbrev pub held_lines_of : State → ℕ → Option Record → List AnswerLine
+held_lines_of s pid None = []
+held_lines_of s pid (Some r) = held_lines s pid r
 
 -- the restraints, descriptors and memory of a process; no lines if there is no such process
 abbrev pub held_by : State → ℕ → List AnswerLine
-held_by s pid = held_of s pid (find nat_cmp pid s.processes)
+held_by s pid = held_lines_of s pid (find nat_cmp pid s.processes)
 
 -- ---- by the record of a process
 

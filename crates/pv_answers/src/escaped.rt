@@ -56,7 +56,7 @@ fn write_part<W: Sink>(out: &mut W, part: &[u8]) -> Result<(), Failed>
 /// # Errors
 ///
 /// `Failed`, if a write failed. The sink received a prefix of the text.
-#[tactic(auto, using(pv_listing::proofs::Rests::rest_all, pv_listing::proofs::Rests::written_text))]
+#[tactic(auto, using(pv_listing::proofs::TextRemainders::rest_all, pv_listing::proofs::TextRemainders::written_text))]
 pub(crate) fn write_escaped<W: Sink>(out: &mut W, bytes: &[u8]) -> Result<(), Failed>
     ensures { Writes W.Sink (flat_map quote_byte bytes.now) out.old out.new result }
 {

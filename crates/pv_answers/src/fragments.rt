@@ -57,7 +57,7 @@ impl<P: Fragment> Fragment for Option<P> {
 impl<A: Fragment, B: Fragment> Fragment for (A, B) {
     ghost text = { λ p. A.text p.0 ++ B.text p.1 };
 
-    #[tactic(auto, using(pv_streams::proofs::Reporting::written_both))]
+    #[tactic(auto, using(pv_streams::proofs::OutputTexts::written_both))]
     fn write<W: Sink>(&self, out: &mut W) -> Result<(), Failed> {
         self.0.write(out)?;
         self.1.write(out)
@@ -67,7 +67,7 @@ impl<A: Fragment, B: Fragment> Fragment for (A, B) {
 impl<A: Fragment, B: Fragment, C: Fragment> Fragment for (A, B, C) {
     ghost text = { λ p. A.text p.0 ++ B.text p.1 ++ C.text p.2 };
 
-    #[tactic(auto, using(pv_streams::proofs::Reporting::written_both))]
+    #[tactic(auto, using(pv_streams::proofs::OutputTexts::written_both))]
     fn write<W: Sink>(&self, out: &mut W) -> Result<(), Failed> {
         self.0.write(out)?;
         self.1.write(out)?;
@@ -78,7 +78,7 @@ impl<A: Fragment, B: Fragment, C: Fragment> Fragment for (A, B, C) {
 impl<A: Fragment, B: Fragment, C: Fragment, D: Fragment> Fragment for (A, B, C, D) {
     ghost text = { λ p. A.text p.0 ++ B.text p.1 ++ C.text p.2 ++ D.text p.3 };
 
-    #[tactic(auto, using(pv_streams::proofs::Reporting::written_both))]
+    #[tactic(auto, using(pv_streams::proofs::OutputTexts::written_both))]
     fn write<W: Sink>(&self, out: &mut W) -> Result<(), Failed> {
         self.0.write(out)?;
         self.1.write(out)?;
@@ -90,7 +90,7 @@ impl<A: Fragment, B: Fragment, C: Fragment, D: Fragment> Fragment for (A, B, C, 
 impl<A: Fragment, B: Fragment, C: Fragment, D: Fragment, E: Fragment> Fragment for (A, B, C, D, E) {
     ghost text = { λ p. A.text p.0 ++ B.text p.1 ++ C.text p.2 ++ D.text p.3 ++ E.text p.4 };
 
-    #[tactic(auto, using(pv_streams::proofs::Reporting::written_both))]
+    #[tactic(auto, using(pv_streams::proofs::OutputTexts::written_both))]
     fn write<W: Sink>(&self, out: &mut W) -> Result<(), Failed> {
         self.0.write(out)?;
         self.1.write(out)?;
@@ -104,7 +104,7 @@ impl<A: Fragment, B: Fragment, C: Fragment, D: Fragment, E: Fragment, F: Fragmen
     for (A, B, C, D, E, F) {
     ghost text = { λ p. A.text p.0 ++ B.text p.1 ++ C.text p.2 ++ D.text p.3 ++ E.text p.4 ++ F.text p.5 };
 
-    #[tactic(auto, using(pv_streams::proofs::Reporting::written_both))]
+    #[tactic(auto, using(pv_streams::proofs::OutputTexts::written_both))]
     fn write<W: Sink>(&self, out: &mut W) -> Result<(), Failed> {
         self.0.write(out)?;
         self.1.write(out)?;

@@ -18,7 +18,7 @@ use reacher::Reacher;
 use unnamed::{write_absents, write_descriptors, write_directory};
 
 // Writes the lines of a process.
-#[tactic(auto, using(pv_streams::proofs::Reporting::written_both, pv_streams::proofs::Reporting::begins_first, pv_streams::proofs::Reporting::begins_then))]
+#[tactic(auto, using(pv_streams::proofs::OutputTexts::written_both, pv_streams::proofs::OutputTexts::begins_first, pv_streams::proofs::OutputTexts::begins_then))]
 fn write_process<W: Sink>(out: &mut W, reacher: &Reacher<'_>) -> Result<(), Failed>
     ensures { Writes W.Sink (process_lines reacher.now) out.old out.new result }
 {

@@ -32,7 +32,7 @@ pub fn write_locations<W: Sink>(out: &mut W, parts: &Parts) -> Result<(), Failed
 }
 
 // Writes the lines of the state of a process. Writes nothing if there is no such process.
-#[tactic(auto, using(pv_streams::proofs::Reporting::written_both))]
+#[tactic(auto, using(pv_streams::proofs::OutputTexts::written_both))]
 fn write_process<W: Sink>(
     out: &mut W,
     parts: &Parts,

@@ -8,17 +8,17 @@ use Rattle.pv_model.specs.declared.perms.Perms.{Perms}
 use Rattle.pv_model.specs.declared.promise.Promise.TheVariants.{Rpath, Wpath, Cpath, Exec as ExecPromise}
 use Rattle.pv_model.specs.declared.verdict.Why.{Why}
 use Rattle.pv_model.specs.declared.verdict.Why.TheVariants.{Reads, NotLocked, Gives, Above, Exec}
-use Rattle.pv_model.specs.Machine.{is_empty, entries_of_table, at_number, numbered, covers, permission_r, OpenFile, Descriptor, Process, State, reads, writes, process_at, names_of, Table}
+use Rattle.pv_model.specs.Machine.{is_empty, entries_of_table, at_number, numbered, covers, permission_r, OpenFile, Descriptor, Process, State, reads, writes, process_at, names_of, Table, first_of}
 use Rattle.pv_model.specs.Closed.{opens_or_moves}
 use Rattle.pv_model.specs.Needs.{permissions_of_mode}
 use Rattle.pv_model.specs.Perms.{permission_w}
 use Rattle.pv_model.specs.Sealed
 use Rattle.pv_calls_state.specs.OfProcs.Parts.{record_of}
 use Rattle.pv_audit.specs.declared.table_access.TableAccess.{TableAccess}
-use Rattle.pv_audit.specs.Findings.{least, nothing, table_of, suspect, noted_by}
-use Rattle.pv_audit.specs.Reasons.{all_reasons_of, present_reasons, reason_if, reasons_of_table, first_of, is_on, descriptors_for, by_number, unless, reason_of_table, reason_of, is_preserved_by, is_preserved, reason_for, reason_at, preserved_for, preserved_at}
-use Rattle.pv_audit.proofs.LeastOnes.{least-fold}
-use Rattle.pv_audit.proofs.FoundOnes.{gives-all, above-all, writes-all, noted-pid, noted-table_access}
+use Rattle.pv_audit.specs.Findings.{least, nothing, table_entries, suspect, with_names_noted}
+use Rattle.pv_audit.specs.Reasons.{all_reasons_of, present_reasons, reason_if, reasons_of_table, is_on, descriptors_for, by_number, reason_unless, reason_of_table, reason_of, is_preserved_by, is_preserved, reason_for, reason_at, preserved_for, preserved_at}
+use Rattle.pv_audit.proofs.LeastNumbers.{least-fold}
+use Rattle.pv_audit.proofs.NameAccess.{gives-all, above-all, writes-all, with_name_noted-pid, with_name_noted-table_access}
 
 -- ---- lists of reasons
 
@@ -26,13 +26,13 @@ first-least : (why : ℕ → Why) (ks : List ℕ) (rest : List Why) → first_of
 first-least why [] rest = refl
 first-least why (k ∷ ks) rest = sym (ap (λ (o : Option ℕ). by_number why o (first_of rest)) (least-fold k ks))
 
-first-unless : (b : Bool) (why : Why) (rest : List Why) → first_of (Sealed.when (not b) why ++ rest) ≡ unless b why (first_of rest)
-first-unless true why rest = refl
-first-unless false why rest = refl
+first-reason_unless : (b : Bool) (why : Why) (rest : List Why) → first_of (Sealed.when (not b) why ++ rest) ≡ reason_unless b why (first_of rest)
+first-reason_unless true why rest = refl
+first-reason_unless false why rest = refl
 
-last-unless : (b : Bool) (why : Why) → first_of (Sealed.when (not b) why) ≡ unless b why None
-last-unless true why = refl
-last-unless false why = refl
+last-reason_unless : (b : Bool) (why : Why) → first_of (Sealed.when (not b) why) ≡ reason_unless b why None
+last-reason_unless true why = refl
+last-reason_unless false why = refl
 
 all-least : (why : ℕ → Why) (ks : List ℕ) (rest : List Why) → Sealed.least_first why ks ++ rest ≡ cons_option (option_map why (least ks)) rest
 all-least why [] rest = refl
@@ -92,11 +92,11 @@ module _ (s : State) (p : Process) (f : ℕ) where
       let c = Sealed.least_first Above (Sealed.above s p f table) in
       let d = Sealed.when (not (Sealed.is_held_over_exec s p f)) Exec in
       ap first_of (append_assoc (a ++ b) c d ∙ append_assoc a b (c ++ d))
-      ∙ first-unless p.locked NotLocked (b ++ (c ++ d))
-      ∙ ap (unless p.locked NotLocked)
+      ∙ first-reason_unless p.locked NotLocked (b ++ (c ++ d))
+      ∙ ap (reason_unless p.locked NotLocked)
       (first-least Gives (Sealed.giving s p f opens_or_moves table) (c ++ d)
       ∙ (λ i. by_number Gives (sym is.gives i)
-      ((first-least Above (Sealed.above s p f table) d ∙ (λ j. by_number Above (sym is.above j) (last-unless (Sealed.is_held_over_exec s p f) Exec j))) i)))
+      ((first-least Above (Sealed.above s p f table) d ∙ (λ j. by_number Above (sym is.above j) (last-reason_unless (Sealed.is_held_over_exec s p f) Exec j))) i)))
 
   pub leaks-reason : (table_access : TableAccess) → ((table : Table) → p.table ≡ Some table → IsAllOf table table_access) → first_of (Sealed.leaks s p f) ≡ reason_of s.files (record_of p) f table_access
   unfolding Sealed.leaks
@@ -149,26 +149,26 @@ module _ (s : State) (p : Process) (f : ℕ) where
 
   module _ (pid : ℕ) (at : process_at s pid ≡ Some p) where
     abbrev mine : TableAccess
-    mine = (noted_by s (names_of s.tree f) (suspect pid)).table_access
+    mine = (with_names_noted s (names_of s.tree f) (suspect pid)).table_access
 
     pub all-of : (table : Table) → p.table ≡ Some table → IsAllOf table mine
     all-of table is =
-        let same : table_of (process_at s pid) ≡ table = ap table_of at ∙ ap entries_of_table is in
-        let table_access = noted-table_access s (names_of s.tree f) (suspect pid) in
+        let same : table_entries (process_at s pid) ≡ table = ap table_entries at ∙ ap entries_of_table is in
+        let table_access = with_name_noted-table_access s (names_of s.tree f) (suspect pid) in
         record {
-          gives = ap (λ (x : TableAccess). x.gives) table_access ∙ gives-all s.tree (table_of (process_at s pid)) nothing (names_of s.tree f) ∙ ap (λ (t : Table). least (Sealed.giving s p f opens_or_moves t)) same;
-          above = ap (λ (x : TableAccess). x.above) table_access ∙ above-all s.tree (table_of (process_at s pid)) nothing (names_of s.tree f) ∙ ap (λ (t : Table). least (Sealed.above s p f t)) same;
-          writes = ap (λ (x : TableAccess). x.writes) table_access ∙ writes-all s.tree (table_of (process_at s pid)) nothing (names_of s.tree f) ∙ ap (λ (t : Table). not (is_empty (Sealed.giving s p f (λ permissions. permissions.w) t))) same;
+          gives = ap (λ (x : TableAccess). x.gives) table_access ∙ gives-all s.tree (table_entries (process_at s pid)) nothing (names_of s.tree f) ∙ ap (λ (t : Table). least (Sealed.giving s p f opens_or_moves t)) same;
+          above = ap (λ (x : TableAccess). x.above) table_access ∙ above-all s.tree (table_entries (process_at s pid)) nothing (names_of s.tree f) ∙ ap (λ (t : Table). least (Sealed.above s p f t)) same;
+          writes = ap (λ (x : TableAccess). x.writes) table_access ∙ writes-all s.tree (table_entries (process_at s pid)) nothing (names_of s.tree f) ∙ ap (λ (t : Table). not (is_empty (Sealed.giving s p f (λ permissions. permissions.w) t))) same;
         }
 
-    there : process_at s (noted_by s (names_of s.tree f) (suspect pid)).pid ≡ Some p
-    there = ap (process_at s) (noted-pid s (names_of s.tree f) (suspect pid)) ∙ at
+    there : process_at s (with_names_noted s (names_of s.tree f) (suspect pid)).pid ≡ Some p
+    there = ap (process_at s) (with_name_noted-pid s (names_of s.tree f) (suspect pid)) ∙ at
 
-    pub reason-first : reason_at s f (noted_by s (names_of s.tree f) (suspect pid)) ≡ first_of (Sealed.leaks s p f)
+    pub reason-first : reason_at s f (with_names_noted s (names_of s.tree f) (suspect pid)) ≡ first_of (Sealed.leaks s p f)
     reason-first = ap (λ (o : Option Process). reason_for s f o mine) there ∙ sym (leaks-reason mine all-of)
 
     pub reasons-all : all_reasons_of s.files (record_of p) f mine ≡ Sealed.leaks s p f
     reasons-all = sym (leaks-reasons mine all-of)
 
-    pub preserved-frozen : preserved_at s f (noted_by s (names_of s.tree f) (suspect pid)) ≡ Sealed.is_frozen_to s p f
+    pub preserved-frozen : preserved_at s f (with_names_noted s (names_of s.tree f) (suspect pid)) ≡ Sealed.is_frozen_to s p f
     preserved-frozen = ap (λ (o : Option Process). preserved_for s f o mine) there ∙ sym (frozen-preserved mine all-of)

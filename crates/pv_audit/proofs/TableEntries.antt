@@ -5,12 +5,12 @@ use Rattle.std.proofs.lemmas.List.{append-nil}
 use Rattle.pv_model.specs.declared.target.Target.TheVariants.{Directory}
 use Rattle.pv_model.specs.Machine.{Tree, root, parent, ancestors, IsAtOrAbove, IsWellFormed, Table, entry_for, directory_rights, Governs, own, from_above}
 use Rattle.pv_model.specs.Tree.{above_or_none, ancestors_within, itself, above}
-use Rattle.pv_model.proofs.Rights.{Governs-directory_rights, directory_rights-Governs}
+use Rattle.pv_model.proofs.GoverningEntries.{Governs-directory_rights, directory_rights-Governs}
 use Rattle.pv_laws_trees.proofs.Ancestors.{ancestors-above}
-use Rattle.pv_laws_trees.proofs.Members.{any-in, in-any}
+use Rattle.pv_laws_trees.proofs.ListMembers.{any-in, in-any}
 use Rattle.pv_calls_state.specs.OfUnveil.Up.{up}
 use Rattle.pv_audit.specs.Findings.{lesser, least, passing, entries_passing, least_above}
-use Rattle.pv_audit.proofs.LeastOnes.{lesser-none, lesser-assoc, least-same, least-cons, in-passing, passing-in}
+use Rattle.pv_audit.proofs.LeastNumbers.{lesser-none, lesser-assoc, least-same, least-cons, in-passing, passing-in}
 
 -- ---- the entries of a directory and its ancestors
 

@@ -42,16 +42,16 @@ abbrev pub nothing : TableAccess
 nothing = record { gives = None; above = None; writes = false }
 
 -- the access with another name of the file noted
-abbrev pub noted : Tree → Table → TableAccess → ℕ × Bytes → TableAccess
-noted t table table_access name = record {
+abbrev pub with_name_noted : Tree → Table → TableAccess → ℕ × Bytes → TableAccess
+with_name_noted t table table_access name = record {
   gives = lesser table_access.gives (passing opens_or_moves table (governing t table name));
   above = lesser table_access.above (least_above t table name.0);
   writes = table_access.writes || is_some (passing (λ permissions. permissions.w) table (governing t table name));
 }
 
-abbrev pub table_of : Option Process → Table
-table_of None = []
-table_of (Some p) = entries_of_table p.table
+abbrev pub table_entries : Option Process → Table
+table_entries None = []
+table_entries (Some p) = entries_of_table p.table
 
 -- a process for which no name is noted yet
 abbrev pub suspect : ℕ → Suspect
@@ -59,11 +59,11 @@ suspect pid = record { pid = pid; table_access = nothing }
 
 -- a process with another name of the file noted
 abbrev pub note_of : State → ℕ × Bytes → Suspect → Suspect
-note_of s name x = record x { table_access = noted s.tree (table_of (process_at s x.pid)) x.table_access name }
+note_of s name x = record x { table_access = with_name_noted s.tree (table_entries (process_at s x.pid)) x.table_access name }
 
 -- a process with all of these names noted
-abbrev pub noted_by : State → List (ℕ × Bytes) → Suspect → Suspect
-noted_by s names x = fold (λ y name. note_of s name y) x names
+abbrev pub with_names_noted : State → List (ℕ × Bytes) → Suspect → Suspect
+with_names_noted s names x = fold (λ y name. note_of s name y) x names
 
 abbrev pub are_live : State → List Suspect → Bool
 are_live s xs = list_all (λ x. is_some (process_at s x.pid)) xs

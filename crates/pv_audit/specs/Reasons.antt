@@ -16,11 +16,6 @@ use Rattle.pv_audit.specs.declared.table_access.TableAccess.{TableAccess}
 use Rattle.pv_audit.specs.declared.suspects.Suspect.{Suspect}
 use Rattle.pv_audit.specs.Findings.{least}
 
--- the first of some reasons
-abbrev pub first_of : List Why → Option Why
-first_of [] = None
-first_of (why ∷ whys) = Some why
-
 -- an open file is on a node, in a mode that has these permissions
 abbrev pub is_on : ℕ → Perms → Option OpenFile → Bool
 is_on n needed None = false
@@ -30,8 +25,8 @@ is_on n needed (Some file) = (file.node == n) && covers (permissions_of_mode fil
 abbrev pub descriptors_for : Numbered OpenFile → Numbered Descriptor → ℕ → Perms → List ℕ
 descriptors_for files ds n needed = map (λ d. d.0) (filter (λ d. is_on n needed (at_number files d.1.file)) (numbered ds))
 
-abbrev pub is_held : Pledged → Bool
-is_held pledge = has_none_of (ExecPromise ∷ []) pledge.promises || is_some pledge.execpromises
+abbrev pub restrains_execve : Pledged → Bool
+restrains_execve pledge = has_none_of (ExecPromise ∷ []) pledge.promises || is_some pledge.execpromises
 
 -- the reason with a number, if there is one; otherwise a later reason
 abbrev pub by_number : (ℕ → Why) → Option ℕ → Option Why → Option Why
@@ -39,16 +34,16 @@ by_number why None later = later
 by_number why (Some k) later = Some (why k)
 
 -- a reason if the condition is false; otherwise a later reason
-abbrev pub unless : Bool → Why → Option Why → Option Why
-unless true why later = later
-unless false why later = Some why
+abbrev pub reason_unless : Bool → Why → Option Why → Option Why
+reason_unless true why later = later
+reason_unless false why later = Some why
 
 -- the reason why a table leaves the file open
 abbrev pub reason_of_table : ProcessRecord → TableAccess → Option Table → Option Why
 reason_of_table r table_access None = Some NoTable
 reason_of_table r table_access (Some table) =
-    unless r.unveiled.locked NotLocked
-    (by_number Gives table_access.gives (by_number Above table_access.above (unless (is_held r.pledge) Exec None)))
+    reason_unless r.unveiled.locked NotLocked
+    (by_number Gives table_access.gives (by_number Above table_access.above (reason_unless (restrains_execve r.pledge) Exec None)))
 
 -- the first reason why a process is not closed to a file
 abbrev pub reason_of : Numbered OpenFile → ProcessRecord → ℕ → TableAccess → Option Why
@@ -71,7 +66,7 @@ abbrev pub reasons_of_table : ProcessRecord → TableAccess → Option Table →
 reasons_of_table r table_access None = Some NoTable ∷ []
 reasons_of_table r table_access (Some table) =
     reason_if (not r.unveiled.locked) NotLocked ∷ option_map Gives table_access.gives ∷ option_map Above table_access.above
-    ∷ reason_if (not (is_held r.pledge)) Exec ∷ []
+    ∷ reason_if (not (restrains_execve r.pledge)) Exec ∷ []
 
 -- the reasons why a process is not closed to a file
 abbrev pub all_reasons_of : Numbered OpenFile → ProcessRecord → ℕ → TableAccess → List Why
@@ -82,7 +77,7 @@ all_reasons_of files r f table_access =
 
 abbrev pub is_preserved_by : ProcessRecord → TableAccess → Option Table → Bool
 is_preserved_by r table_access None = false
-is_preserved_by r table_access (Some table) = r.unveiled.locked && not table_access.writes && is_held r.pledge
+is_preserved_by r table_access (Some table) = r.unveiled.locked && not table_access.writes && restrains_execve r.pledge
 
 -- a process that is closed to the file can't write it either
 abbrev pub is_preserved : Numbered OpenFile → ProcessRecord → ℕ → TableAccess → Bool
@@ -107,11 +102,11 @@ module _ (s : State) (f : ℕ) where
   abbrev pub preserved_at : Suspect → Bool
   preserved_at x = preserved_for (process_at s x.pid) x.table_access
 
-  abbrev pub leak_of : ℕ → Option Why → Option Leak → Option Leak
-  leak_of pid None later = later
-  leak_of pid (Some why) later = Some (record { pid = pid; why = why })
+  abbrev pub with_leak : ℕ → Option Why → Option Leak → Option Leak
+  with_leak pid None later = later
+  with_leak pid (Some why) later = Some (record { pid = pid; why = why })
 
   -- the first of some processes that is not closed
   abbrev pub leak_among : List Suspect → Option Leak
   leak_among [] = None
-  leak_among (x ∷ xs) = leak_of x.pid (reason_at x) (leak_among xs)
+  leak_among (x ∷ xs) = with_leak x.pid (reason_at x) (leak_among xs)

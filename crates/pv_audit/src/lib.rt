@@ -1,7 +1,7 @@
 //! The audit of a file: whether it is sealed or frozen, or which process is not closed to it, and why.
 //!
 //! `verdicts` audits a file, given its node or a path. The names of the file are enumerated once for all processes.
-//! `suspects` collects for each live process what its unveil table permits under these names (`table_access`,
+//! `suspects` collects for each live process the permissions of its unveil table under these names (`table_access`,
 //! `entries`). `reasons` then decides whether a process is closed to the file. Nothing here allocates.
 #![tactic(auto)]
 

@@ -2,9 +2,9 @@
 ghost use Rattle.std.specs.Prelude.{◌≡◌, not, option_map, IsSome, Some};
 ghost use Rattle.std.specs.List.{list_all};
 ghost use Rattle.pv_audit.specs.Findings.{least};
-ghost use Rattle.pv_audit.specs.Reasons.{all_reasons_of, descriptors_for, first_of, is_held as is_held_over_exec_by, is_preserved, is_on as is_open_on, preserved_at, reason_at, reason_of as first_reason_of, present_reasons, reason_if, reason_of_table as table_reason_of, reasons_of_table as all_table_reasons};
+ghost use Rattle.pv_audit.specs.Reasons.{all_reasons_of, descriptors_for, restrains_execve as is_held_over_exec_by, is_preserved, is_on as is_open_on, preserved_at, reason_at, reason_of as first_reason_of, present_reasons, reason_if, reason_of_table as table_reason_of, reasons_of_table as all_table_reasons};
 ghost use Rattle.pv_model.specs.declared.verdict.Why.TheVariants.{Above, Gives, Reads};
-ghost use Rattle.pv_model.specs.Machine.{permission_r, at_number, contains, leaks, Process, process_at};
+ghost use Rattle.pv_model.specs.Machine.{permission_r, at_number, contains, leaks, Process, process_at, first_of};
 ghost use Rattle.pv_model.specs.Sealed.{has_none_of, is_frozen_to};
 
 use crate::suspects::{Suspect, note_names};

@@ -2,7 +2,7 @@
 ghost use Rattle.std.specs.Prelude.{◌≡◌, map, true, IsTrue, IsSome};
 ghost use Rattle.std.specs.FinMap.Entries.{is_sorted};
 ghost use Rattle.std.specs.Ordering.{nat_cmp};
-ghost use Rattle.pv_audit.specs.Findings.{are_live, note_of, noted_by, suspect};
+ghost use Rattle.pv_audit.specs.Findings.{are_live, note_of, with_names_noted, suspect};
 ghost use Rattle.pv_model.specs.Machine.{live_processes, process_at, is_directory_at, names_of};
 
 use crate::table_access::TableAccess;
@@ -59,7 +59,7 @@ fn note_name(parts: &Parts, suspects: &mut [Suspect], directory: u16, name: &Nam
 /// Enumerates the names of a file, and adds to each process the access that its table gives by them.
 pub(crate) fn note_names(parts: &Parts, node: u16, suspects: &mut [Suspect])
     requires { are_live parts.now suspects.old ≡ true }
-    ensures { suspects.new ≡ map (noted_by parts.now (names_of parts.now.tree node)) suspects.old }
+    ensures { suspects.new ≡ map (with_names_noted parts.now (names_of parts.now.tree node)) suspects.old }
 {
     let tree = parts.tree();
     // The contract of `invariant` states that the tree is well-formed.
@@ -87,7 +87,7 @@ fn live_suspects(parts: &Parts) -> Suspects
 
 /// Returns all live processes in the order of their numbers, with all names of the file noted.
 pub(crate) fn found_suspects(parts: &Parts, node: u16) -> Suspects
-    ensures items { result.items ≡ map (noted_by parts.now (names_of parts.now.tree node)) (map (λ p. suspect p.0) (live_processes parts.now.processes)) }
+    ensures items { result.items ≡ map (with_names_noted parts.now (names_of parts.now.tree node)) (map (λ p. suspect p.0) (live_processes parts.now.processes)) }
     ensures ordered { is_sorted nat_cmp parts.now.processes ≡ true }
 {
     parts.invariant();

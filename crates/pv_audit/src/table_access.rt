@@ -1,6 +1,6 @@
 //! The access that an unveil table gives to a file.
 ghost use Rattle.std.specs.Prelude.{◌≡◌, IsTrue};
-ghost use Rattle.pv_audit.specs.Findings.{nothing, noted};
+ghost use Rattle.pv_audit.specs.Findings.{nothing, with_name_noted};
 ghost use Rattle.pv_model.specs.Machine.{entries_of_table, is_directory_at};
 
 use crate::entries::{least_above, lesser};
@@ -34,7 +34,7 @@ impl TableAccess {
     /// Adds the access that the table gives by another name of the file, in the given directory.
     pub(crate) fn note(&mut self, table: &Table, tree: &Tree, directory: u16, name: &Name)
         requires { IsTrue (is_directory_at tree.now.tree directory) }
-        ensures { self.new ≡ noted tree.now.tree (entries_of_table table.now.table) self.old (directory, name.now) }
+        ensures { self.new ≡ with_name_noted tree.now.tree (entries_of_table table.now.table) self.old (directory, name.now) }
     {
         if let Some(k) = table.name_entry(tree, directory, name.as_slice()) {
             let permissions = table.permissions(k);

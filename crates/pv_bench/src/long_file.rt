@@ -1,6 +1,6 @@
 //! A file of the maximum length.
 ghost use Rattle.std.specs.Prelude.{◌≡◌, ◌-◌, ◌≤◌, ◌++◌, min, length, take, drop, OnOk, OnErr};
-ghost use Rattle.pv_inodes.specs.Files.{IsUsed, bytes_at, written};
+ghost use Rattle.pv_inodes.specs.Files.{IsUsed, inode_bytes_at, written_files};
 ghost use Rattle.pv_model.specs.declared.version.Version.TheVariants.{V1};
 ghost use Rattle.pv_model.specs.Machine.{greatest_length};
 
@@ -63,7 +63,7 @@ impl LongFile {
     ///
     /// Returns the reason if the bytes do not fit. The file then does not change.
     pub fn write(&mut self, at: u32, bytes: &[u8]) -> Result<(), Space>
-        ensures ok { OnOk result (self.new.inodes ≡ written self.old.inodes self.old.number at bytes.now) }
+        ensures ok { OnOk result (self.new.inodes ≡ written_files self.old.inodes self.old.number at bytes.now) }
         ensures err { OnErr result (self.new.inodes ≡ self.old.inodes) }
         ensures number { self.new.number ≡ self.old.number }
         ensures length { self.new.length ≡ self.old.length }
@@ -74,8 +74,8 @@ impl LongFile {
     /// Copies the contents of the file from offset `at` to the front of `buffer`, and returns the number of bytes
     /// copied.
     pub fn read(&self, at: u32, buffer: &mut [u8]) -> usize
-        ensures count { result ≡ min (length buffer.old) (length (bytes_at self.now.inodes self.now.number) - at) }
-        ensures bytes { buffer.new ≡ take result (drop at (bytes_at self.now.inodes self.now.number)) ++ drop result buffer.old }
+        ensures count { result ≡ min (length buffer.old) (length (inode_bytes_at self.now.inodes self.now.number) - at) }
+        ensures bytes { buffer.new ≡ take result (drop at (inode_bytes_at self.now.inodes self.now.number)) ++ drop result buffer.old }
     {
         self.inodes.read_at(self.number, at, buffer)
     }

@@ -1,8 +1,8 @@
 //! `pv_bench`: a benchmark of files and directories on blocks.
 //!
-//! It measures images of both versions in turn. Without arguments it runs a small round and prints what it did and the
-//! checksum of the bytes, which are the same on each run. With the argument `full` it runs a million operations of each
-//! kind and also prints the times.
+//! It measures images of both versions in turn. Without arguments it runs a small round and prints its operations and
+//! the checksum of the bytes, which are the same on each run. With the argument `full` it runs a million operations of
+//! each kind and also prints the times.
 //!
 //! `image` has the sizes of the images, `long_file` the file that is measured, `rounds` the operations on it,
 //! `long_directory` the directory, and `report` prints the results.

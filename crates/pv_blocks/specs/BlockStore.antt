@@ -13,8 +13,8 @@ pub record BlockStore : Type 0 where
   pub first : ℕ
 
 -- the first `count` blocks of some bytes
-abbrev pub blocks_of : ℕ → Bytes → List Bytes
-blocks_of count bytes = map (block bytes) (range_with_len 0 count)
+abbrev pub blocks_in_bytes : ℕ → Bytes → List Bytes
+blocks_in_bytes count bytes = map (block bytes) (range_with_len 0 count)
 
 -- the free flags of the first `count` blocks: a block is free if it is not in the set
 abbrev pub free_outside : BlockSet → ℕ → List Bool
@@ -59,7 +59,7 @@ pub record CopiesUsed (from old new : BlockStore) : Type 0 where
   pub each : (k : ℕ) → block_of new k ≡ used_or_old from old (length from.blocks) k
 
 -- the invariant of a store of blocks
-pub record IsConsistent (bytes : Bytes) (taken : BlockSet) (first count free least : ℕ) : Type 0 where
+pub record IsConsistentStore (bytes : Bytes) (taken : BlockSet) (first count free least : ℕ) : Type 0 where
   pub whole : length bytes ≡ BLOCK * count
   pub first_within : first ≤ count
   pub reserved : (k : ℕ) → k < first → is_member taken k ≡ true

@@ -22,9 +22,9 @@ IsReply performed old pid new (Reported answer) = IsAnswered performed old pid n
 -- ---- waits
 
 -- if the call is a wait(2), it does not block
-abbrev pub continues : State → ℕ → Call → Type 0
-continues s pid Wait = (me : Process) → process_at s pid ≡ Some me → wait s pid me ≢ give (s, waits)
-continues s pid call = ⊤
+abbrev pub DoesNotBlock : State → ℕ → Call → Type 0
+DoesNotBlock s pid Wait = (me : Process) → process_at s pid ≡ Some me → wait s pid me ≢ give (s, waits)
+DoesNotBlock s pid call = ⊤
 
 -- the call is a wait(2) that blocks
 abbrev pub IsBlocked : State → ℕ → Call → Type 0

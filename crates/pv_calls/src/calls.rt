@@ -1,6 +1,6 @@
 //! Calls, from the pledge check to the answer.
 ghost use Rattle.std.specs.Prelude.{◌≡◌, IfErr, IfOk, OnErr, IsTrue, IsSome, true, false};
-ghost use Rattle.pv_calls.specs.Calls.{IsBlocked, IsCarriedOut, IsReply, continues, is_execve};
+ghost use Rattle.pv_calls.specs.Calls.{IsBlocked, IsCarriedOut, IsReply, DoesNotBlock, is_execve};
 ghost use Rattle.pv_calls.specs.Loading.{LoadsIfLive, LoadsProgram};
 ghost use Rattle.pv_laws_states.specs.States.{IsValid, is_call};
 ghost use Rattle.pv_model.specs.declared.call.Call.TheVariants.{Execve, Exit};
@@ -57,7 +57,7 @@ fn dispatch_call<L: Lookup + Drop>(system: &mut System<L>, pid: u32, call: CallR
     requires caller { IsCaller (L.agrees system.old.lookup) system.old.parts pid }
     requires call { IsTrue (is_call (call_of call)) }
     requires no_execve { is_execve (call_of call) ≡ false }
-    requires continues { continues system.old.parts pid (call_of call) }
+    requires continues { DoesNotBlock system.old.parts pid (call_of call) }
     ensures replied { IsReply (λ s me. effect program_of s pid me (call_of call.entry))
         system.old.parts pid system.new.parts result }
     ensures agrees { L.agrees system.new.lookup (find_entry system.new.parts.tree) }
@@ -108,7 +108,7 @@ fn make_other_call<L: Lookup + Drop>(system: &mut System<L>, pid: u32, call: Cal
     requires caller { IsCaller (L.agrees system.old.lookup) system.old.parts pid }
     requires call { IsTrue (is_call (call_of call)) }
     requires no_execve { is_execve (call_of call) ≡ false }
-    requires continues { continues system.old.parts pid (call_of call) }
+    requires continues { DoesNotBlock system.old.parts pid (call_of call) }
     ensures performed { IsAnswered (λ s me. effect program_of s pid me (call_of call.entry))
         system.old.parts pid system.new.parts result }
     ensures agrees { L.agrees system.new.lookup (find_entry system.new.parts.tree) }
@@ -148,7 +148,7 @@ fn make_execve<L: Lookup + Drop>(
 fn is_blocked(parts: &Parts, pid: u32, call: CallRef<'_>) -> bool
     requires { IsSome (process_at parts.now pid) }
     ensures blocked { result ≡ true → IsBlocked parts.now pid (call_of call.entry) }
-    ensures continues { result ≡ false → continues parts.now pid (call_of call.entry) }
+    ensures continues { result ≡ false → DoesNotBlock parts.now pid (call_of call.entry) }
 {
     match call {
         CallRef::Wait => would_wait(parts, pid),

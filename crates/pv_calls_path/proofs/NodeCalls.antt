@@ -1,9 +1,9 @@
 -- Calls that continue with the node at the end of a walk: chdir(2) and execve(2).
 use Rattle.std.proofs.Common.{◌≡◌, ◌∙◌, ℕ, Bool, true, false, not, Option, None, Some, Result, Err, option_map, refl, ap, subst}
 use Rattle.pv_calls_path.specs.Execve.{bytes_to_load}
-use Rattle.pv_calls_path.specs.Reached.{IsFound, IsReached}
-use Rattle.pv_calls_path.proofs.Reaching.{reached_then}
-use Rattle.pv_namei.specs.OfDirs.Trees.{sort_of}
+use Rattle.pv_calls_path.specs.Reached.{IsFound, IsPlaceReached}
+use Rattle.pv_calls_path.proofs.CheckedWalks.{reached_then}
+use Rattle.pv_namei.specs.OfDirs.Trees.{kind_of_node}
 use Rattle.pv_model.specs.declared.errno.Errno.TheVariants.{EACCES, ENOENT, ENOEXEC, ENOTDIR}
 use Rattle.pv_model.specs.declared.fault.ParseFault.{ParseFault}
 use Rattle.pv_model.specs.declared.fault.ParseFault.TheVariants.{Line}
@@ -16,10 +16,10 @@ use Rattle.pv_model.specs.Machine.{Attempt, done, refused, after_walks, demand, 
 use Rattle.pv_model.specs.Walks.{chdir_walk}
 use Rattle.pv_calls_plain.specs.OfCallsState.Changes.{with_directory}
 use Rattle.pv_calls_plain.specs.OfScript.Reading.{RefusesProgram}
-use Rattle.pv_calls_plain.proofs.OfCallsState.Attempts.{given, passed, refused_before, refused_first}
+use Rattle.pv_calls_plain.proofs.OfCallsState.AttemptSequences.{given, passed, refused_before, refused_first}
 
 -- a walk reaches a place at which a node exists
-pub found_there : (s : State) (me : Process) (start : ℕ) (w : Walk) (place : Place) (n : ℕ) → IsReached s me start w place → node_of place ≡ Some n → IsFound s me start w n
+pub found_there : (s : State) (me : Process) (start : ℕ) (w : Walk) (place : Place) (n : ℕ) → IsPlaceReached s me start w place → node_of place ≡ Some n → IsFound s me start w n
 found_there s me start w place n is there rest =
     reached_then s me start w place is (λ place. demand ENOENT (node_of place) >>= rest)
     ∙ ap (after_walks 1) (given (demand ENOENT (node_of place)) n rest (ap (demand ENOENT) there))
@@ -43,14 +43,14 @@ module _ (s : State) (pid : ℕ) (me : Process) (path : Bytes) (n : ℕ) (found 
       ∙ ap (after_walks 1) (passed (refuse_if ENOTDIR (not (is_directory_at s.tree n))) tt (answers (with_process s pid (with_directory n me)) 0) (ap (λ b. refuse_if ENOTDIR (not b)) directory))
 
 -- a node that is not an executable file has no bytes to execute; an executable file has its content
-pub no_bytes : (o : Option Node) (k : Kind) (differs : Bool) → option_map sort_of o ≡ Some k → (k ≡ Executable → differs ≡ false) → differs ≡ true → executable_bytes o ≡ None
+pub no_bytes : (o : Option Node) (k : Kind) (differs : Bool) → option_map kind_of_node o ≡ Some k → (k ≡ Executable → differs ≡ false) → differs ≡ true → executable_bytes o ≡ None
 no_bytes None k differs is same reported = refl
 no_bytes (Some (directory_node entries)) k differs is same reported = refl
 no_bytes (Some (file_node false bytes)) k differs is same reported = refl
 no_bytes (Some (file_node true bytes)) k differs is same reported = let executable : k ≡ Executable = cc in let no = same executable in cc
 no_bytes (Some (link_node text)) k differs is same reported = refl
 
-pub own_bytes : (o : Option Node) (k : Kind) → option_map sort_of o ≡ Some k → k ≡ Executable → executable_bytes o ≡ Some (bytes_of o)
+pub own_bytes : (o : Option Node) (k : Kind) → option_map kind_of_node o ≡ Some k → k ≡ Executable → executable_bytes o ≡ Some (bytes_of o)
 own_bytes None k is executable = cc
 own_bytes (Some (directory_node entries)) k is executable = cc
 own_bytes (Some (file_node false bytes)) k is executable = cc
@@ -58,7 +58,7 @@ own_bytes (Some (file_node true bytes)) k is executable = refl
 own_bytes (Some (link_node text)) k is executable = cc
 
 -- an execve that reaches an executable file has its bytes to load
-pub leads_to : (s : State) (me : Process) (path : Bytes) (place : Place) (n : ℕ) (bytes : Bytes) → IsReached s me me.directory (execve_walk path) place → node_of place ≡ Some n
+pub leads_to : (s : State) (me : Process) (path : Bytes) (place : Place) (n : ℕ) (bytes : Bytes) → IsPlaceReached s me me.directory (execve_walk path) place → node_of place ≡ Some n
     → executable_bytes (node_at s.tree n) ≡ Some bytes → bytes_to_load s me path ≡ done 1 bytes
 leads_to s me path place n bytes is there has = rw (is.walked, is.judged, there, has) refl
 

@@ -6,21 +6,21 @@ use Rattle.pv_calls_plain.specs.declared.answer.Refused.{Refused}
 use Rattle.pv_calls_plain.specs.Space.{space_errno}
 use Rattle.pv_calls_plain.specs.OfCallsState.Changes.{with_node_opened, with_file_made}
 use Rattle.pv_calls_path.specs.Opening.{open_place}
-use Rattle.pv_calls_path.specs.Reached.{IsReached, IsStopped}
-use Rattle.pv_calls_plain.proofs.OfCallsState.Attempts.{passed, refused_before}
-use Rattle.pv_calls_plain.proofs.Room.{crowded}
-use Rattle.pv_calls_path.proofs.Reaching.{reached_then}
+use Rattle.pv_calls_path.specs.Reached.{IsPlaceReached, IsStopped}
+use Rattle.pv_calls_plain.proofs.OfCallsState.AttemptSequences.{passed, refused_before}
+use Rattle.pv_calls_plain.proofs.RoomForCalls.{crowded}
+use Rattle.pv_calls_path.proofs.CheckedWalks.{reached_then}
 use Rattle.pv_calls_path.proofs.NameCalls.{fine_name}
-use Rattle.pv_calls_path.proofs.Naming.{alike_collect, but_collect}
+use Rattle.pv_calls_path.proofs.DirectoryNames.{alike_collect, but_collect}
 use Rattle.pv_namei.specs.OfInodes.declared.space.Space.{Space}
 use Rattle.pv_calls_plain.specs.OfProcs.declared.record.ProcessRecord.{ProcessRecord}
 use Rattle.pv_calls_plain.specs.OfProcs.Parts.{record_of}
-use Rattle.pv_namei.specs.OfTree.Rooms.{refusal}
+use Rattle.pv_namei.specs.OfTree.Rooms.{room_error}
 use Rattle.pv_laws_states.specs.States.{IsValid, IsFinePlace}
-use Rattle.pv_laws_states.proofs.ByOpen.{held-more}
+use Rattle.pv_laws_states.proofs.ValidByOpen.{held-more}
 use Rattle.pv_laws_states.proofs.GrownTrees.{new-below}
 use Rattle.pv_laws_states.proofs.ChangedStates.{my-placed}
-use Rattle.pv_laws_states.proofs.Collect.{held_after, tree-collect}
+use Rattle.pv_laws_states.proofs.CollectedStates.{held_after, tree-collect}
 use Rattle.pv_model.specs.declared.call.Start.{Start}
 use Rattle.pv_model.specs.declared.errno.Errno.{Errno}
 use Rattle.pv_model.specs.declared.errno.Errno.TheVariants.{EINVAL, EMFILE, ENFILE}
@@ -28,9 +28,9 @@ use Rattle.pv_model.specs.declared.open_flags.OpenFlags.{OpenFlags}
 use Rattle.pv_model.specs.declared.outcome.Cause.TheVariants.{Plain}
 use Rattle.pv_model.specs.declared.place.Place.{Place}
 use Rattle.pv_model.specs.Machine.{refused, refuse_if, after_walks, give, ◌>>=◌, ◌>>◌, Bytes, check_start, contradicts, open_at, with_content, node_of, name_of, start_directory, walk_from, judge_for, collect, permissions_of_open, Numbered, least_free, fits, OpenFile, Process, State, process_at, writes, file_node, Tree, find_entry, with_new_node, new_number, IsWellFormed, follow_of, open_walk}
-use Rattle.pv_laws_trees.specs.Found.{Alike, AlikeBut}
-use Rattle.pv_laws_trees.proofs.Edits.{stays-content, stays-new_node}
-use Rattle.pv_laws_trees.proofs.Lookups.{alike-new, alike-content}
+use Rattle.pv_laws_trees.specs.Found.{AreEqualLookups, AreEqualExceptAt}
+use Rattle.pv_laws_trees.proofs.WellFormedChanges.{stays-content, stays-new_node}
+use Rattle.pv_laws_trees.proofs.LookupsAfterChanges.{alike-new, alike-content}
 
 never : (b : Bool) → (b && false) ≡ false
 never true = refl
@@ -57,7 +57,7 @@ low_files fs gs is low = subst (λ (x : Numbered OpenFile). least_free x < 128) 
 
 -- a new file without room
 pub create_crowded : (s : State) (pid : ℕ) (me : Process) (f : OpenFlags) → contradicts f ≡ false → not f.create ≡ false → (place : Place) → node_of place ≡ None
-    → (d : ℕ) (name : Bytes) → name_of place ≡ Some (d, name) → (why : Space) → refusal (collect (with_file_made s pid me f d name)).tree ≡ Some why
+    → (d : ℕ) (name : Bytes) → name_of place ≡ Some (d, name) → (why : Space) → room_error (collect (with_file_made s pid me f d name)).tree ≡ Some why
     → after_walks 1 (open_place s pid me f place) ≡ refused 1 (space_errno why) Plain
 create_crowded s pid me f fine unless place absent d name named why is =
     let makes : f.create ≡ true = not-false f.create unless in
@@ -88,20 +88,20 @@ module _ (s : State) (pid : ℕ) (me : Process) (start : Start) (path : Bytes) (
           pub open_stopped : (r : Refused) → IsStopped s me d (open_walk start path f) r → open_at s pid me start path f ≡ refused r.walks r.errno r.cause
           open_stopped r stopped = open_after ∙ subst (λ e. IsStopped s me e (open_walk start path f) r) (sym is) stopped (open_place s pid me f)
 
-          pub open_reached : (place : Place) → IsReached s me d (open_walk start path f) place → open_at s pid me start path f ≡ after_walks 1 (open_place s pid me f place)
+          pub open_reached : (place : Place) → IsPlaceReached s me d (open_walk start path f) place → open_at s pid me start path f ≡ after_walks 1 (open_place s pid me f place)
           open_reached place reached =
               open_after ∙ reached_then s me (start_directory s me start path) (open_walk start path f) place
-              (subst (λ e. IsReached s me e (open_walk start path f) place) (sym is) reached) (open_place s pid me f)
+              (subst (λ e. IsPlaceReached s me e (open_walk start path f) place) (sym is) reached) (open_place s pid me f)
 
 -- ---- names
 
-cut_found : (t : Tree) → IsWellFormed t → (n : ℕ) (b : Bool) → IsWellFormed (if b then with_content t n [] else t) × Alike (find_entry t) (find_entry (if b then with_content t n [] else t))
+cut_found : (t : Tree) → IsWellFormed t → (n : ℕ) (b : Bool) → IsWellFormed (if b then with_content t n [] else t) × AreEqualLookups (find_entry t) (find_entry (if b then with_content t n [] else t))
 cut_found t w n true = (stays-content t w n [], alike-content t n [])
 cut_found t w n false = (w, λ d q. refl)
 
 -- opening an existing node keeps the names
 pub alike_opened : (s : State) → IsValid s → (pid : ℕ) (me : Process) (f : OpenFlags) (n : ℕ) (new : State) → new ≡ collect (with_node_opened s pid me f n)
-    → Alike (find_entry s.tree) (find_entry new.tree)
+    → AreEqualLookups (find_entry s.tree) (find_entry new.tree)
 alike_opened s whole pid me f n new is d q =
     let cut = cut_found s.tree whole.tree.well_formed n f.truncate in
     alike_collect (with_node_opened s pid me f n) new is cut.0 d q ∙ cut.1 d q
@@ -109,7 +109,7 @@ alike_opened s whole pid me f n new is d q =
 -- opening a new file changes one name
 pub names_opened : (s : State) (whole : IsValid s) (place : Place) (fine : IsFinePlace s.tree place) (d : ℕ) (name : Bytes) → name_of place ≡ Some (d, name) → node_of place ≡ None
     → (pid : ℕ) (me : Process) → process_at s pid ≡ Some me → (f : OpenFlags) → least_free me.descriptors < 16 → least_free s.files < 128 → (new : State)
-    → new ≡ collect (with_file_made s pid me f d name) → fits new.tree ≡ true → AlikeBut d name (find_entry s.tree) (find_entry new.tree)
+    → new ≡ collect (with_file_made s pid me f d name) → fits new.tree ≡ true → AreEqualExceptAt d name (find_entry s.tree) (find_entry new.tree)
 names_opened s whole place fine d name named absent pid me at f few few_files new is fit =
     let u : State = with_file_made s pid me f d name in
     let t : Tree = with_new_node s.tree d name (file_node false []) in

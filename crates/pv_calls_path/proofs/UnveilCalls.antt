@@ -2,10 +2,10 @@
 use Rattle.std.proofs.Common.{◌≡◌, ◌∙◌, ℕ, true, false, Some, is_some, option_map, refl, sym, ap, subst}
 use Rattle.std.proofs.lemmas.Bool.{and_parts}
 use Rattle.pv_calls_plain.specs.OfCallsState.Changes.{unveiled_of, with_table}
-use Rattle.pv_calls_plain.proofs.OfCallsState.Attempts.{after_none}
+use Rattle.pv_calls_plain.proofs.OfCallsState.AttemptSequences.{after_none}
 use Rattle.pv_calls_path.specs.Reached.{IsLost}
 use Rattle.pv_calls_plain.specs.declared.answer.Refused.{Refused}
-use Rattle.pv_calls_path.proofs.Reaching.{recorded}
+use Rattle.pv_calls_path.proofs.CheckedWalks.{recorded}
 use Rattle.pv_laws_states.specs.States.{IsFinePlace, is_target}
 use Rattle.pv_laws_states.proofs.ChangedStates.{target-fine}
 use Rattle.pv_model.specs.declared.errno.Errno.{Errno}
@@ -19,7 +19,7 @@ use Rattle.pv_model.specs.Machine.{Attempt, done, refused, give, Bytes, entries_
 use Rattle.pv_calls_plain.specs.OfProcs.declared.record.ProcessRecord.{ProcessRecord}
 use Rattle.pv_calls_plain.specs.OfProcs.Parts.{record_of}
 use Rattle.pv_calls_plain.specs.OfUnveil.Added.{add_to, put_in}
-use Rattle.pv_laws_trees.proofs.Changes.{directory_is_some}
+use Rattle.pv_laws_trees.proofs.TreeChanges.{directory_is_some}
 
 target_there : (t : Tree) (target : Target) → is_target t target ≡ true → is_some (node_at t (target_directory target)) ≡ true
 target_there t (Directory d) is = directory_is_some (node_at t d) is

@@ -5,7 +5,7 @@ use Rattle.pv_calls_path.specs.declared.execve.ExecveFault.{ExecveFault}
 use Rattle.pv_calls_path.specs.declared.execve.ExecveFault.TheVariants.{Refused, Memory}
 use Rattle.pv_model.specs.declared.errno.Errno.TheVariants.{ENOENT, EACCES}
 use Rattle.pv_model.specs.Machine.{Attempt, ◌>>=◌, ◌>>◌, done, refused, demand, Bytes, execve, executable_bytes, judge, node_of, returns, walk, program_of, Process, State, node_at, execve_walk}
-use Rattle.pv_calls_plain.specs.OfCallsState.Attempts.{collected}
+use Rattle.pv_calls_plain.specs.OfCallsState.Attempts.{collected_attempt}
 
 -- the bytes of the executable file at an execve's path, if the table of the process allows it
 abbrev pub bytes_to_load : State → Process → Bytes → Attempt Bytes
@@ -22,6 +22,6 @@ LeadsToProgram s me path = (bytes : Bytes) × (bytes_to_load s me path ≡ done 
 -- an execve of a live process has this result and leaves this state; memory can be refused only if there is a program
 -- to load
 abbrev pub Executes : State → ℕ → Process → Bytes → State → Result Done ExecveFault → Type 0
-Executes s pid me path new (Ok d) = collected (execve s pid me program_of path) ≡ done d.walks (new, returns d.value)
-Executes s pid me path new (Err (Refused r)) = collected (execve s pid me program_of path) ≡ refused r.walks r.errno r.cause
+Executes s pid me path new (Ok d) = collected_attempt (execve s pid me program_of path) ≡ done d.walks (new, returns d.value)
+Executes s pid me path new (Err (Refused r)) = collected_attempt (execve s pid me program_of path) ≡ refused r.walks r.errno r.cause
 Executes s pid me path new (Err Memory) = LeadsToProgram s me path

@@ -9,17 +9,17 @@ use Rattle.pv_model.specs.Machine.{Attempt, done, refused, after_walks, demand, 
 use Rattle.pv_calls_plain.specs.declared.answer.Refused.{Refused}
 
 -- a walk that the table allows leads from a directory to a place
-pub record IsReached (s : State) (me : Process) (start : ℕ) (w : Walk) (place : Place) : Type 0 where
+pub record IsPlaceReached (s : State) (me : Process) (start : ℕ) (w : Walk) (place : Place) : Type 0 where
   pub walked : walk_from s start w.follow w.path ≡ done 1 place
   pub judged : judge_for s me place w.needed ≡ give tt
   pub fine : IsFinePlace s.tree place
 
--- a walk is refused, and so is every computation that starts with it
+-- a walk is refused, and every computation that starts with it is refused
 abbrev pub IsLost : State → ℕ → Follow → Bytes → Refused → Type 0
 IsLost s start follow path r = (next : Place → Attempt Effect) → (walk_from s start follow path >>= next) ≡ refused r.walks r.errno r.cause
 
 -- a path leads from a directory to a valid place, before the unveil check
-pub record Leads (s : State) (start : ℕ) (follow : Follow) (path : Bytes) (place : Place) : Type 0 where
+pub record LeadsToFinePlace (s : State) (start : ℕ) (follow : Follow) (path : Bytes) (place : Place) : Type 0 where
   pub walked : walk_from s start follow path ≡ done 1 place
   pub fine : IsFinePlace s.tree place
 
@@ -28,7 +28,7 @@ pub record LeadsNowhere (s : State) (start : ℕ) (follow : Follow) (path : Byte
   pub lost : IsLost s start follow path r
   pub few : r.walks ≤ 1
 
--- a walk or its unveil check is refused, and so is every computation that starts with both
+-- a walk or its unveil check is refused, and every computation that starts with both is refused
 abbrev pub IsStopped : State → Process → ℕ → Walk → Refused → Type 0
 IsStopped s me start w r =
     (rest : Place → Attempt Effect)
@@ -62,15 +62,15 @@ IsMissedByBoth s me first second r =
     ≡ refused r.walks r.errno r.cause
 
 -- a node exists at a place, or the place has no name, so every computation that needs a new name there is refused
-abbrev pub IsTaken : Place → Type 0
-IsTaken place = (rest : ℕ × Bytes → Attempt Effect) → (refuse_if EEXIST (is_some (node_of place)) >> (demand EEXIST (name_of place) >>= rest)) ≡ refused 0 EEXIST Plain
+abbrev pub IsNameTaken : Place → Type 0
+IsNameTaken place = (rest : ℕ × Bytes → Attempt Effect) → (refuse_if EEXIST (is_some (node_of place)) >> (demand EEXIST (name_of place) >>= rest)) ≡ refused 0 EEXIST Plain
 
 -- ---- walks of a live process, given by its number
 
 module _ (s : State) (pid : ℕ) where
   -- a walk from the directory `start` leads to a valid place that the table of the process allows
   pub record ReachesFrom (start : Process → ℕ) (w : Walk) (place : Place) : Type 0 where
-    pub reached : (me : Process) → process_at s pid ≡ Some me → IsReached s me (start me) w place
+    pub reached : (me : Process) → process_at s pid ≡ Some me → IsPlaceReached s me (start me) w place
     pub fine : IsFinePlace s.tree place
 
   -- a walk from the directory `start` or its unveil check is refused, and at most one walk was begun
@@ -91,7 +91,7 @@ module _ (s : State) (pid : ℕ) where
 
   -- a walk from the working directory leads to a valid place that the table allows, and node n exists there
   pub record ReachesNode (w : Walk) (place : Place) (n : ℕ) : Type 0 where
-    pub reached : (me : Process) → process_at s pid ≡ Some me → IsReached s me me.directory w place
+    pub reached : (me : Process) → process_at s pid ≡ Some me → IsPlaceReached s me me.directory w place
     pub fine : IsFinePlace s.tree place
     pub there : node_of place ≡ Some n
 

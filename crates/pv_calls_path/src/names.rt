@@ -7,7 +7,7 @@ ghost use Rattle.pv_model.specs.Machine.{after_walks, walk_of, symlink, link, un
 ghost use Rattle.pv_model.specs.Calls.Paths.{make, mkdir};
 ghost use Rattle.pv_calls_path.specs.Caller.{IsCaller};
 ghost use Rattle.pv_calls_path.specs.Linking.{link_at};
-ghost use Rattle.pv_calls_path.specs.Reached.{IsTaken};
+ghost use Rattle.pv_calls_path.specs.Reached.{IsNameTaken};
 ghost use Rattle.pv_calls_plain.specs.Performed.{IsPerformed};
 ghost use Rattle.pv_namei.specs.OfTree.Changes.{new_node};
 
@@ -25,7 +25,7 @@ use pv_namei::tree::PlaceRef;
 fn free_name<'a>(place: &PlaceRef<'a>, walks: u8) -> Result<(u16, &'a [u8]), Refused>
     ensures free { IfOk result (λ _. node_of place.now ≡ None) }
     ensures name { IfOk result (λ p. name_of place.now ≡ Some (p.0, p.1.now)) }
-    ensures taken { IfErr result (λ _. IsTaken place.now) }
+    ensures taken { IfErr result (λ _. IsNameTaken place.now) }
     ensures refused { IfErr result
         (λ r. r ≡ record { walks = walks; errno = Errno.EEXIST; cause = Plain }) }
 {

@@ -8,7 +8,7 @@ ghost use Rattle.pv_calls_path.specs.Caller.{IsCaller};
 ghost use Rattle.pv_calls_path.specs.Opening.{open_place};
 ghost use Rattle.pv_calls_path.specs.Starting.{FailsStart, GivesDirectory, GivesNoDirectory, IsOnDirectory, PassesStart, StartsAt};
 ghost use Rattle.pv_calls_plain.specs.Performed.{IsPerformed};
-ghost use Rattle.pv_laws_trees.specs.Found.{Alike};
+ghost use Rattle.pv_laws_trees.specs.Found.{AreEqualLookups};
 
 use crate::reach::reach_from;
 use crate::system::System;
@@ -85,7 +85,7 @@ fn open_there(parts: &mut Parts, pid: u32, node: u16, flags: OpenFlags) -> Resul
     requires room { CanOpen parts.old.files (process_at parts.old pid) }
     ensures performed { (place : Place) → node_of place ≡ Some node → IsPerformed
         (λ s me. after_walks 1 (open_place s pid me flags place)) parts.old pid parts.new result }
-    ensures found { Alike (find_entry parts.old.tree) (find_entry parts.new.tree) }
+    ensures found { AreEqualLookups (find_entry parts.old.tree) (find_entry parts.new.tree) }
 {
     if flags.create && flags.exclusive {
         return Err(refusal(1, Errno::EEXIST));

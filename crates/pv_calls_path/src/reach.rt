@@ -3,7 +3,7 @@ ghost use Rattle.std.specs.Prelude.{◌≡◌, if◌then◌else◌, IfOk, IfErr,
 ghost use Rattle.pv_laws_states.specs.States.{IsValid, is_text};
 ghost use Rattle.pv_model.specs.Machine.{ends_in_dot, walk_of, find_entry, is_directory_at, begins_walk};
 ghost use Rattle.pv_calls_path.specs.Caller.{IsCaller};
-ghost use Rattle.pv_calls_path.specs.Reached.{Finds, Leads, LeadsNowhere, Misses, MissesOne, Reaches, ReachesFrom, ReachesNode, Stops, StopsFrom, StopsSecond};
+ghost use Rattle.pv_calls_path.specs.Reached.{Finds, LeadsToFinePlace, LeadsNowhere, Misses, MissesOne, Reaches, ReachesFrom, ReachesNode, Stops, StopsFrom, StopsSecond};
 
 use crate::links::LinkRoom;
 use pv_calls_plain::answer::{Refused, refusal};
@@ -53,7 +53,7 @@ pub(crate) fn walk_to<'a, L: Lookup>(
     requires start { IsTrue (is_directory_at parts.now.tree start) }
     requires text { IsTrue (is_text path.now) }
     requires agrees { L.agrees lookup.old (find_entry parts.now.tree) }
-    ensures leads { IfOk result (Leads parts.now start follow path.now) }
+    ensures leads { IfOk result (LeadsToFinePlace parts.now start follow path.now) }
     ensures nowhere { IfErr result (LeadsNowhere parts.now start follow path.now) }
     ensures agrees { L.agrees lookup.new (find_entry parts.now.tree) }
 {

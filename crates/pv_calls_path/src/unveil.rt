@@ -3,7 +3,7 @@ ghost use Rattle.std.specs.Prelude.{◌≡◌, IsTrue, Some, option_copied};
 ghost use Rattle.pv_laws_states.specs.States.{is_text, is_text_or_none};
 ghost use Rattle.pv_model.specs.Machine.{refused, unveil, find_entry, target_of};
 ghost use Rattle.pv_calls_plain.specs.Performed.{IsPerformed};
-ghost use Rattle.pv_calls_plain.specs.OfUnveil.Added.{refusal as refusal_of};
+ghost use Rattle.pv_calls_plain.specs.OfUnveil.Added.{refusal_of_addition as refusal_of};
 ghost use Rattle.pv_calls_path.specs.Caller.{IsCaller};
 
 use crate::reach::walk_to;

@@ -2,10 +2,10 @@
 use Rattle.std.proofs.Common.{◌≡◌, ℕ, zero, suc, ◌<◌, ◌+◌, ℤ, pos, ◌+ℤ◌, Bool, true, false, ◌||◌, [], length, take, drop, Option, None, Some, is_some, refl, ap, ap₂, sym, ◌∙◌, arith}
 use Rattle.std.specs.Prelude.{IsSome, option_map}
 use Rattle.pv_calls_plain.specs.Space.{space_errno, write_some}
-use Rattle.pv_calls_state.specs.Attempts.{collected}
-use Rattle.pv_calls_state.proofs.Alone.{some-at}
-use Rattle.pv_calls_state.proofs.Attempts.{after_none, given, passed, refused_before, refused_first}
-use Rattle.pv_calls_plain.proofs.Room.{roomy, crowded}
+use Rattle.pv_calls_state.specs.Attempts.{collected_attempt}
+use Rattle.pv_calls_state.proofs.UncountedChanges.{some-at}
+use Rattle.pv_calls_state.proofs.AttemptSequences.{after_none, given, passed, refused_before, refused_first}
+use Rattle.pv_calls_plain.proofs.RoomForCalls.{roomy, crowded}
 use Rattle.pv_calls_state.specs.OfInodes.declared.space.Space.{Space}
 use Rattle.pv_laws_states.specs.States.{IsValid}
 use Rattle.pv_model.specs.declared.call.Whence.{Whence}
@@ -16,7 +16,7 @@ use Rattle.pv_model.specs.Machine.{update, update_live, with_front, done, refuse
 use Rattle.pv_model.specs.Calls.Descriptors.{with_bytes_written}
 use Rattle.pv_laws_states.proofs.Processes.{files-update}
 use Rattle.pv_laws_states.proofs.ChangedStates.{file_or_directory}
-use Rattle.pv_calls_state.specs.OfTree.Rooms.{refusal}
+use Rattle.pv_calls_state.specs.OfTree.Rooms.{room_error}
 
 -- a part of an optional value that is present
 pub part-is : {X Y : Type 0} (g : X → Y) (o : Option X) (x : X) (y : Y) → option_map g o ≡ Some y → o ≡ Some x → y ≡ g x
@@ -144,15 +144,15 @@ module _ (s : State) (pid : ℕ) (me : Process) (k : ℕ) (f : OpenFile) (count 
     rest = passed (refuse_if EFBIG (is_past_greatest s.tree (write_end s pid me f count))) tt _ (ap (refuse_if EFBIG) (past false short))
 
     -- a write without room
-    pub some-crowded : (why : Space) → refusal (collect written).tree ≡ Some why → write_some s pid me k f count ≡ refused 0 (space_errno why) Plain
+    pub some-crowded : (why : Space) → room_error (collect written).tree ≡ Some why → write_some s pid me k f count ≡ refused 0 (space_errno why) Plain
     some-crowded why is =
         rest ∙ refused_first (with_room (after_write s pid me k f count)) _ 0 (space_errno why) Plain
-        (crowded (after_write s pid me k f count) why (ap (λ x. refusal (collect x).tree) after-is ∙ is))
+        (crowded (after_write s pid me k f count) why (ap (λ x. room_error (collect x).tree) after-is ∙ is))
 
     pub some-written : (new : State) → new ≡ collect written → is_too_long new.tree ≡ false → fits new.tree ≡ true
-        → collected (write_some s pid me k f count) ≡ done 0 (new, returns count)
+        → collected_attempt (write_some s pid me k f count) ≡ done 0 (new, returns count)
     some-written new is long fit =
         let same : collect (after_write s pid me k f count) ≡ new = ap collect after-is ∙ sym is in
-        ap collected (rest ∙ given (with_room (after_write s pid me k f count)) (after_write s pid me k f count) (λ s. answers s count)
+        ap collected_attempt (rest ∙ given (with_room (after_write s pid me k f count)) (after_write s pid me k f count) (λ s. answers s count)
         (roomy (after_write s pid me k f count) (ap (λ (x : State). is_too_long x.tree) same ∙ long) (ap (λ (x : State). fits x.tree) same ∙ fit)))
         ∙ ap (λ x. done 0 (x, returns count)) same

@@ -2,7 +2,7 @@
 use Rattle.std.specs.Prelude.{◌≡◌, ◌≤◌, ℕ, ℤ, length, IfOk, OnErr, Some, Result, Ok, Err}
 use Rattle.pv_model.specs.declared.limits.TheConstants.{NUMBER}
 use Rattle.pv_model.specs.Machine.{Answered, answer_by_attempt, update, with_front, Attempt, done, refused, Bytes, Effect, returns, returns_bytes, open_file, at_number, OpenFile, Process, State, process_at}
-use Rattle.pv_calls_state.specs.Attempts.{collected}
+use Rattle.pv_calls_state.specs.Attempts.{collected_attempt}
 use Rattle.pv_calls_plain.specs.declared.answer.Answer.{Answer}
 use Rattle.pv_calls_plain.specs.declared.answer.Done.{Done}
 use Rattle.pv_calls_plain.specs.declared.answer.Refused.{Refused}
@@ -24,7 +24,7 @@ IsAnswered performed old pid new answer =
 -- a system call of a live process has this result and leaves this state: it is the attempt of the definitions with
 -- unreferenced nodes collected, a refusal changes nothing, and the value fits a register
 pub record IsPerformed (performed : State → Process → Attempt Effect) (old : State) (pid : ℕ) (new : State) (result : Result Done Refused) : Type 0 where
-  pub as_defined : (me : Process) → process_at old pid ≡ Some me → collected (performed old me) ≡ attempt_of new result
+  pub as_defined : (me : Process) → process_at old pid ≡ Some me → collected_attempt (performed old me) ≡ attempt_of new result
   pub unchanged : OnErr result (new ≡ old)
   pub small : IfOk result (λ d. d.value ≤ NUMBER)
 

@@ -5,7 +5,7 @@ use Rattle.pv_calls_state.specs.OfInodes.declared.space.Space.TheVariants.{Full,
 use Rattle.pv_model.specs.declared.errno.Errno.{Errno}
 use Rattle.pv_model.specs.declared.errno.Errno.TheVariants.{EFBIG, ENOSPC}
 use Rattle.pv_model.specs.Machine.{Attempt, ◌>>=◌, ◌>>◌, refuse_if, is_past_greatest, write_end, after_write, Effect, answers, with_room, at_number, OpenFile, Process, State, process_at}
-use Rattle.pv_calls_state.specs.Attempts.{collected}
+use Rattle.pv_calls_state.specs.Attempts.{collected_attempt}
 use Rattle.pv_calls_plain.specs.declared.answer.Done.{Done}
 use Rattle.pv_calls_plain.specs.declared.answer.Refused.{Refused}
 use Rattle.pv_calls_plain.specs.Performed.{attempt_of}
@@ -23,7 +23,7 @@ write_some s pid me k file count = do
   answers roomy count
 
 -- such a write of a live process through an open file has this result and leaves this state
-abbrev pub Writes : State → ℕ → ℕ → ℕ → State → Result Done Refused → Type 0
-Writes old pid k count new result =
+abbrev pub WritesThrough : State → ℕ → ℕ → ℕ → State → Result Done Refused → Type 0
+WritesThrough old pid k count new result =
     (me : Process) (file : OpenFile) → process_at old pid ≡ Some me → at_number old.files k ≡ Some file
-    → collected (write_some old pid me k file count) ≡ attempt_of new result
+    → collected_attempt (write_some old pid me k file count) ≡ attempt_of new result

@@ -3,7 +3,7 @@ ghost use Rattle.std.specs.Prelude.{◌≡◌, ◌+◌, ◌≤◌, length, IsSom
 ghost use Rattle.pv_model.specs.declared.limits.TheConstants.{NUMBER};
 ghost use Rattle.pv_model.specs.declared.outcome.Cause.TheVariants.{Plain};
 ghost use Rattle.pv_model.specs.Machine.{answer_by_attempt, update, with_front, Attempt, done as done_attempt, Bytes, Effect, returns_bytes, collect, Process, State, process_at};
-ghost use Rattle.pv_calls_state.specs.Attempts.{collected};
+ghost use Rattle.pv_calls_state.specs.Attempts.{collected_attempt};
 ghost use Rattle.pv_calls_plain.specs.Performed.{attempt_of, answered};
 ghost use Rattle.pv_calls_plain.specs.Space.{space_errno};
 
@@ -76,7 +76,7 @@ pub fn report(parts: &mut Parts, pid: u32, performed: Result<Done, Refused>) -> 
     requires live { IsSome (process_at parts.old pid) }
     requires small { IfOk performed (λ d. d.value ≤ NUMBER) }
     ensures reported { (before s : State) (me : Process) (a : Attempt Effect)
-        → collected a ≡ attempt_of parts.old performed → OnErr performed (parts.old ≡ s)
+        → collected_attempt a ≡ attempt_of parts.old performed → OnErr performed (parts.old ≡ s)
         → answer_by_attempt before s pid me a ≡ answered parts.new result }
     ensures tree { parts.new.tree ≡ parts.old.tree }
 {

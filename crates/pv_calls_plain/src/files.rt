@@ -5,7 +5,7 @@ ghost use Rattle.pv_model.specs.declared.outcome.Cause.TheVariants.{Plain};
 ghost use Rattle.pv_model.specs.Machine.{refused, fstat, ftruncate, getdents, is_past_greatest, lseek, next_name, read, seek_base, within, write, write_place, at_number, OpenFile, Process, process_at, reads, writes, entries_at, is_directory_at};
 ghost use Rattle.pv_calls_state.specs.Writing.{IsOnFile};
 ghost use Rattle.pv_calls_plain.specs.Seeking.{IsSeekable};
-ghost use Rattle.pv_calls_plain.specs.Space.{Writes};
+ghost use Rattle.pv_calls_plain.specs.Space.{WritesThrough};
 ghost use Rattle.pv_calls_plain.specs.Performed.{GivesFront, IsAnswered, IsPerformed};
 
 use crate::answer::{
@@ -166,7 +166,7 @@ fn write_bytes(parts: &mut Parts, pid: u32, file: usize, count: usize) -> Result
     requires some { 0 < count }
     requires few { count ≤ BUFFER }
     requires on_file { IsOnFile parts.old file }
-    ensures performed { Writes parts.old pid file count parts.new result }
+    ensures performed { WritesThrough parts.old pid file count parts.new result }
     ensures unchanged { OnErr result (parts.new ≡ parts.old) }
     ensures small { IfOk result (λ d. d.value ≤ BUFFER) }
 {

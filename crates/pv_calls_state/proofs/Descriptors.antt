@@ -10,17 +10,17 @@ use Rattle.pv_model.specs.declared.limits.TheConstants.{DESCRIPTORS}
 use Rattle.pv_model.specs.declared.outcome.Cause.TheVariants.{Plain}
 use Rattle.pv_model.specs.Machine.{done, refused, after_walks, demand, refuse_if, ◌>>=◌, ◌>>◌, close, dup, dup2, within, is_number, without_descriptor, with_descriptor, answers, returns, descriptor_at, held_by_process, collect, Numbered, at_number, with_number, least_free, Descriptor, Process, State, with_process as state_with_process}
 use Rattle.pv_model.specs.Calls.Descriptors.{with_duplicate}
-use Rattle.pv_procs.specs.ProcessTable.{ProcessTable, with_process}
+use Rattle.pv_procs.specs.ProcessTable.{ProcessTable, table_with_process}
 use Rattle.pv_procs.specs.OfTree.Holding.{HeldTree, holds_at, collected}
-use Rattle.pv_laws_trees.proofs.Numbered.{least_free-free}
-use Rattle.pv_calls_state.specs.Attempts.{collected as collected_attempt}
+use Rattle.pv_laws_trees.proofs.NumberedMaps.{least_free-free}
+use Rattle.pv_calls_state.specs.Attempts.{collected_attempt}
 use Rattle.pv_calls_state.specs.Changes.{with_descriptors}
 use Rattle.pv_calls_state.specs.Counts.{state_of, times, open_nodes, IsCountedUp}
-use Rattle.pv_calls_state.specs.Releasing.{files_on, at_most}
-use Rattle.pv_calls_state.proofs.Collecting.{one_if}
-use Rattle.pv_calls_state.proofs.Counting.{of_place, times-one, times-with_number, times-without_number}
-use Rattle.pv_calls_state.proofs.Releasing.{of_file}
-use Rattle.pv_calls_state.proofs.Changing.{IsBefore, placed, state-put, counted-changed, collected-changed}
+use Rattle.pv_calls_state.specs.Releasing.{files_on, at_most_one}
+use Rattle.pv_calls_state.proofs.CollectionByCounts.{one_if}
+use Rattle.pv_calls_state.proofs.ReferenceCounting.{of_place, times-one, times-with_number, times-without_number}
+use Rattle.pv_calls_state.proofs.RemovedUsers.{of_file}
+use Rattle.pv_calls_state.proofs.ProcessChanges.{IsBefore, placed, state-put, counted-changed, collected-changed}
 
 -- ---- lookups
 
@@ -43,15 +43,15 @@ pub times-given : (k : ℕ) (ds : Numbered Descriptor) (x : Descriptor) → time
 times-given k ds x =
     omega (arith, times-with_number of_file k ds (least_free ds) x, ap (λ o. times k (of_place of_file o)) (least_free-free ds), times-one k x.file)
 
-at_most-place : (k : ℕ) (o : Option Descriptor) → times k (at_most (option_map (λ e. e.file) o)) ≡ times k (of_place of_file o)
-at_most-place k None = refl
-at_most-place k (Some x) = refl
+at_most_one-place : (k : ℕ) (o : Option Descriptor) → times k (at_most_one (option_map (λ e. e.file) o)) ≡ times k (of_place of_file o)
+at_most_one-place k None = refl
+at_most_one-place k (Some x) = refl
 
 -- a descriptor in place of an earlier one
 pub times-set : (k : ℕ) (ds : Numbered Descriptor) (n : ℕ) (x : Descriptor) (left : Option ℕ) → left ≡ option_map (λ e. e.file) (at_number ds n)
-    → times k (files_on (with_number ds n x)) + times k (at_most left) ≡ times k (files_on ds) + one_if x.file k
+    → times k (files_on (with_number ds n x)) + times k (at_most_one left) ≡ times k (files_on ds) + one_if x.file k
 times-set k ds n x left is =
-    omega (arith, times-with_number of_file k ds n x, ap (λ o. times k (at_most o)) is, at_most-place k (at_number ds n), times-one k x.file)
+    omega (arith, times-with_number of_file k ds n x, ap (λ o. times k (at_most_one o)) is, at_most_one-place k (at_number ds n), times-one k x.file)
 
 module _ (t : HeldTree) (c : Counted) (ps : ProcessTable) (pid : ℕ) (me : Process) (is : IsBefore t c ps pid me) where
   -- each descriptor refers to an open file
@@ -69,7 +69,7 @@ module _ (t : HeldTree) (c : Counted) (ps : ProcessTable) (pid : ℕ) (me : Proc
       by (Some x) there = there x refl
 
   -- a process with other descriptors, and the users of its open files
-  module _ (u : HeldTree) (d : Counted) (qs : ProcessTable) (ds : Numbered Descriptor) (put : qs ≡ with_process ps pid (with_descriptors ds me))
+  module _ (u : HeldTree) (d : Counted) (qs : ProcessTable) (ds : Numbered Descriptor) (put : qs ≡ table_with_process ps pid (with_descriptors ds me))
       (users : (k : ℕ) → slice_index d.users k + times k (files_on me.descriptors) ≡ slice_index c.users k + times k (files_on ds))
       (holds : (n : ℕ) → holds_at u n + times n (open_nodes c.files) ≡ holds_at t n + times n (open_nodes d.files)) where
     both : (n : ℕ) → (holds_at u n + times n (held_by_process me)) + times n (open_nodes c.files)

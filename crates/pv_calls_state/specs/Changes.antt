@@ -7,7 +7,7 @@ use Rattle.pv_model.specs.declared.target.Target.{Target}
 use Rattle.pv_model.specs.Machine.{give, Bytes, with_content, with_open_file, without_descriptor, entries_of_table, bytes_of, collect, inside, next, Numbered, with_number, least_free, Descriptor, Process, State, process_at, with_process, with_tree, Tree, file_node, new_number, node_at, with_new_node, Table}
 use Rattle.pv_procs.specs.declared.processes.Fetched.{Fetched}
 use Rattle.pv_procs.specs.declared.processes.Fetched.TheVariants.{Gone, Register, Call}
-use Rattle.pv_procs.specs.ProcessTable.{ProcessTable, with_process as process_put}
+use Rattle.pv_procs.specs.ProcessTable.{ProcessTable, table_with_process as process_put}
 use Rattle.pv_procs.specs.Turns.{CallsNext}
 use Rattle.pv_procs.specs.OfScript.Passing.{Passes}
 use Rattle.pv_procs.specs.OfTree.Rooms.{ChangesIfRoom}

@@ -5,7 +5,7 @@ use Rattle.pv_model.specs.declared.limits.TheConstants.{DESCRIPTORS, OPEN_FILES}
 use Rattle.pv_model.specs.declared.open_flags.OpenFlags.{OpenFlags}
 use Rattle.pv_model.specs.Machine.{Bytes, collect, Numbered, least_free, OpenFile, Process, State, process_at}
 use Rattle.pv_procs.specs.OfTree.Holding.{HeldTree, holds_at}
-use Rattle.pv_procs.specs.OfTree.Rooms.{refusal}
+use Rattle.pv_procs.specs.OfTree.Rooms.{room_error}
 use Rattle.pv_calls_state.specs.Changes.{with_node_opened, with_file_made}
 
 -- a process, if it is live, has a free descriptor, and there is a free open file
@@ -35,5 +35,5 @@ module _ (s : State) (pid : ℕ) (flags : OpenFlags) where
 
   -- there is no room for such a file, and nothing changed
   pub record LacksRoomForFile (directory : ℕ) (name : Bytes) (new : State) (why : Space) : Type 0 where
-    pub refused : (me : Process) → process_at s pid ≡ Some me → refusal (collect (with_file_made s pid me flags directory name)).tree ≡ Some why
+    pub refused : (me : Process) → process_at s pid ≡ Some me → room_error (collect (with_file_made s pid me flags directory name)).tree ≡ Some why
     pub unchanged : new ≡ s

@@ -17,11 +17,11 @@ if_marked (Some d) = if d.close_on_exec then Some d else None
 abbrev pub marked_of : Numbered Descriptor → Numbered Descriptor
 marked_of ds = map if_marked ds
 
-abbrev pub at_most : Option ℕ → List ℕ
-at_most None = []
-at_most (Some n) = n ∷ []
+abbrev pub at_most_one : Option ℕ → List ℕ
+at_most_one None = []
+at_most_one (Some n) = n ∷ []
 
--- each node has at least as many references as there are open files on it
+-- the number of references of each node is at least the number of open files on it
 pub record HoldsOpened (tree : HeldTree) (counted : Counted) : Type 0 where
   pub each : (n : ℕ) → times n (open_nodes counted.files) ≤ holds_at tree n
 
@@ -34,7 +34,7 @@ pub record Releases (all left : List ℕ) (tree : HeldTree) (counted : Counted) 
   pub fewer : (n : ℕ) → holds_at after n ≤ holds_at tree n
   pub nodes : after.tree ≡ collected tree.tree after.holds
 
--- the users `all` except `left` are counted once more
+-- the users `all` except `left` are counted again
 pub record Shares (all left : List ℕ) (counted shared : Counted) : Type 0 where
   pub users : (k : ℕ) → slice_index shared.users k + times k left ≡ slice_index counted.users k + times k all
   pub files : shared.files ≡ counted.files

@@ -3,7 +3,7 @@ use Rattle.std.specs.Prelude.{◌≡◌, ℕ, take, IsSome, IsTrue, Some}
 use Rattle.pv_procs.specs.OfTree.OfInodes.declared.space.Space.{Space}
 use Rattle.pv_model.specs.Calls.Descriptors.{with_bytes_written}
 use Rattle.pv_model.specs.Machine.{collect, at_number, is_file, OpenFile, Process, State, process_at, node_at}
-use Rattle.pv_procs.specs.OfTree.Rooms.{refusal}
+use Rattle.pv_procs.specs.OfTree.Rooms.{room_error}
 
 -- a number of an open file that refers to a file, not to a directory or a link
 pub record IsOnFile (s : State) (file : ℕ) : Type 0 where
@@ -21,4 +21,4 @@ module _ (s : State) (pid file at count : ℕ) where
   abbrev pub LacksRoomForFront : Space → Type 0
   LacksRoomForFront why =
       (me : Process) (f : OpenFile) → process_at s pid ≡ Some me → at_number s.files file ≡ Some f
-      → refusal (collect (with_bytes_written s pid me file f at (take count me.buffer))).tree ≡ Some why
+      → room_error (collect (with_bytes_written s pid me file f at (take count me.buffer))).tree ≡ Some why

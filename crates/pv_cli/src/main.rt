@@ -1,9 +1,10 @@
 //! `pvsim`: the program of `pv_cli_line`, over the files and streams of the operating system.
 //!
 //! `main` passes the words, the files and the standard streams to `run`. The output is buffered, so that many small
-//! writes are one system call, except during a search, which writes at once what it finds. Without arguments, and with
+//! writes are one system call, except during a search, which writes its findings at once. Without arguments, and with
 //! a terminal as standard input, the program first says that it reads a bundle. If the standard error is a terminal, a
-//! search shows its progress there. The contract of `run`, over any files and streams, is what is proved of the program.
+//! search shows its progress there. The contract of `run`, over any files and streams, states everything that is proved
+//! of the program.
 #![tactic(auto)]
 
 use pv_cli_host::cli_commands::HostSystem;

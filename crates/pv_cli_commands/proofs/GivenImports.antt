@@ -16,7 +16,7 @@ use Rattle.pv_source.specs.Given.{TranslatesSource}
 use Rattle.pv_source.specs.declared.source.SourceStop.{SourceStop}
 use Rattle.pv_cli_commands.specs.declared.fault.Fault.TheVariants.{Run, Source}
 use Rattle.pv_cli_commands.specs.declared.importing.Wanted.{Wanted}
-use Rattle.pv_cli_commands.specs.Faults.{Answer}
+use Rattle.pv_cli_commands.specs.Faults.{CommandResult}
 use Rattle.pv_cli_commands.specs.Importing.{ImportsDirectory, ImportsText, ImportsTranslation, ReadsText}
 use Rattle.pv_cli_commands.specs.Streams.{Disk}
 
@@ -25,7 +25,7 @@ text_read : {S : Type 0} (reading : Reading S) (first last : S) (text : Bytes) (
 text_read reading first last text (Ok m) is h = subst (λ o. IfSome o (λ bytes. GivesManifestOf (Ok m) (read_manifest_of bytes))) is h.read
 text_read reading first last text (Err fault) is h = subst (λ o. IfSome o (λ bytes. RefusesMachine fault (asked_manifest bytes))) is h.refused
 
-module _ {F R V E : Type 0} (disk : Disk F R V) (reporting : Writing E) (entries : Bytes → Option HostEntries) (wanted : Wanted) (answer : Answer) where
+module _ {F R V E : Type 0} (disk : Disk F R V) (reporting : Writing E) (entries : Bytes → Option HostEntries) (wanted : Wanted) (answer : CommandResult) where
   module _ {S : Type 0} (reading : Reading S) (first last : S) (text : Bytes) (is : reading.remaining first ≡ Some text) (unreported reported : E) where
     -- the entries of the manifest in a text were imported
     pub text_imported : (m : Manifest) (given : List Entry) → ReadsManifest reading first last (Ok m) → given ≡ m.entries.items
@@ -33,7 +33,7 @@ module _ {F R V E : Type 0} (disk : Disk F R V) (reporting : Writing E) (entries
     text_imported m given reads same imported =
         (Ok m, text_read reading first last text (Ok m) is reads, subst (λ es. ImportsDirectory disk reporting entries (map entry_of_line es) wanted unreported reported answer) same imported)
 
-    -- the text is no manifest
+    -- the text is not a manifest
     pub text_refused : (fault : RunFault) → ReadsManifest reading first last (Err fault) → answer ≡ Err (Run fault) → reported ≡ unreported
         → ImportsText disk reporting entries text wanted unreported reported answer
     text_refused fault reads stopped preserved = (Err fault, text_read reading first last text (Err fault) is reads, (stopped, preserved))

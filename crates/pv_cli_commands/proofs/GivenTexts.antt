@@ -15,12 +15,12 @@ use Rattle.pv_streams.specs.Sources.{FailsToGive}
 use Rattle.pv_cli_commands.specs.declared.command.ScheduleInput.{ScheduleInput}
 use Rattle.pv_cli_commands.specs.declared.command.ScheduleInput.TheVariants.{File as InFile, Turns as AsTurns}
 use Rattle.pv_cli_commands.specs.declared.fault.Fault.TheVariants.{Run, Listing, Migrating, Asking, Source, Importing, Exporting}
-use Rattle.pv_cli_commands.specs.Asking.{AsksBeside, AsksGiven, AsksUnder, AsksSource, AsksTranslation, AsksTreeSource, GivenText, given_text, whole_text}
-use Rattle.pv_cli_commands.specs.Faults.{Answer, IsAsked}
+use Rattle.pv_cli_commands.specs.Asking.{AsksOfInputAndFile, AsksGiven, AsksUnder, AsksSource, AsksTranslation, AsksTreeSource, GivenText, given_text, text_of_bytes}
+use Rattle.pv_cli_commands.specs.Faults.{CommandResult, IsQuestionResult}
 use Rattle.pv_cli_commands.specs.Streams.{Disk}
 
--- what follows from the result of any question follows from that of this one
-asked_by : {P Q : Result (Unit {0}) AskStop → Type 0} → ((result : Result (Unit {0}) AskStop) → P result → Q result) → (answer : Answer) → IsAsked P answer → IsAsked Q answer
+-- a consequence of the result of any question is a consequence of the result of this one
+asked_by : {P Q : Result (Unit {0}) AskStop → Type 0} → ((result : Result (Unit {0}) AskStop) → P result → Q result) → (answer : CommandResult) → IsQuestionResult P answer → IsQuestionResult Q answer
 asked_by f (Ok done) it = f (Ok done) it
 asked_by f (Err (Asking stop)) it = f (Err stop) it
 asked_by f (Err (Run fault)) it = absurd it
@@ -36,19 +36,19 @@ module _ {S : Type 0} (reading : Reading S) where
   state_of s = record { rest = unwrap_or (reading.remaining s) []; given = reading.given s }
 
   module _ (first last : S) (text : Bytes) (is : reading.remaining first ≡ Some text) (new : reading.given first ≡ 0) (quiet : reading.failures first ≡ 0) (quiet_last : reading.failures last ≡ 0) where
-    fails : FailsToGive reading first last → FailsToGive given_text (whole_text text) (state_of last)
+    fails : FailsToGive reading first last → FailsToGive given_text (text_of_bytes text) (state_of last)
     fails h = rw (is, new, quiet, quiet_last) at h
 
-    state_first : state_of first ≡ whole_text text
+    state_first : state_of first ≡ text_of_bytes text
     state_first = rw (is, new) refl
 
-    fails_or : {P : Type 0} → FailsToGive reading first last ⊎ P → FailsToGive given_text (whole_text text) (state_of last) ⊎ P
+    fails_or : {P : Type 0} → FailsToGive reading first last ⊎ P → FailsToGive given_text (text_of_bytes text) (state_of last) ⊎ P
     fails_or (inl gives) = inl (fails gives)
     fails_or (inr other) = inr other
 
     module _ {W : Type 0} (writing : Writing W) (may_stop : AskStop → Type 0) (before after : W) (result : Result (Unit {0}) AskStop) where
       answers_text : (answered_by : Bytes → Text) → AnswersOne reading writing may_stop answered_by first last before after result
-          → AnswersOne given_text writing may_stop answered_by (whole_text text) (state_of last) before after result
+          → AnswersOne given_text writing may_stop answered_by (text_of_bytes text) (state_of last) before after result
       answers_text answered_by h = record {
         answered = rw is at h.answered;
         refused = rw is at h.refused;
@@ -62,7 +62,7 @@ module _ {S : Type 0} (reading : Reading S) where
 
       answers_beside : {T : Type 0} (turns : Reading T) (answered_by : Bytes → Bytes → Text) (given given_last : T)
           → AnswersTwo reading turns writing may_stop answered_by first last given given_last before after result
-          → AnswersTwo given_text turns writing may_stop answered_by (whole_text text) (state_of last) given given_last before after result
+          → AnswersTwo given_text turns writing may_stop answered_by (text_of_bytes text) (state_of last) given given_last before after result
       answers_beside turns answered_by given given_last h = record {
         answered = rw is at h.answered;
         refused = rw is at h.refused;
@@ -74,18 +74,18 @@ module _ {S : Type 0} (reading : Reading S) where
         write = h.write;
       }
 
-    module _ {W : Type 0} (writing : Writing W) (before after : W) (answer : Answer) where
+    module _ {W : Type 0} (writing : Writing W) (before after : W) (answer : CommandResult) where
       -- an answer from the source is one from the text
       pub asks_text : (may_stop : AskStop → Type 0) (answered_by : Bytes → Text) → AsksSource reading writing may_stop answered_by first last before after answer
-          → AsksSource given_text writing may_stop answered_by (whole_text text) (state_of last) before after answer
+          → AsksSource given_text writing may_stop answered_by (text_of_bytes text) (state_of last) before after answer
       asks_text may_stop answered_by h = record {
         asked = asked_by (λ result. answers_text writing may_stop before after result answered_by) answer h.asked;
         flushed = h.flushed;
       }
 
       module _ {F R V : Type 0} (disk : Disk F R V) (files : F) where
-        asks_beside : (may_stop : AskStop → Type 0) (answered_by : Bytes → Bytes → Text) (name : Bytes) → AsksBeside disk reading writing may_stop answered_by files name first last before after answer
-            → AsksBeside disk given_text writing may_stop answered_by files name (whole_text text) (state_of last) before after answer
+        asks_beside : (may_stop : AskStop → Type 0) (answered_by : Bytes → Bytes → Text) (name : Bytes) → AsksOfInputAndFile disk reading writing may_stop answered_by files name first last before after answer
+            → AsksOfInputAndFile disk given_text writing may_stop answered_by files name (text_of_bytes text) (state_of last) before after answer
         asks_beside may_stop answered_by name (inl h) = inl (
           h.0,
           h.1,
@@ -98,16 +98,16 @@ module _ {S : Type 0} (reading : Reading S) where
         asks_beside may_stop answered_by name (inr h) = inr (h.0, h.1, ap state_of h.2 ∙ state_first, h.3)
 
         pub asks_given : (question : RunQuestion) (schedule : Option ScheduleInput) → AsksUnder disk reading writing files question schedule first last before after answer
-            → AsksUnder disk given_text writing files question schedule (whole_text text) (state_of last) before after answer
+            → AsksUnder disk given_text writing files question schedule (text_of_bytes text) (state_of last) before after answer
         asks_given question None h = asks_text _ _ h
         asks_given question (Some (InFile schedule)) h = asks_beside _ _ schedule.now h
         asks_given question (Some (AsTurns turns)) h = asks_text _ _ h
 
--- an answer about the tree from a source that gives a whole text is one from the text
-pub text_answer : {S W : Type 0} {reading : Reading S} {writing : Writing W} {may_stop : AskStop → Type 0} {answered_by : Bytes → Text} {complete_by : Bytes → Bool} {first last : S} {before after : W} {answer : Answer}
+-- an answer about the tree from a source that gives a complete text is one from the text
+pub text_answer : {S W : Type 0} {reading : Reading S} {writing : Writing W} {may_stop : AskStop → Type 0} {answered_by : Bytes → Text} {complete_by : Bytes → Bool} {first last : S} {before after : W} {answer : CommandResult}
     → AsksTreeSource reading writing may_stop answered_by complete_by first last before after answer
     → (text : Bytes) → reading.remaining first ≡ Some text → reading.given first ≡ 0 → reading.failures first ≡ 0 → reading.failures last ≡ 0
-    → (t : GivenText) × AsksTreeSource given_text writing may_stop answered_by complete_by (whole_text text) t before after answer
+    → (t : GivenText) × AsksTreeSource given_text writing may_stop answered_by complete_by (text_of_bytes text) t before after answer
 text_answer {reading = reading} {writing = writing} {may_stop = may_stop} {answered_by = answered_by} {first = first} {last = last} {before = before} {after = after} {answer = answer} h text is new quiet quiet_last = (
   state_of reading last,
   record {
@@ -116,20 +116,20 @@ text_answer {reading = reading} {writing = writing} {may_stop = may_stop} {answe
   },
 )
 
-pub given_answer : {S W F R V : Type 0} {reading : Reading S} {writing : Writing W} {disk : Disk F R V} {files : F} {question : RunQuestion} {schedule : Option ScheduleInput} {first last : S} {before after : W} {answer : Answer}
+pub given_answer : {S W F R V : Type 0} {reading : Reading S} {writing : Writing W} {disk : Disk F R V} {files : F} {question : RunQuestion} {schedule : Option ScheduleInput} {first last : S} {before after : W} {answer : CommandResult}
     → AsksGiven disk reading writing files question schedule first last before after answer
     → (text : Bytes) → reading.remaining first ≡ Some text → reading.given first ≡ 0 → reading.failures first ≡ 0 → reading.failures last ≡ 0
-    → (t : GivenText) × AsksGiven disk given_text writing files question schedule (whole_text text) t before after answer
+    → (t : GivenText) × AsksGiven disk given_text writing files question schedule (text_of_bytes text) t before after answer
 given_answer {reading = reading} {writing = writing} {disk = disk} {files = files} {question = question} {schedule = schedule} {first = first} {last = last} {before = before} {after = after} {answer = answer} h text is new quiet quiet_last =
     (state_of reading last, record { asks = asks_given reading first last text is new quiet quiet_last writing before after answer disk files question schedule h.asks })
 
 -- ---- the translation of a source
 
-module _ {S E W : Type 0} (reading : Reading S) (reporting : Writing E) (name : Bytes) (asks : (first last : GivenText) → Type 0) (first last : S) (before after : W) (unreported reported : E) (answer : Answer) where
+module _ {S E W : Type 0} (reading : Reading S) (reporting : Writing E) (name : Bytes) (asks : (first last : GivenText) → Type 0) (first last : S) (before after : W) (unreported reported : E) (answer : CommandResult) where
   -- the question was asked about the text
   pub translation_asked : (given : Bytes) (text : Vec ℕ) → given ≡ text.items → TranslatesSource reading reporting name first last unreported reported (Ok text)
-      → (t : GivenText) × asks (whole_text given) t → AsksTranslation reading reporting name asks first last before after unreported reported answer
-  translation_asked given text same translates asked = (Ok text, translates, subst (λ bytes. (t : GivenText) × asks (whole_text bytes) t) same asked)
+      → (t : GivenText) × asks (text_of_bytes given) t → AsksTranslation reading reporting name asks first last before after unreported reported answer
+  translation_asked given text same translates asked = (Ok text, translates, subst (λ bytes. (t : GivenText) × asks (text_of_bytes bytes) t) same asked)
 
   -- the source was not translated
   pub translation_stopped : (stop : SourceStop) → TranslatesSource reading reporting name first last unreported reported (Err stop) → answer ≡ Err (Source stop) → after ≡ before

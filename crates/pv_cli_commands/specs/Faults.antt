@@ -11,35 +11,35 @@ use Rattle.pv_cli_commands.specs.declared.fault.Fault.{Fault}
 use Rattle.pv_cli_commands.specs.declared.fault.Fault.TheVariants.{Run, Listing, Migrating, Asking, Source, Importing, Exporting}
 
 -- the result of a command
-abbrev pub Answer : Type 0
-Answer = Result (Unit {0}) Fault
+abbrev pub CommandResult : Type 0
+CommandResult = Result (Unit {0}) Fault
 
 -- the result of a command is that of a run, which satisfies the predicate
-abbrev pub IsRun : {A : Type 0} → (Result A RunFault → Type 0) → Answer → Type 0
-IsRun {A} holds (Ok done) = (value : A) × holds (Ok value)
-IsRun {A} holds (Err (Run fault)) = holds (Err fault)
-IsRun {A} holds (Err fault) = ⊥
+abbrev pub IsRunResult : {A : Type 0} → (Result A RunFault → Type 0) → CommandResult → Type 0
+IsRunResult {A} holds (Ok done) = (value : A) × holds (Ok value)
+IsRunResult {A} holds (Err (Run fault)) = holds (Err fault)
+IsRunResult {A} holds (Err fault) = ⊥
 
 -- the result of a command is that of a listing, which satisfies the predicate
-abbrev pub IsListed : (Result (Unit {0}) ListFault → Type 0) → Answer → Type 0
-IsListed holds (Ok done) = holds (Ok done)
-IsListed holds (Err (Listing fault)) = holds (Err fault)
-IsListed holds (Err fault) = ⊥
+abbrev pub IsListingResult : (Result (Unit {0}) ListFault → Type 0) → CommandResult → Type 0
+IsListingResult holds (Ok done) = holds (Ok done)
+IsListingResult holds (Err (Listing fault)) = holds (Err fault)
+IsListingResult holds (Err fault) = ⊥
 
 -- the result of a command is that of a migration, which satisfies the predicate
-abbrev pub IsMigrated : (Result (Unit {0}) MigrateStop → Type 0) → Answer → Type 0
-IsMigrated holds (Ok done) = holds (Ok done)
-IsMigrated holds (Err (Migrating stop)) = holds (Err stop)
-IsMigrated holds (Err fault) = ⊥
+abbrev pub IsMigrationResult : (Result (Unit {0}) MigrateStop → Type 0) → CommandResult → Type 0
+IsMigrationResult holds (Ok done) = holds (Ok done)
+IsMigrationResult holds (Err (Migrating stop)) = holds (Err stop)
+IsMigrationResult holds (Err fault) = ⊥
 
 -- the result of a command is that of a question, which satisfies the predicate
-abbrev pub IsAsked : (Result (Unit {0}) AskStop → Type 0) → Answer → Type 0
-IsAsked holds (Ok done) = holds (Ok done)
-IsAsked holds (Err (Asking stop)) = holds (Err stop)
-IsAsked holds (Err fault) = ⊥
+abbrev pub IsQuestionResult : (Result (Unit {0}) AskStop → Type 0) → CommandResult → Type 0
+IsQuestionResult holds (Ok done) = holds (Ok done)
+IsQuestionResult holds (Err (Asking stop)) = holds (Err stop)
+IsQuestionResult holds (Err fault) = ⊥
 
 -- the result of a command is that of the output for a source, which satisfies the predicate
-abbrev pub IsWritten : (Result (Unit {0}) SourceStop → Type 0) → Answer → Type 0
+abbrev pub IsWritten : (Result (Unit {0}) SourceStop → Type 0) → CommandResult → Type 0
 IsWritten holds (Ok done) = holds (Ok done)
 IsWritten holds (Err (Source stop)) = holds (Err stop)
 IsWritten holds (Err fault) = ⊥

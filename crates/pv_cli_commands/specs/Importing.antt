@@ -19,13 +19,13 @@ use Rattle.pv_source.specs.declared.source.SourceStop.{SourceStop}
 use Rattle.pv_source.specs.declared.source.SourceStop.TheVariants.{Read as ReadSource}
 use Rattle.pv_cli_commands.specs.declared.fault.Fault.TheVariants.{Importing, Run, Source}
 use Rattle.pv_cli_commands.specs.declared.importing.Wanted.{Wanted}
-use Rattle.pv_cli_commands.specs.Faults.{Answer, IsOfImporting}
+use Rattle.pv_cli_commands.specs.Faults.{CommandResult, IsOfImporting}
 use Rattle.pv_cli_commands.specs.Streams.{Disk, FailsToTake, IsCreatedOn, IsOpened, IsUnknown}
 
 -- the image of a directory and of the entries of a source was written to a sink and the skipped entries were reported to
 -- another, or the import failed
 pub record ImportsImage {V E : Type 0} (writing : Writing V) (reporting : Writing E) (version : Version) (given : List (ℕ × Entry)) (skips : Bool) (known : Option HostEntries)
-    (before after : V) (unreported reported : E) (answer : Answer) : Type 0 where
+    (before after : V) (unreported reported : E) (answer : CommandResult) : Type 0 where
   pub imported : IfOk answer (λ done.
       Imports version given skips known (Ok done) (writing.written before) (writing.written after) (reporting.written unreported) (reporting.written reported))
   pub refused : IfErr answer (IsOfImporting (λ stop.
@@ -37,14 +37,14 @@ pub record ImportsImage {V E : Type 0} (writing : Writing V) (reporting : Writin
 
 -- the image of a directory and of the entries of a source was written to the file with a name; or a directory whose
 -- entries are not known could not be opened, or there was no memory, and nothing was reported
-abbrev pub ImportsDirectory : {F R V E : Type 0} → Disk F R V → Writing E → (Bytes → Option HostEntries) → List (ℕ × Entry) → Wanted → E → E → Answer → Type 0
+abbrev pub ImportsDirectory : {F R V E : Type 0} → Disk F R V → Writing E → (Bytes → Option HostEntries) → List (ℕ × Entry) → Wanted → E → E → CommandResult → Type 0
 ImportsDirectory {F} {R} {V} disk reporting entries given wanted unreported reported answer =
     ((before after : V) × IsCreatedOn disk wanted.image.now before
     × ImportsImage disk.writing reporting wanted.version given wanted.skips (entries wanted.directory.now) before after unreported reported answer)
     ⊎ ((((entries wanted.directory.now ≡ None) × (answer ≡ Err (Importing Read))) ⊎ (answer ≡ Err (Importing Memory))) × (reported ≡ unreported))
 
 -- the image of a directory and of the entries of a manifest was made; or the error of reading the manifest is the answer
-abbrev pub ImportsManifest : {F R V E : Type 0} → Disk F R V → Writing E → (Bytes → Option HostEntries) → Result Manifest RunFault → Wanted → E → E → Answer → Type 0
+abbrev pub ImportsManifest : {F R V E : Type 0} → Disk F R V → Writing E → (Bytes → Option HostEntries) → Result Manifest RunFault → Wanted → E → E → CommandResult → Type 0
 ImportsManifest disk reporting entries (Ok manifest) wanted unreported reported answer =
     ImportsDirectory disk reporting entries (map entry_of_line manifest.entries.items) wanted unreported reported answer
 ImportsManifest disk reporting entries (Err fault) wanted unreported reported answer = (answer ≡ Err (Run fault)) × (reported ≡ unreported)
@@ -55,26 +55,26 @@ ReadsText text (Ok manifest) = GivesManifestOf (Ok manifest) (read_manifest_of t
 ReadsText text (Err fault) = RefusesMachine fault (asked_manifest text)
 
 -- the same for the manifest in a text
-abbrev pub ImportsText : {F R V E : Type 0} → Disk F R V → Writing E → (Bytes → Option HostEntries) → Bytes → Wanted → E → E → Answer → Type 0
+abbrev pub ImportsText : {F R V E : Type 0} → Disk F R V → Writing E → (Bytes → Option HostEntries) → Bytes → Wanted → E → E → CommandResult → Type 0
 ImportsText disk reporting entries text wanted unreported reported answer =
     (manifest : Result Manifest RunFault) × ReadsText text manifest × ImportsManifest disk reporting entries manifest wanted unreported reported answer
 
-abbrev pub ImportsTranslated : {F R V E : Type 0} → Disk F R V → Writing E → (Bytes → Option HostEntries) → Result (Vec ℕ) SourceStop → Wanted → E → E → Answer → Type 0
+abbrev pub ImportsTranslated : {F R V E : Type 0} → Disk F R V → Writing E → (Bytes → Option HostEntries) → Result (Vec ℕ) SourceStop → Wanted → E → E → CommandResult → Type 0
 ImportsTranslated disk reporting entries (Ok text) wanted unreported reported answer = ImportsText disk reporting entries text.items wanted unreported reported answer
 ImportsTranslated disk reporting entries (Err stop) wanted unreported reported answer = (answer ≡ Err (Source stop)) × (reported ≡ unreported)
 
 -- a source was translated, its warnings were reported, and the image of a directory and of its entries was made; or its
 -- lines in error were reported
-abbrev pub ImportsTranslation : {F R V S E : Type 0} → Disk F R V → Reading S → Writing E → (Bytes → Option HostEntries) → Bytes → Wanted → S → S → E → E → Answer → Type 0
+abbrev pub ImportsTranslation : {F R V S E : Type 0} → Disk F R V → Reading S → Writing E → (Bytes → Option HostEntries) → Bytes → Wanted → S → S → E → E → CommandResult → Type 0
 ImportsTranslation {E = E} disk reading reporting entries name wanted first last unreported reported answer =
     (translated : Result (Vec ℕ) SourceStop) × (between : E) × TranslatesSource reading reporting name first last unreported between translated
     × ImportsTranslated disk reporting entries translated wanted between reported answer
 
 -- the image of a directory was made, with the entries of a source if one is given: that in a file, or on the standard
 -- input for `-`; or a file whose bytes are not known could not be opened
-abbrev pub ImportsBeside : {F R V I E : Type 0} → Disk F R V → Reading I → Writing E → F → (Bytes → Option HostEntries) → Option (Bor Bytes) → Wanted → I → I → E → E → Answer → Type 0
-ImportsBeside disk reading reporting files entries None wanted first last unreported reported answer = ImportsDirectory disk reporting entries [] wanted unreported reported answer
-ImportsBeside {F} {R} disk reading reporting files entries (Some name) wanted first last unreported reported answer =
+abbrev pub ImportsWithSource : {F R V I E : Type 0} → Disk F R V → Reading I → Writing E → F → (Bytes → Option HostEntries) → Option (Bor Bytes) → Wanted → I → I → E → E → CommandResult → Type 0
+ImportsWithSource disk reading reporting files entries None wanted first last unreported reported answer = ImportsDirectory disk reporting entries [] wanted unreported reported answer
+ImportsWithSource {F} {R} disk reading reporting files entries (Some name) wanted first last unreported reported answer =
     (name.now ≡ codes "-" → ImportsTranslation disk reading reporting entries name.now wanted first last unreported reported answer)
     × (name.now ≢ codes "-" →
     ((file file_last : R) × IsOpened disk files name.now file × ImportsTranslation disk disk.reading reporting entries name.now wanted file file_last unreported reported answer)
@@ -85,6 +85,6 @@ abbrev pub ReadsSourceFile : Option (Bor Bytes) → Type 0
 ReadsSourceFile None = ⊤
 ReadsSourceFile (Some name) = name.now ≢ codes "-"
 
--- what is imported, in a record
+-- the parameters of an import, in a record
 abbrev pub wanted_of : (directory image : Bor Bytes) → Version → Bool → Wanted
 wanted_of directory image version skips = record { directory = directory; image = image; version = version; skips = skips }

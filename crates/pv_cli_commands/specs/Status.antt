@@ -24,7 +24,7 @@ use Rattle.pv_source.specs.declared.source.SourceStop.{SourceStop}
 use Rattle.pv_source.specs.declared.source.SourceStop.TheVariants as unwritten
 use Rattle.pv_cli_commands.specs.declared.fault.Fault.{Fault}
 use Rattle.pv_cli_commands.specs.declared.fault.Fault.TheVariants.{Run, Listing, Migrating, Asking, Source, Importing, Exporting}
-use Rattle.pv_cli_commands.specs.Faults.{Answer}
+use Rattle.pv_cli_commands.specs.Faults.{CommandResult}
 
 abbrev pub run_status_of : RunFault → ℕ
 run_status_of (Image ImageMemory) = 3
@@ -84,27 +84,27 @@ export_status_of unexported.Directory = 4
 export_status_of unexported.Make = 4
 export_status_of unexported.WriteLine = 4
 
-abbrev pub status_of : Fault → ℕ
-status_of (Run fault) = run_status_of fault
-status_of (Listing fault) = list_status_of fault
-status_of (Migrating stop) = migrate_status_of stop
-status_of (Asking stop) = ask_status_of stop
-status_of (Source stop) = source_status_of stop
-status_of (Importing stop) = import_status_of stop
-status_of (Exporting fault) = export_status_of fault
+abbrev pub command_status : Fault → ℕ
+command_status (Run fault) = run_status_of fault
+command_status (Listing fault) = list_status_of fault
+command_status (Migrating stop) = migrate_status_of stop
+command_status (Asking stop) = ask_status_of stop
+command_status (Source stop) = source_status_of stop
+command_status (Importing stop) = import_status_of stop
+command_status (Exporting fault) = export_status_of fault
 
 -- the error is already reported: the lines in error of a source, the entries that an image can't have, the entries that
 -- could not be exported, and an answer whose text reports that the search is not complete or found a difference
-abbrev pub is_reported : Fault → Bool
-is_reported (Asking Incomplete) = true
-is_reported (Asking Different) = true
-is_reported (Source unwritten.Refused) = true
-is_reported (Importing unimported.Refused) = true
-is_reported (Exporting unexported.Make) = true
-is_reported fault = false
+abbrev pub is_reported_by_command : Fault → Bool
+is_reported_by_command (Asking Incomplete) = true
+is_reported_by_command (Asking Different) = true
+is_reported_by_command (Source unwritten.Refused) = true
+is_reported_by_command (Importing unimported.Refused) = true
+is_reported_by_command (Exporting unexported.Make) = true
+is_reported_by_command fault = false
 
 -- everything that was written to the output is flushed, unless a write to it failed
-abbrev pub FlushedUnlessCut : Answer → ℕ → Type 0
+abbrev pub FlushedUnlessCut : CommandResult → ℕ → Type 0
 FlushedUnlessCut (Err (Run fault)) waiting = BufferedOnlyIfCut fault waiting
 FlushedUnlessCut (Err (Listing fault)) waiting = BufferedOnlyIfUnlisted fault waiting
 FlushedUnlessCut (Err (Asking stop)) waiting = BufferedOnlyIfUnanswered stop waiting
@@ -112,5 +112,5 @@ FlushedUnlessCut (Err (Source unwritten.Write)) waiting = ⊤
 FlushedUnlessCut answer waiting = waiting ≡ 0
 
 -- if the output had no buffered bytes and no write to it failed, it has none afterwards
-abbrev pub Flushes : {W : Type 0} → Writing W → W → W → Answer → Type 0
-Flushes writing before after answer = writing.buffered before ≡ 0 → FlushedUnlessCut answer (writing.buffered after)
+abbrev pub LeavesFlushed : {W : Type 0} → Writing W → W → W → CommandResult → Type 0
+LeavesFlushed writing before after answer = writing.buffered before ≡ 0 → FlushedUnlessCut answer (writing.buffered after)

@@ -5,9 +5,9 @@ ghost use Rattle.pv_questions.specs.Asking.{IsBundleStop, IsImageStop};
 ghost use Rattle.pv_questions.specs.Noting.{NotedOne, NotedTwo, bundle_notes, image_notes, manifest_notes};
 ghost use Rattle.pv_questions.specs.Schedules.{turns_text};
 ghost use Rattle.pv_questions.specs.Trees.{manifest_answer};
-ghost use Rattle.pv_cli_commands.specs.Asking.{KeepsRunErrors, KeepsTreeErrors, ReadsRunFiles, ReadsTreeFile, AsksRun, AsksTree, AsksBeside, AsksBundle, AsksBundleFile, AsksFile, AsksFiles, AsksSource, AsksTwo, AsksImageFile, AsksImageTree, AsksManifest, AsksManifestFile, image_answer_by, manifest_answer_by};
+ghost use Rattle.pv_cli_commands.specs.Asking.{KeepsRunErrors, KeepsTreeErrors, ReadsRunFiles, ReadsTreeFile, AsksRun, AsksTree, AsksOfInputAndFile, AsksBundle, AsksBundleFile, AsksFile, AsksFiles, AsksSource, AsksTwo, AsksImageFile, AsksImageTree, AsksManifest, AsksManifestFile, image_answer_by, manifest_answer_by};
 ghost use Rattle.pv_cli_commands.specs.Noted.{NotedRun};
-ghost use Rattle.pv_cli_commands.specs.Status.{Flushes};
+ghost use Rattle.pv_cli_commands.specs.Status.{LeavesFlushed};
 ghost use Rattle.pv_cli_commands.specs.Streams.{disk_of, inputs_of};
 
 use crate::command::{RunInput, ScheduleInput, TextInput, TreeInput};
@@ -145,7 +145,7 @@ pub(crate) fn ask_beside<F: Files, I: Source, W: Sink>(
     notes: &mut Vec<u8>,
     out: &mut W,
 ) -> Result<(), Fault>
-    ensures asks { AsksBeside (disk_of F.Files F.Reader.Source F.Writer.Sink) I.Source W.Sink IsBundleStop (manifest_answer question.entry) files.now schedule.now manifest.old manifest.new out.old out.new result }
+    ensures asks { AsksOfInputAndFile (disk_of F.Files F.Reader.Source F.Writer.Sink) I.Source W.Sink IsBundleStop (manifest_answer question.entry) files.now schedule.now manifest.old manifest.new out.old out.new result }
     ensures noted { NotedTwo (I.remaining manifest.old) (F.bytes files.now schedule.now) (manifest_notes question.entry) notes.new.items result }
 {
     match files.open(schedule) {
@@ -287,7 +287,7 @@ fn ask_manifest_file<F: Files, W: Sink, P: Progress>(
 }
 
 // Answers a question about a run. The bundle or manifest `-` is read from the standard input.
-#[tactic(auto, using(crate::proofs::Outcomes::flushed_unwritten))]
+#[tactic(auto, using(crate::proofs::CommandStatus::flushed_unwritten))]
 pub(crate) fn ask_run<F: Files, I: Source, W: Sink, E: Sink>(
     alloc: Global,
     files: &F,
@@ -300,7 +300,7 @@ pub(crate) fn ask_run<F: Files, I: Source, W: Sink, E: Sink>(
 ) -> Result<(), Fault>
     ensures does { AsksRun (disk_of F.Files F.Reader.Source F.Writer.Sink) I.Source W.Sink E.Sink files.now question.entry run.entry input.old input.new out.old out.new errors.old errors.new result }
     ensures noted { NotedRun F.bytes files.now question.entry (I.remaining input.old) run.entry notes.new.items result }
-    ensures flushed { Flushes W.Sink out.old out.new result }
+    ensures flushed { LeavesFlushed W.Sink out.old out.new result }
     ensures unread { ReadsRunFiles run.entry → input.new ≡ input.old }
     ensures unreported { KeepsRunErrors run.entry → errors.new ≡ errors.old }
 {
@@ -356,7 +356,7 @@ pub(crate) fn ask_run<F: Files, I: Source, W: Sink, E: Sink>(
 }
 
 // Answers a question about a tree. The manifest `-` is read from the standard input.
-#[tactic(auto, using(crate::proofs::Outcomes::flushed_unwritten))]
+#[tactic(auto, using(crate::proofs::CommandStatus::flushed_unwritten))]
 pub(crate) fn ask_tree_of<F: Files, I: Source, W: Sink, E: Sink, P: Progress>(
     alloc: Global,
     files: &F,
@@ -368,7 +368,7 @@ pub(crate) fn ask_tree_of<F: Files, I: Source, W: Sink, E: Sink, P: Progress>(
     errors: &mut E,
 ) -> Result<(), Fault>
     ensures does { AsksTree (disk_of F.Files F.Reader.Source F.Writer.Sink) I.Source W.Sink E.Sink files.now question.entry tree.entry input.old input.new out.old out.new errors.old errors.new result }
-    ensures flushed { Flushes W.Sink out.old out.new result }
+    ensures flushed { LeavesFlushed W.Sink out.old out.new result }
     ensures unread { ReadsTreeFile tree.entry → input.new ≡ input.old }
     ensures unreported { KeepsTreeErrors tree.entry → errors.new ≡ errors.old }
 {

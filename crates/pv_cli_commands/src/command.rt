@@ -155,7 +155,7 @@ pub enum Command<'a> {
         /// The input that has the tree.
         tree: TreeInput<'a>,
     },
-    /// Compares what two inputs let happen under all schedules.
+    /// Compares the possible steps of two inputs under all schedules.
     Compare {
         /// The inputs.
         inputs: CompareInput<'a>,

@@ -1,7 +1,7 @@
 //! The comparison of two images, or of two bundles.
 ghost use Rattle.std.specs.Prelude.{◌≡◌};
-ghost use Rattle.pv_cli_commands.specs.Comparing.{Compares, ComparesBeside, ComparesFiles, ComparesInputs, ComparesUnder, ReadsCompareFiles};
-ghost use Rattle.pv_cli_commands.specs.Status.{Flushes};
+ghost use Rattle.pv_cli_commands.specs.Comparing.{Compares, ComparesInputAndFile, ComparesFiles, ComparesInputs, ComparesUnder, ReadsCompareFiles};
+ghost use Rattle.pv_cli_commands.specs.Status.{LeavesFlushed};
 ghost use Rattle.pv_cli_commands.specs.Streams.{disk_of, inputs_of};
 
 use crate::command::CompareInput;
@@ -60,7 +60,7 @@ fn compare_beside<F: Files, I: Source, W: Sink, P: Progress>(
     progress: &mut P,
     out: &mut W,
 ) -> Result<(), Fault>
-    ensures { ComparesBeside (disk_of F.Files F.Reader.Source F.Writer.Sink) I.Source W.Sink pairs files.now second.now input.old input.new out.old out.new result }
+    ensures { ComparesInputAndFile (disk_of F.Files F.Reader.Source F.Writer.Sink) I.Source W.Sink pairs files.now second.now input.old input.new out.old out.new result }
 {
     match files.open(second) {
         Ok(mut second) => {
@@ -107,7 +107,7 @@ fn compare_under<F: Files, I: Source, W: Sink, P: Progress>(
 }
 
 // Compares two inputs. The bundle `-` is read from the standard input.
-#[tactic(auto, using(crate::proofs::Outcomes::flushed_unwritten))]
+#[tactic(auto, using(crate::proofs::CommandStatus::flushed_unwritten))]
 pub(crate) fn compare_inputs<F: Files, I: Source, W: Sink, P: Progress>(
     alloc: Global,
     files: &F,
@@ -118,7 +118,7 @@ pub(crate) fn compare_inputs<F: Files, I: Source, W: Sink, P: Progress>(
     out: &mut W,
 ) -> Result<(), Fault>
     ensures does { ComparesInputs (disk_of F.Files F.Reader.Source F.Writer.Sink) I.Source W.Sink files.now inputs.entry pairs input.old input.new out.old out.new result }
-    ensures flushed { Flushes W.Sink out.old out.new result }
+    ensures flushed { LeavesFlushed W.Sink out.old out.new result }
     ensures unread { ReadsCompareFiles inputs.entry → input.new ≡ input.old }
 {
     match inputs {

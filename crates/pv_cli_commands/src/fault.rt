@@ -1,6 +1,6 @@
 //! Error messages and the exit status.
 ghost use Rattle.std.specs.Prelude.{◌≡◌};
-ghost use Rattle.pv_cli_commands.specs.Status.{ask_status_of, export_status_of, import_status_of, is_reported, list_status_of, migrate_status_of, run_status_of, source_status_of, status_of};
+ghost use Rattle.pv_cli_commands.specs.Status.{ask_status_of, export_status_of, import_status_of, is_reported_by_command, list_status_of, migrate_status_of, run_status_of, source_status_of, command_status};
 ghost use Rattle.pv_cli_commands.specs.declared.fault.Fault.TheVariants.{Run as RunVariant, Listing as ListingVariant, Migrating as MigratingVariant, Asking as AskingVariant, Source as SourceVariant, Importing as ImportingVariant, Exporting as ExportingVariant};
 
 use pv_host_copy::{ExportFault, ImportStop};
@@ -200,7 +200,7 @@ impl Fault {
     /// Returns the exit status: 1 for invalid input, 3 for out of memory, 4 for a failed read or write, 5 for a search that
     /// left a state out, and 6 for a comparison that found a difference.
     pub fn status(&self) -> u8
-        ensures { result ≡ status_of self.now }
+        ensures { result ≡ command_status self.now }
     {
         match self {
             Fault::Run(fault) => run_status(*fault),
@@ -213,11 +213,11 @@ impl Fault {
         }
     }
 
-    /// Returns whether the error is already reported. This is so for a source with lines in error, for a directory with
+    /// Returns whether the error is already reported. This holds for a source with lines in error, for a directory with
     /// an entry that an image can't have, for an image with an entry that could not be exported, and for a search that
     /// left a state out or found a difference, whose text reports it.
     pub fn is_reported(&self) -> bool
-        ensures { result ≡ is_reported self.now }
+        ensures { result ≡ is_reported_by_command self.now }
     {
         matches!(
             self,

@@ -1,7 +1,7 @@
 //! Import of directories as images, with the entries of sources.
 ghost use Rattle.std.specs.Prelude.{◌≡◌, map};
 ghost use Rattle.pv_image_manifest.specs.Entries.{entry_of_line};
-ghost use Rattle.pv_cli_commands.specs.Importing.{ImportsBeside, ImportsDirectory, ImportsImage, ImportsText, ImportsTranslation, ReadsSourceFile};
+ghost use Rattle.pv_cli_commands.specs.Importing.{ImportsWithSource, ImportsDirectory, ImportsImage, ImportsText, ImportsTranslation, ReadsSourceFile};
 ghost use Rattle.pv_cli_commands.specs.Streams.{disk_of};
 
 use crate::directories::Directories;
@@ -108,7 +108,7 @@ pub(crate) fn import_directory<F: Files + Directories, I: Source, E: Sink>(
     source: Option<&str>,
     errors: &mut E,
 ) -> Result<(), Fault>
-    ensures imports { ImportsBeside (disk_of F.Files F.Reader.Source F.Writer.Sink) I.Source E.Sink files.now (F.entries files.now) source.entry wanted.entry input.old input.new errors.old errors.new result }
+    ensures imports { ImportsWithSource (disk_of F.Files F.Reader.Source F.Writer.Sink) I.Source E.Sink files.now (F.entries files.now) source.entry wanted.entry input.old input.new errors.old errors.new result }
     ensures unread { ReadsSourceFile source.entry → input.new ≡ input.old }
 {
     let Some(name) = source else {

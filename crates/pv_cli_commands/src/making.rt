@@ -1,5 +1,5 @@
 //! Images of manifests.
-ghost use Rattle.pv_cli_commands.specs.Making.{MakesFile, MakesFrom};
+ghost use Rattle.pv_cli_commands.specs.Making.{MakesImageFile, MakesFrom};
 ghost use Rattle.pv_cli_commands.specs.Streams.{disk_of};
 
 use crate::fault::Fault;
@@ -28,7 +28,7 @@ pub(crate) fn make_file<F: Files>(
     manifest: &str,
     image: &str,
 ) -> Result<(), Fault>
-    ensures { MakesFile (disk_of F.Files F.Reader.Source F.Writer.Sink) files.now manifest.now image.now result }
+    ensures { MakesImageFile (disk_of F.Files F.Reader.Source F.Writer.Sink) files.now manifest.now image.now result }
 {
     let Ok(mut manifest) = files.open(manifest) else {
         return Err(Fault::Run(RunFault::Read));

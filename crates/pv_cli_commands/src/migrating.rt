@@ -1,5 +1,5 @@
 //! Migration of images from version 1 to version 2.
-ghost use Rattle.pv_cli_commands.specs.Migrating.{MigratesFile, MigratesFrom, sizes_of};
+ghost use Rattle.pv_cli_commands.specs.Migrating.{MigratesFile, MigratesFrom, image_sizes};
 ghost use Rattle.pv_cli_commands.specs.Streams.{disk_of};
 
 use crate::fault::Fault;
@@ -17,7 +17,7 @@ fn migrate_from<S: Source, W: Sink>(
     inodes: u32,
     out: &mut W,
 ) -> Result<(), Fault>
-    ensures { MigratesFrom S.Source W.Sink image.old image.new (sizes_of blocks inodes) out.old out.new result }
+    ensures { MigratesFrom S.Source W.Sink image.old image.new (image_sizes blocks inodes) out.old out.new result }
 {
     migrate_image(alloc, image, blocks, inodes, out)?;
     Ok(())
@@ -32,7 +32,7 @@ pub(crate) fn migrate_file<F: Files>(
     blocks: u32,
     inodes: u32,
 ) -> Result<(), Fault>
-    ensures { MigratesFile (disk_of F.Files F.Reader.Source F.Writer.Sink) files.now image.now out.now (sizes_of blocks inodes) result }
+    ensures { MigratesFile (disk_of F.Files F.Reader.Source F.Writer.Sink) files.now image.now out.now (image_sizes blocks inodes) result }
 {
     let Ok(mut image) = files.open(image) else {
         return Err(Fault::Migrating(MigrateStop::Read));

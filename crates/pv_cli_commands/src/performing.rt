@@ -1,7 +1,7 @@
 //! Execution of commands.
 ghost use Rattle.std.specs.Prelude.{◌≡◌, ◌≢◌, IfErr};
 ghost use Rattle.pv_cli_commands.specs.Commands.{KeepsErrors, Notes, Performs, ReadsFiles, WritesFile};
-ghost use Rattle.pv_cli_commands.specs.Status.{Flushes, status_of};
+ghost use Rattle.pv_cli_commands.specs.Status.{LeavesFlushed, command_status};
 ghost use Rattle.pv_cli_commands.specs.Streams.{disk_of, host_of};
 
 use crate::asking::{ask_files, ask_run, ask_tree_of};
@@ -33,9 +33,9 @@ use std::alloc::Global;
 /// - `MigrateImage` makes an image of version 2 from the image in a file, and writes it to another file.
 /// - `ImportDirectory` makes the image of a directory, and writes it to a file. Each entry that an image can't have or
 ///   that could not be added is reported on the standard error, in a line with its path. If there is such an entry, the
-///   file is not written, unless entries that an image can't have are to be skipped and all reported entries are of
-///   this kind. The programs and files of a source in a file, or on the standard input for `-`, may be added: they take
-///   the place of what the directory has at their paths. The lines of the source are reported as for `WriteSource`.
+///   file is not written, unless entries that an image can't have may be skipped and all reported entries are of this
+///   kind. The programs and files of a source in a file, or on the standard input for `-`, may be added: they replace
+///   the directory's entries at their paths. The lines of the source are reported as for `WriteSource`.
 /// - `ExportImage` makes the tree of the image in a file in a directory, which is created or must be empty. The image
 ///   is read first. If an entry cannot be made, its path in the image is reported on the standard error; all entries
 ///   before it in the listing are then made.
@@ -53,7 +53,7 @@ use std::alloc::Global;
 /// - `Compare` writes whether the steps of the machines on two images, or on the trees of two bundles, differ under some
 ///   schedule.
 ///
-/// `AuditImage` and `Ask` replace `notes` by the notes beside the answer, which are lines for a person; the other commands
+/// `AuditImage` and `Ask` replace `notes` by the notes on the answer, which are lines for a person; the other commands
 /// leave it as it is.
 ///
 /// Everything that was written to the standard output is flushed, unless a write to it failed. A search of states reports to `progress`.
@@ -66,7 +66,7 @@ use std::alloc::Global;
 /// The variant is `Listing` for `ListImage`, `Migrating` for `MigrateImage`,
 /// `Importing` for `ImportDirectory`, `Exporting` for `ExportImage`, `Source` for `WriteSource` and for a source that is
 /// not translated, `Asking` for `AuditImage`, `Ask`, `AskTree` and `Compare`, and `Run` for the others.
-#[tactic(auto, using(crate::proofs::Outcomes::failed_with_status, crate::proofs::Outcomes::flushed_unwritten))]
+#[tactic(auto, using(crate::proofs::CommandStatus::failed_with_status, crate::proofs::CommandStatus::flushed_unwritten))]
 pub fn perform<
     F: Files + Directories + Drop,
     I: Source + Drop,
@@ -82,8 +82,8 @@ pub fn perform<
 ) -> Result<(), Fault>
     ensures does { Performs (disk_of F.Files F.Reader.Source F.Writer.Sink) (host_of F.entries F.target_of F.Target.made) I.Source O.Sink E.Sink command.entry system.old system.new result }
     ensures noted { Notes F.bytes I.remaining command.entry system.old notes.old.items notes.new.items result }
-    ensures flushed { Flushes O.Sink system.old.output system.new.output result }
-    ensures failed { IfErr result (λ fault. status_of fault ≢ 0) }
+    ensures flushed { LeavesFlushed O.Sink system.old.output system.new.output result }
+    ensures failed { IfErr result (λ fault. command_status fault ≢ 0) }
 
     // The rest of the system is unchanged.
     ensures unread { ReadsFiles command.entry → system.new.input ≡ system.old.input }

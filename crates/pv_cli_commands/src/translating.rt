@@ -1,9 +1,9 @@
 //! Questions about the translations of sources.
 ghost use Rattle.std.specs.Prelude.{◌≡◌, ◌≢◌, codes, Some};
 ghost use Rattle.pv_source.specs.Given.{TranslatesSource};
-ghost use Rattle.pv_cli_commands.specs.Asking.{GivenText, AsksGiven, AsksManifest, AsksRunOfSource, AsksTranslation, AsksTranslationOf, given_text, whole_text};
+ghost use Rattle.pv_cli_commands.specs.Asking.{GivenText, AsksGiven, AsksManifest, AsksRunOfSource, AsksTranslation, AsksTranslationOf, given_text, text_of_bytes};
 ghost use Rattle.pv_cli_commands.specs.Noted.{NotedSource, NotedText, translated as translated_text};
-ghost use Rattle.pv_cli_commands.specs.Status.{Flushes};
+ghost use Rattle.pv_cli_commands.specs.Status.{LeavesFlushed};
 ghost use Rattle.pv_cli_commands.specs.Streams.{disk_of};
 
 use crate::asking::{ask_beside, ask_from, ask_manifest_from, ask_under_by};
@@ -28,7 +28,7 @@ fn translated<S: Source, E: Sink>(
 }
 
 // Answers a question about the run of the bundle that a source gives, or of a schedule on the tree of its manifest.
-#[tactic(auto, using(crate::proofs::Outcomes::flushed_unwritten))]
+#[tactic(auto, using(crate::proofs::CommandStatus::flushed_unwritten))]
 fn ask_given<F: Files, S: Source, W: Sink>(
     alloc: Global,
     files: &F,
@@ -40,7 +40,7 @@ fn ask_given<F: Files, S: Source, W: Sink>(
 ) -> Result<(), Fault>
     ensures asks { AsksGiven (disk_of F.Files F.Reader.Source F.Writer.Sink) S.Source W.Sink files.now question.entry schedule.entry text.old text.new out.old out.new result }
     ensures noted { NotedText F.bytes files.now question.entry (S.remaining text.old) schedule.entry notes.new.items result }
-    ensures flushed { Flushes W.Sink out.old out.new result }
+    ensures flushed { LeavesFlushed W.Sink out.old out.new result }
 {
     match schedule {
         None => ask_from(alloc, question, text, notes, out),
@@ -61,16 +61,16 @@ fn ask_text<F: Files, W: Sink>(
     notes: &mut Vec<u8>,
     out: &mut W,
 ) -> Result<(), Fault>
-    ensures asks { (last : GivenText) × AsksGiven (disk_of F.Files F.Reader.Source F.Writer.Sink) given_text W.Sink files.now question.entry schedule.entry (whole_text text.now) last out.old out.new result }
+    ensures asks { (last : GivenText) × AsksGiven (disk_of F.Files F.Reader.Source F.Writer.Sink) given_text W.Sink files.now question.entry schedule.entry (text_of_bytes text.now) last out.old out.new result }
     ensures noted { NotedText F.bytes files.now question.entry (Some text.now) schedule.entry notes.new.items result }
-    ensures flushed { Flushes W.Sink out.old out.new result }
+    ensures flushed { LeavesFlushed W.Sink out.old out.new result }
 {
     let mut source = Bytes::new(text);
     ask_given(alloc, files, question, &mut source, schedule, notes, out)
 }
 
 // Answers a question about the run of the translation of a source, or reports the lines in error of the source.
-#[tactic(auto, using(crate::proofs::Outcomes::flushed_unwritten, crate::proofs::GivenTexts::translation_asked, crate::proofs::GivenTexts::translation_stopped, crate::proofs::NotedTexts::noted_stopped))]
+#[tactic(auto, using(crate::proofs::CommandStatus::flushed_unwritten, crate::proofs::GivenTexts::translation_asked, crate::proofs::GivenTexts::translation_stopped, crate::proofs::RunNotes::noted_stopped))]
 fn ask_translation<F: Files, S: Source, W: Sink, E: Sink>(
     alloc: Global,
     files: &F,
@@ -85,14 +85,14 @@ fn ask_translation<F: Files, S: Source, W: Sink, E: Sink>(
     ensures asks { AsksTranslation S.Source E.Sink name.now (λ text text_last. AsksGiven (disk_of F.Files F.Reader.Source F.Writer.Sink) given_text W.Sink files.now question.entry schedule.entry text text_last out.old out.new result)
         source.old source.new out.old out.new errors.old errors.new result }
     ensures noted { NotedText F.bytes files.now question.entry (translated_text (S.remaining source.old)) schedule.entry notes.new.items result }
-    ensures flushed { Flushes W.Sink out.old out.new result }
+    ensures flushed { LeavesFlushed W.Sink out.old out.new result }
 {
     let text = translated(alloc, name, source, errors)?;
     ask_text(alloc, files, question, &text, schedule, notes, out)
 }
 
 // Answers a question about the run of the translation of a source. The source `-` is read from the standard input.
-#[tactic(auto, using(crate::proofs::Outcomes::flushed_unwritten, crate::proofs::NotedTexts::noted_stopped))]
+#[tactic(auto, using(crate::proofs::CommandStatus::flushed_unwritten, crate::proofs::RunNotes::noted_stopped))]
 pub(crate) fn ask_source<F: Files, I: Source, W: Sink, E: Sink>(
     alloc: Global,
     files: &F,
@@ -106,7 +106,7 @@ pub(crate) fn ask_source<F: Files, I: Source, W: Sink, E: Sink>(
 ) -> Result<(), Fault>
     ensures asks { AsksRunOfSource (disk_of F.Files F.Reader.Source F.Writer.Sink) I.Source W.Sink E.Sink files.now question.entry name.now schedule.entry input.old input.new out.old out.new errors.old errors.new result }
     ensures noted { NotedSource F.bytes files.now question.entry (I.remaining input.old) name.now schedule.entry notes.new.items result }
-    ensures flushed { Flushes W.Sink out.old out.new result }
+    ensures flushed { LeavesFlushed W.Sink out.old out.new result }
     ensures unread { name.now ≢ codes "-" → input.new ≡ input.old }
 {
     if name == "-" {
@@ -140,15 +140,15 @@ fn ask_manifest_text<W: Sink, P: Progress>(
     progress: &mut P,
     out: &mut W,
 ) -> Result<(), Fault>
-    ensures asks { (last : GivenText) × AsksManifest given_text W.Sink question.entry (whole_text text.now) last out.old out.new result }
-    ensures flushed { Flushes W.Sink out.old out.new result }
+    ensures asks { (last : GivenText) × AsksManifest given_text W.Sink question.entry (text_of_bytes text.now) last out.old out.new result }
+    ensures flushed { LeavesFlushed W.Sink out.old out.new result }
 {
     let mut source = Bytes::new(text);
     ask_manifest_from(alloc, question, &mut source, progress, out)
 }
 
 // Answers a question about the tree of the translation of a source, or reports the lines in error of the source.
-#[tactic(auto, using(crate::proofs::Outcomes::flushed_unwritten, crate::proofs::GivenTexts::translation_asked, crate::proofs::GivenTexts::translation_stopped))]
+#[tactic(auto, using(crate::proofs::CommandStatus::flushed_unwritten, crate::proofs::GivenTexts::translation_asked, crate::proofs::GivenTexts::translation_stopped))]
 fn ask_manifest_translation<S: Source, W: Sink, E: Sink, P: Progress>(
     alloc: Global,
     question: TreeQuestion<'_>,
@@ -160,14 +160,14 @@ fn ask_manifest_translation<S: Source, W: Sink, E: Sink, P: Progress>(
 ) -> Result<(), Fault>
     ensures asks { AsksTranslation S.Source E.Sink name.now (λ text text_last. AsksManifest given_text W.Sink question.entry text text_last out.old out.new result)
         source.old source.new out.old out.new errors.old errors.new result }
-    ensures flushed { Flushes W.Sink out.old out.new result }
+    ensures flushed { LeavesFlushed W.Sink out.old out.new result }
 {
     let text = translated(alloc, name, source, errors)?;
     ask_manifest_text(alloc, question, &text, progress, out)
 }
 
 // Answers a question about the tree of the translation of a source. The source `-` is read from the standard input.
-#[tactic(auto, using(crate::proofs::Outcomes::flushed_unwritten))]
+#[tactic(auto, using(crate::proofs::CommandStatus::flushed_unwritten))]
 pub(crate) fn ask_manifest_source<F: Files, I: Source, W: Sink, E: Sink, P: Progress>(
     alloc: Global,
     files: &F,
@@ -180,7 +180,7 @@ pub(crate) fn ask_manifest_source<F: Files, I: Source, W: Sink, E: Sink, P: Prog
 ) -> Result<(), Fault>
     ensures asks { AsksTranslationOf (disk_of F.Files F.Reader.Source F.Writer.Sink) I.Source E.Sink files.now name.now (λ text text_last. AsksManifest given_text W.Sink question.entry text text_last out.old out.new result)
         input.old input.new out.old out.new errors.old errors.new result }
-    ensures flushed { Flushes W.Sink out.old out.new result }
+    ensures flushed { LeavesFlushed W.Sink out.old out.new result }
     ensures unread { name.now ≢ codes "-" → input.new ≡ input.old }
 {
     if name == "-" {

@@ -1,2 +1,2 @@
--- Lemmas: Bounds (the number of entries in and below a directory).
-pub mod Bounds
+-- Lemmas: EntryBounds (the number of entries in and below a directory).
+pub mod EntryBounds

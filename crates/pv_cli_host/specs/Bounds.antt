@@ -7,11 +7,11 @@ use Rattle.pv_cli_host.specs.declared.directories.TheConstants.{LONGEST_PATH}
 abbrev pub levels_below : List ℕ → ℕ
 levels_below path = LONGEST_PATH - length path
 
--- no directory with this number of levels below it has so many entries
-abbrev pub bound_of : ℕ → ℕ
-bound_of zero = 1
-bound_of (suc levels) = 2 ^ 64 * bound_of levels
+-- a directory with this number of levels below it has fewer entries
+abbrev pub entry_bound : ℕ → ℕ
+entry_bound zero = 1
+entry_bound (suc levels) = 2 ^ 64 * entry_bound levels
 
 -- the bound for a directory with this number of names
 abbrev pub entries_within : ℕ → List ℕ → ℕ
-entries_within names path = names * bound_of (levels_below path)
+entries_within names path = names * entry_bound (levels_below path)

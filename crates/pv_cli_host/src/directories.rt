@@ -1,7 +1,7 @@
 //! Directories of the operating system, for import.
 ghost use Rattle.std.specs.Prelude.{◌≡◌, ◌<◌, ◌^◌, None, Some, length, option_map, vec_len, IfOk};
 ghost use Rattle.std.specs.String.{string_bytes};
-ghost use Rattle.pv_cli_host.specs.Bounds.{bound_of, entries_within, levels_below};
+ghost use Rattle.pv_cli_host.specs.Bounds.{entry_bound, entries_within, levels_below};
 ghost use Rattle.pv_cli_commands.specs.OfHostCopy.Reporting.{left_below};
 ghost use Rattle.pv_model.specs.Machine.{is_past};
 
@@ -182,10 +182,10 @@ impl<'a> OpenedDirectory<'a> {
     }
 
     // Opens the directory at a path below this one.
-    #[tactic(auto, using(crate::proofs::Bounds::entries_below))]
+    #[tactic(auto, using(crate::proofs::EntryBounds::entries_below))]
     fn open_below(&self, alloc: Global, path: &str) -> Result<OpenedDirectory<'a>, HostFault>
         requires { length (string_bytes self.now.path) < length path.now }
-        ensures { IfOk result (λ d. entries_within (vec_len d.names) (string_bytes d.path) < bound_of (levels_below (string_bytes self.now.path))) }
+        ensures { IfOk result (λ d. entries_within (vec_len d.names) (string_bytes d.path) < entry_bound (levels_below (string_bytes self.now.path))) }
     {
         if path.len() > LONGEST_PATH {
             return Err(HostFault::Read);
@@ -194,14 +194,14 @@ impl<'a> OpenedDirectory<'a> {
     }
 
     // Returns the node at a path below this directory.
-    #[tactic(auto, using(crate::proofs::Bounds::bound_some))]
+    #[tactic(auto, using(crate::proofs::EntryBounds::bound_some))]
     fn node(
         &self,
         alloc: Global,
         path: &str,
     ) -> Result<HostNode<OpenedDirectory<'a>, ReadFile>, HostFault>
         requires { length (string_bytes self.now.path) < length path.now }
-        ensures { IfOk result (λ node. left_below (λ d. entries_within (vec_len d.names) (string_bytes d.path)) node < bound_of (levels_below (string_bytes self.now.path))) }
+        ensures { IfOk result (λ node. left_below (λ d. entries_within (vec_len d.names) (string_bytes d.path)) node < entry_bound (levels_below (string_bytes self.now.path))) }
     {
         let metadata = fs::symlink_metadata(self.rt, path).map_err(fault_of)?;
         if metadata.is_dir() {
@@ -226,13 +226,13 @@ impl<'a> OpenedDirectory<'a> {
     }
 
     // Returns the node of a name in this directory. A name that is not UTF-8 can't be opened.
-    #[tactic(auto, using(crate::proofs::Bounds::bound_some))]
+    #[tactic(auto, using(crate::proofs::EntryBounds::bound_some))]
     fn node_of(
         &self,
         alloc: Global,
         name: &[u8],
     ) -> Result<HostNode<OpenedDirectory<'a>, ReadFile>, HostFault>
-        ensures { IfOk result (λ node. left_below (λ d. entries_within (vec_len d.names) (string_bytes d.path)) node < bound_of (levels_below (string_bytes self.now.path))) }
+        ensures { IfOk result (λ node. left_below (λ d. entries_within (vec_len d.names) (string_bytes d.path)) node < entry_bound (levels_below (string_bytes self.now.path))) }
     {
         let Ok(name) = std::str::from_utf8(name) else {
             return Ok(HostNode::Other(SkipReason::Name));
@@ -253,7 +253,7 @@ impl<'a> HostDirectory for OpenedDirectory<'a> {
 
     ghost ascends = { λ _. tt };
 
-    #[tactic(auto, using(crate::proofs::Bounds::entries_fewer))]
+    #[tactic(auto, using(crate::proofs::EntryBounds::entries_fewer))]
     fn next(
         &mut self,
         alloc: Global,

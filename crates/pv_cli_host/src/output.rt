@@ -1,6 +1,6 @@
 //! Sinks over writers of the operating system.
 ghost use Rattle.std.specs.Prelude.{◌≡◌, None};
-ghost use Rattle.pv_model.specs.Stream.{CountsNothingTaken};
+ghost use Rattle.pv_model.specs.Stream.{CountsZeroWrites};
 
 use pv_streams::{Failed, Sink};
 use std::io::Write;
@@ -12,7 +12,7 @@ pub(crate) fn counted(
     failures: &mut u64,
 ) -> Result<usize, Failed>
     ensures same { result ≡ written }
-    ensures counted { CountsNothingTaken failures.old failures.new result buffer.now }
+    ensures counted { CountsZeroWrites failures.old failures.new result buffer.now }
 {
     match written {
         Ok(0) if buffer.is_empty() => {}

@@ -8,9 +8,8 @@ use pv_streams::{Buffered, Failed, Sink};
 use std::alloc::Global;
 use std::io::Write;
 
-/// A sink over two writers to one output. It buffers what is written, but during a search each write goes to the output
-/// at once: a search that is interrupted has written what it found. Its contract does not know the bytes that it
-/// received.
+/// A sink over two writers to one output. It buffers its output, but during a search each write goes to the output at
+/// once: a search that is interrupted has written its findings. Its contract does not know the bytes that it received.
 #[derive(Drop)]
 pub struct SearchOutput<'a, W: Write + Drop>
 where

@@ -14,7 +14,7 @@ const PLAIN: u32 = 0o644;
 
 const EXECUTABLE: u32 = 0o755;
 
-/// A directory of the operating system in which the tree of an image is made. Its contract does not know what was made
+/// A directory of the operating system in which the tree of an image is made. Its contract does not state what was made
 /// there.
 ///
 /// No path can lead out of the directory. Each system call creates a file or directory that does not exist, and follows

@@ -1,5 +1,6 @@
 pub mod Line
 pub mod Messages
 pub mod Parser
+pub mod Paths
 pub mod Program
 pub mod Status

@@ -1,7 +1,9 @@
 -- The command in the words of a command line.
-use Rattle.std.specs.Prelude.{◌≡◌, ◌≢◌, ◌⊎◌, ⊤, ℕ, ◌<◌, Bool, ◌&&◌, ◌||◌, not, nat_le, true, false, if◌then◌else◌, bytes_eq, List, [], ◌∷◌, length, codes, Option, None, Some, IfSome, option_map}
+use Rattle.std.specs.Prelude.{◌≡◌, ◌≢◌, ◌⊎◌, ⊤, ℕ, ◌<◌, Bool, ◌&&◌, ◌||◌, not, nat_le, true, false, if◌then◌else◌, bytes_eq, IsTrue, List, [], ◌∷◌, length, filter_map, codes, Option, None, Some, IfSome, option_map, unwrap_or}
+use Rattle.std.specs.Borrow.{Bor}
+use Rattle.std.specs.List.{list_all, list_any}
 use Rattle.std.specs.Option.{IsSomeAnd}
-use Rattle.clap.specs.Words.{Row, Text, IsAmong, fault_of, first_of, kind_of, matches_of, subcommand_of, takes}
+use Rattle.clap.specs.Words.{Row, Text, IsAmong, all_of, fault_of, first_of, kind_of, matches_of, subcommand_of, takes}
 use Rattle.clap.specs.declared.error.Error.{Error}
 use Rattle.clap.specs.declared.error.kind.ErrorKind.{ErrorKind}
 use Rattle.clap.specs.declared.error.kind.ErrorKind.TheVariants.{OutOfMemory, MissingRequiredArgument, ValueValidation}
@@ -24,6 +26,8 @@ use Rattle.pv_cli_commands.specs.declared.command.TreeInput.TheVariants.{Image, 
 use Rattle.pv_cli_commands.specs.OfQuestions.declared.question.Question.{Question}
 use Rattle.pv_cli_commands.specs.OfQuestions.declared.question.Question.TheVariants.{Trace, State, Reach, Explain, Needs, Audit, Reasons}
 use Rattle.pv_cli_commands.specs.OfQuestions.Schedules.{are_turns}
+use Rattle.pv_cli_commands.specs.OfQuestions.FilePaths.{paths_of}
+use Rattle.pv_cli_commands.specs.OfQuestions.declared.question.Files.{Files}
 use Rattle.pv_cli_commands.specs.OfQuestions.declared.question.RunQuestion.{RunQuestion}
 use Rattle.pv_cli_commands.specs.OfQuestions.declared.question.TreeQuestion.{TreeQuestion}
 use Rattle.pv_cli_commands.specs.OfQuestions.declared.question.TreeQuestion.TheVariants.{Listing, File, Turns, Search as OfSearch}
@@ -43,8 +47,9 @@ use Rattle.pv_cli_line.specs.declared.texts.Given.TheVariants.{Nothing, One, Bot
 use Rattle.pv_source.specs.declared.source.Output.{Output}
 use Rattle.pv_source.specs.declared.source.Output.TheVariants.{Translation, ProgramLines}
 use Rattle.pv_cli_line.specs.Parser.{pvsim_app}
+use Rattle.pv_cli_line.specs.Paths.{is_plain_path}
 
--- nothing satisfies a predicate, or a relation
+-- the empty predicate, and the empty relation
 abbrev pub Never : {A : Type 0} → (A → Type 0) → Type 0
 Never {A} holds = (x : A) → holds x → ⊥
 
@@ -65,13 +70,13 @@ is_given (Some text) = bytes_eq text (codes "true")
 abbrev pub is_set : List Row → Text → Bool
 is_set rows flag = is_given (first_of flag rows)
 
-abbrev pub is_set_in : List Row → Option (Text × List Row) → Text → Bool
-is_set_in above None flag = is_set above flag
-is_set_in above (Some p) flag = is_set above flag || is_set p.1 flag
+abbrev pub is_flag_set_in : List Row → Option (Text × List Row) → Text → Bool
+is_flag_set_in above None flag = is_set above flag
+is_flag_set_in above (Some p) flag = is_set above flag || is_set p.1 flag
 
 -- errors are explained, unless the flag `quiet` is set
 abbrev pub is_verbose_in : List Row → Option (Text × List Row) → Bool
-is_verbose_in above entered = not (is_set_in above entered (codes "quiet"))
+is_verbose_in above entered = not (is_flag_set_in above entered (codes "quiet"))
 
 -- the number of 32 bits that a word is, in decimal without leading zeros
 unfoldable pub size_in : Text → Option ℕ
@@ -83,9 +88,9 @@ if_count None = None
 if_count (Some n) = if nat_le 1 n && nat_le n 65536 then Some n else None
 
 -- the same, or the default if there is no word
-abbrev pub count_in : ℕ → Option Text → Option ℕ
-count_in default None = Some default
-count_in default (Some word) = if_count (size_in word)
+abbrev pub count_or_default : ℕ → Option Text → Option ℕ
+count_or_default default None = Some default
+count_or_default default (Some word) = if_count (size_in word)
 
 -- a number of states: at least 1
 abbrev pub if_positive : Option ℕ → Option ℕ
@@ -188,10 +193,10 @@ IsValidTreeIn entered command tree = IsTreeIn entered command (codes "PATH") tre
 
 -- the numbers of steps of `turns`, or their defaults
 abbrev pub slice_entered : Option (Text × List Row) → Option ℕ
-slice_entered entered = count_in 1 (entered_text entered (codes "turns") (codes "slice"))
+slice_entered entered = count_or_default 1 (entered_text entered (codes "turns") (codes "slice"))
 
 abbrev pub steps_entered : Option (Text × List Row) → Option ℕ
-steps_entered entered = count_in 1000 (entered_text entered (codes "turns") (codes "steps"))
+steps_entered entered = count_or_default 1000 (entered_text entered (codes "turns") (codes "steps"))
 
 -- the number of states of a search, or its default
 abbrev pub states_entered : Option (Text × List Row) → Text → Option ℕ
@@ -208,8 +213,8 @@ output_entered entered = if is_given (entered_text entered (codes "source") (cod
 -- the name of the command of a search
 abbrev pub search_name : Search → Text
 search_name (Explore kind) = codes "explore"
-search_name (Access kind) = codes "access"
-search_name (Exposure kind) = codes "exposure"
+search_name (Access kind files) = codes "access"
+search_name (Exposure kind files) = codes "exposure"
 search_name (Policy kind granted) = codes "policy"
 search_name (Graph lists_tree) = codes "graph"
 
@@ -217,11 +222,29 @@ search_name (Graph lists_tree) = codes "graph"
 abbrev pub kind_entered : Option (Text × List Row) → Text → SearchKind
 kind_entered entered command = if is_given (entered_text entered command (codes "reduced")) then Reduced else Full
 
--- the flags of the command of a search are those entered
+-- the texts of an argument that may be given more than once, if the command was entered
+abbrev pub entered_texts : Option (Text × List Row) → Text → Text → Option (List Text)
+entered_texts None command argument = None
+entered_texts (Some p) command argument = if bytes_eq p.0 command then all_of argument p.1 else None
+
+-- the files of a search that were entered
+abbrev pub files_entered : Option (Text × List Row) → Text → List Text
+files_entered entered command = unwrap_or (entered_texts entered command (codes "file")) []
+
+-- the paths that there are
+abbrev pub present_paths : List (Option (Bor (List ℕ))) → List Text
+present_paths paths = filter_map (λ path. option_map (λ p. p.now) path) paths
+
+abbrev pub paths_in : Files → List Text
+paths_in files = present_paths (paths_of files)
+
+-- the flags and files of the command of a search are those entered
 abbrev pub HasFlags : Option (Text × List Row) → Search → Type 0
 HasFlags entered (Explore kind) = kind_entered entered (codes "explore") ≡ kind
-HasFlags entered (Access kind) = kind_entered entered (codes "access") ≡ kind
-HasFlags entered (Exposure kind) = kind_entered entered (codes "exposure") ≡ kind
+HasFlags entered (Access kind files) =
+    (kind_entered entered (codes "access") ≡ kind) × (paths_in files ≡ files_entered entered (codes "access"))
+HasFlags entered (Exposure kind files) =
+    (kind_entered entered (codes "exposure") ≡ kind) × (paths_in files ≡ files_entered entered (codes "exposure"))
 HasFlags entered (Policy kind granted) =
     (kind_entered entered (codes "policy") ≡ kind) × (is_given (entered_text entered (codes "policy") (codes "granted")) ≡ granted)
 HasFlags entered (Graph lists_tree) = is_given (entered_text entered (codes "graph") (codes "tree")) ≡ lists_tree
@@ -250,8 +273,8 @@ AreComparedIn entered (Bundles first second) =
     × (entered_text entered (codes "compare") (codes "OTHER") ≡ None) × (are_both_input first.now second.now ≡ false)
 
 -- the text of a number, if there is one, is this number
-abbrev pub EncodesNumber : Option Text → Option ℕ → Type 0
-EncodesNumber word number = option_map size_in word ≡ option_map (λ n. Some n) number
+abbrev pub ParsesAsNumber : Option Text → Option ℕ → Type 0
+ParsesAsNumber word number = option_map size_in word ≡ option_map (λ n. Some n) number
 
 -- the command of a question about a run
 abbrev pub question_name : Question → Text
@@ -281,7 +304,7 @@ IsTracedIn entered run = ⊥
 abbrev pub errors_entered : Option (Text × List Row) → Bool
 errors_entered entered = is_given (entered_text entered (codes "explain") (codes "errors")) || not (is_given (entered_text entered (codes "explain") (codes "brief")))
 
--- what allowed each walk is written
+-- the reason why each walk is allowed is written
 abbrev pub allowed_entered : Option (Text × List Row) → Bool
 allowed_entered entered = is_given (entered_text entered (codes "explain") (codes "allowed"))
 
@@ -289,7 +312,7 @@ allowed_entered entered = is_given (entered_text entered (codes "explain") (code
 abbrev pub IsQuestionIn : Option (Text × List Row) → Question → RunInput → Type 0
 IsQuestionIn entered Trace run = IsTracedIn entered run
 IsQuestionIn entered State run = IsValidRunIn entered (codes "state") run
-IsQuestionIn entered (Reach pid) run = (word : Option Text) × IsRunIn entered (codes "reach") (codes "PID") run word × EncodesNumber word pid
+IsQuestionIn entered (Reach pid) run = (word : Option Text) × IsRunIn entered (codes "reach") (codes "PID") run word × ParsesAsNumber word pid
 IsQuestionIn entered (Explain errors allowed) run =
     IsValidRunIn entered (codes "explain") run × (errors_entered entered ≡ errors) × (allowed_entered entered ≡ allowed)
 IsQuestionIn entered (Needs granted) run =
@@ -303,7 +326,7 @@ IsQuestionIn entered (Reasons path) run =
 abbrev pub steps_word : Option (Text × List Row) → Question → Option Text
 steps_word entered question = entered_text entered (question_name question) (codes "steps")
 
--- the question about a whole run is not another command: `run-tree` of a plain bundle, or `audit` of an image
+-- the question about a complete run is not another command: `run-tree` of a plain bundle, or `audit` of an image
 -- and a schedule
 abbrev pub IsUnderTurns : RunInput → Type 0
 IsUnderTurns (Bundle (Plain file)) = ⊥
@@ -353,7 +376,7 @@ IsCommandIn entered (AuditImage image schedule path) =
 IsCommandIn entered (WriteSource file kind) =
     (entered_text entered (codes "source") (codes "FILE") ≡ Some file.now) × (output_entered entered ≡ kind)
 IsCommandIn entered (Ask question run) =
-    IsQuestionIn entered question.question run × EncodesNumber (steps_word entered question.question) question.steps
+    IsQuestionIn entered question.question run × ParsesAsNumber (steps_word entered question.question) question.steps
     × IsOwnQuestion question.question question.steps run
 IsCommandIn entered (AskTree question tree) = IsTreeQuestionIn entered question tree
 IsCommandIn entered (Compare inputs pairs) = AreComparedIn entered inputs × (states_entered entered (codes "compare") ≡ Some pairs)
@@ -394,6 +417,39 @@ IsWithoutNumbers (AskTree (OfSearch search states) tree) = ⊥
 IsWithoutNumbers (Compare inputs pairs) = ⊥
 IsWithoutNumbers command = ⊤
 
+-- the paths of the files of a command
+abbrev pub files_of_search : Search → List Text
+files_of_search (Access kind files) = paths_in files
+files_of_search (Exposure kind files) = paths_in files
+files_of_search search = []
+
+abbrev pub files_of_question : TreeQuestion → List Text
+files_of_question (OfSearch search states) = files_of_search search
+files_of_question question = []
+
+abbrev pub command_files : Command → List Text
+command_files (AskTree question tree) = files_of_question question
+command_files command = []
+
+-- the files of a command; without files it has no path
+abbrev pub AreFilesOf : Command → Option Files → Type 0
+AreFilesOf command None = command_files command ≡ []
+AreFilesOf command (Some files) = command_files command ≡ paths_in files
+
+-- there is a path, and it is not plain
+abbrev pub is_faulty : Option (Bor (List ℕ)) → Bool
+is_faulty None = false
+is_faulty (Some path) = not (is_plain_path path.now)
+
+-- all paths are plain, or this one is not
+abbrev pub AreFaultyPaths : List Text → Option Text → Type 0
+AreFaultyPaths paths None = list_all is_plain_path paths ≡ true
+AreFaultyPaths paths (Some path) = IsTrue (list_any (bytes_eq path) paths) × (is_plain_path path ≡ false)
+
+-- the same for the files of a command
+abbrev pub AreFaultyFiles : Command → Option Text → Type 0
+AreFaultyFiles command path = AreFaultyPaths (command_files command) path
+
 -- the turns of a command, in place of a schedule
 abbrev pub turns_of_run : RunInput → Option Text
 turns_of_run (OfImage image (AsTurns turns)) = Some turns.now
@@ -409,20 +465,24 @@ abbrev pub IsWithoutWords : Command → Type 0
 IsWithoutWords (RunTree file) = file.now ≡ codes "-"
 IsWithoutWords command = ⊥
 
--- the turns of a command are turns, or these are no turns
-abbrev pub AreFaultyTurns : Command → Option Text → Type 0
-AreFaultyTurns command None = IfSome (turns_of command) (λ turns. are_turns turns ≡ true)
-AreFaultyTurns command (Some turns) = (turns_of command ≡ Some turns) × (are_turns turns ≡ false)
+-- the turns of a command are valid, or they are invalid
+abbrev pub AreInvalidTurns : Command → Option Text → Type 0
+AreInvalidTurns command None = IfSome (turns_of command) (λ turns. are_turns turns ≡ true)
+AreInvalidTurns command (Some turns) = (turns_of command ≡ Some turns) × (are_turns turns ≡ false)
 
--- a refusal of the turns of a command
+-- a refusal of the turns of a command, or of its files
 abbrev pub RefusesTurnsOf : Command → LineFault → Type 0
 RefusesTurnsOf command line.Memory = ⊤
 RefusesTurnsOf command line.Number = ⊥
-RefusesTurnsOf command (line.Parser error) = (kind_of error ≡ ValueValidation) × IsSomeAnd (turns_of command) (λ turns. are_turns turns ≡ false)
+RefusesTurnsOf command (line.Parser error) =
+    (kind_of error ≡ ValueValidation)
+    × (IsSomeAnd (turns_of command) (λ turns. are_turns turns ≡ false) ⊎ (list_all is_plain_path (command_files command) ≡ false))
 
--- the matches are of this command, and its turns are turns
+-- the matches are of this command, its turns are turns, and its files have plain paths
 abbrev pub IsValidIn : Option (Text × List Row) → Command → Type 0
-IsValidIn entered command = IsCommandIn entered command × IfSome (turns_of command) (λ turns. are_turns turns ≡ true)
+IsValidIn entered command =
+    IsCommandIn entered command × IfSome (turns_of command) (λ turns. are_turns turns ≡ true)
+    × (list_all is_plain_path (command_files command) ≡ true)
 
 -- the words, whose first is the name of the program, ask for this command
 abbrev pub IsAsked : List Text → Command → Type 0
@@ -448,7 +508,7 @@ abbrev pub of_parser : Error → LineFault
 of_parser error = of_kind (kind_of error) error
 
 -- the parser rejects the words, or its matches have no command; the kind of the error is one that the words have
-pub record IsRefused (words : List Text) (error : Error) : Type 0 where
+pub record IsCommandLineError (words : List Text) (error : Error) : Type 0 where
   pub kind : kind_of error ≢ OutOfMemory
   pub is_among : IsAmong (kind_of error) (fault_of pvsim_app words) ⊎ (kind_of error ≡ MissingRequiredArgument)
   pub none : takes pvsim_app words ≡ true → (command : Command) → IsCommandIn (subcommand_of pvsim_app words) command → ⊥
@@ -470,6 +530,30 @@ pub record RefusesTurns (words : List Text) (error : Error) : Type 0 where
   pub turns : Text
   pub has_turns : turns_of command ≡ Some turns
   pub are_none : are_turns turns ≡ false
+
+-- the words ask for a command about a file whose path is not plain
+pub record RefusesFiles (words : List Text) (error : Error) : Type 0 where
+  pub kind : kind_of error ≡ ValueValidation
+  pub command : Command
+  pub is_command : IsCommandIn (subcommand_of pvsim_app words) command
+  pub are_none : list_all is_plain_path (command_files command) ≡ false
+
+-- the name of the command of a search that may be about given files
+abbrev pub IsAboutFiles : Text → Type 0
+IsAboutFiles command = (command ≡ codes "access") ⊎ (command ≡ codes "exposure")
+
+-- such a search was entered with more files than a question has
+pub record HasManyFiles (entered : Option (Text × List Row)) : Type 0 where
+  pub command : Text
+  pub is_about_files : IsAboutFiles command
+  pub tree : TreeInput
+  pub are_entered : IsValidTreeIn entered command tree
+  pub are_many : 8 < length (files_entered entered command)
+
+-- the words ask for a search with more files than a question has
+pub record RefusesMany (words : List Text) (error : Error) : Type 0 where
+  pub kind : kind_of error ≡ ValueValidation
+  pub are_many : HasManyFiles (subcommand_of pvsim_app words)
 
 -- a question about a run was entered with a number of steps that is not a number
 pub record LacksSteps (entered : Option (Text × List Row)) : Type 0 where
@@ -520,13 +604,14 @@ LacksNumber entered =
     LacksSize entered ⊎ (LacksProcess entered ⊎ (LacksCount entered ⊎ (LacksStates entered ⊎ (LacksVersion entered ⊎ (LacksSteps entered ⊎ LacksPairs entered)))))
 
 -- the result of reading the matches of a subcommand
-abbrev pub IsFoundIn : Option (Text × List Row) → Parsed → Type 0
-IsFoundIn entered (found.Command command) = IsCommandIn entered command
-IsFoundIn entered found.Number = LacksNumber entered
+abbrev pub IsReadFrom : Option (Text × List Row) → Parsed → Type 0
+IsReadFrom entered (found.Command command) = IsCommandIn entered command
+IsReadFrom entered found.Number = LacksNumber entered
+IsReadFrom entered found.ManyFiles = HasManyFiles entered
 
 -- a refusal of the words after the name of the program
 abbrev pub RefusesWords : List Text → LineFault → Type 0
-RefusesWords words (line.Parser error) = IsRefused words error ⊎ RefusesTurns words error
+RefusesWords words (line.Parser error) = IsCommandLineError words error ⊎ (RefusesTurns words error ⊎ (RefusesFiles words error ⊎ RefusesMany words error))
 RefusesWords words line.Number = LacksNumber (subcommand_of pvsim_app words)
 RefusesWords words line.Memory = ⊤
 

@@ -1,11 +1,11 @@
 -- The program as its parser knows it.
 use Rattle.std.specs.Prelude.{◌≡◌, List, [], ◌∷◌, ◌++◌, true, false, codes, fold, map, Some}
 use Rattle.clap.specs.Words.{App, Rule, Text, app_of, new_app, new_rule, with_rule, with_subcommand}
-use Rattle.clap.specs.declared.builder.ArgAction.TheVariants.{Set, SetTrue}
+use Rattle.clap.specs.declared.builder.ArgAction.TheVariants.{Append, Set, SetTrue}
 use Rattle.clap.specs.declared.builder.command.Command.{Command as Parser}
 use Rattle.clap.specs.declared.builder.command.Command.TheViews.{out-Command}
 use Rattle.pv_cli_line.specs.declared.parser.Argument.{Argument}
-use Rattle.pv_cli_line.specs.declared.parser.Argument.TheVariants.{Required, Optional, Named, Renamed, Flag}
+use Rattle.pv_cli_line.specs.declared.parser.Argument.TheVariants.{Required, Optional, Named, Renamed, Repeated, Flag}
 use Rattle.pv_cli_line.specs.declared.parser.CommandRow.{CommandRow}
 
 -- an optional text
@@ -23,6 +23,10 @@ long_rule name = record (optional_rule name) { long = Some name; value_names = 1
 -- the same, which also has an old name
 abbrev pub renamed_rule : (name old : Text) → Rule
 renamed_rule name old = record (long_rule name) { aliases = old ∷ [] }
+
+-- an option with one text, which may be given more than once
+abbrev pub repeated_rule : Text → Rule
+repeated_rule name = record (long_rule name) { action = Some Append }
 
 -- a bundle, in place of an image and a schedule
 abbrev pub bundle_rule : Rule
@@ -76,6 +80,10 @@ search_rules = tree_rules ++ long_rule (codes "states") ∷ []
 abbrev pub kind_rules : List Rule
 kind_rules = search_rules ++ flag_rule (codes "reduced") ∷ []
 
+-- the same, with `--file PATH`
+abbrev pub file_rules : List Rule
+file_rules = kind_rules ++ repeated_rule (codes "file") ∷ []
+
 -- the commands on bundles and sources; to make and list an image; to run and audit an image; questions about the state
 -- after a run, about its steps, and about a tree
 abbrev pub schedule_apps : List App
@@ -98,8 +106,8 @@ schedule_apps =
 abbrev pub search_apps : List App
 search_apps =
     command_app (codes "explore") kind_rules
-    ∷ command_app (codes "access") kind_rules
-    ∷ command_app (codes "exposure") kind_rules
+    ∷ command_app (codes "access") file_rules
+    ∷ command_app (codes "exposure") file_rules
     ∷ command_app (codes "policy") (kind_rules ++ flag_rule (codes "granted") ∷ [])
     ∷ command_app (codes "compare") (bundle_rule ∷ optional_rule (codes "IMAGE") ∷ optional_rule (codes "OTHER") ∷ long_rule (codes "states") ∷ [])
     ∷ command_app (codes "graph") (search_rules ++ flag_rule (codes "tree") ∷ [])
@@ -130,6 +138,7 @@ rule_of_argument (Required name help) = text_rule name.now
 rule_of_argument (Optional name help) = optional_rule name.now
 rule_of_argument (Named name short value help) = record (long_rule name.now) { short = short }
 rule_of_argument (Renamed name old value help) = renamed_rule name.now old.now
+rule_of_argument (Repeated name value help) = repeated_rule name.now
 rule_of_argument (Flag name short help) = record (flag_rule name.now) { short = short }
 
 -- the command with more arguments of the table

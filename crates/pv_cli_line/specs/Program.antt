@@ -1,4 +1,4 @@
--- The result of a whole run of the program.
+-- The result of a complete run of the program.
 use Rattle.std.specs.Prelude.{◌≡◌, ◌≢◌, ℕ, Bool, true, false, ◌&&◌, not, List, [], Result, Ok, Err, IsOk, IsErr}
 use Rattle.pv_model.specs.declared.stream.Failed.{Failed}
 use Rattle.pv_model.specs.declared.stream.Sink.{Ghosts as Writing}
@@ -9,8 +9,8 @@ use Rattle.pv_cli_commands.specs.declared.fault.Fault.{Fault as CommandFault}
 use Rattle.pv_cli_commands.specs.declared.fault.Fault.TheVariants.{Importing, Source}
 use Rattle.pv_cli_commands.specs.declared.system.HostSystem.{HostSystem}
 use Rattle.pv_cli_commands.specs.Commands.{KeepsErrors, Notes, Performs, ReadsFiles, WritesFile}
-use Rattle.pv_cli_commands.specs.Faults.{Answer}
-use Rattle.pv_cli_commands.specs.Status.{Flushes, is_reported as is_reported_by_command}
+use Rattle.pv_cli_commands.specs.Faults.{CommandResult}
+use Rattle.pv_cli_commands.specs.Status.{LeavesFlushed, is_reported_by_command}
 use Rattle.pv_cli_commands.specs.Streams.{Disk, Host}
 use Rattle.pv_cli_commands.specs.OfHostCopy.declared.image.ImportStop.TheVariants.{Refused}
 use Rattle.pv_source.specs.declared.source.SourceStop.TheVariants.{Refused as RefusedSource}
@@ -21,7 +21,7 @@ use Rattle.pv_cli_line.specs.declared.fault.Fault.{Fault}
 use Rattle.pv_cli_line.specs.declared.fault.Fault.TheVariants.{Command as OfCommand, Line, Words, Write}
 use Rattle.pv_cli_line.specs.Line.{IsAsked, RefusesLine, is_verbose_line}
 use Rattle.pv_cli_line.specs.Messages.{WritesMessage, WritesMore}
-use Rattle.pv_cli_line.specs.Status.{status_of}
+use Rattle.pv_cli_line.specs.Status.{exit_status_of}
 
 -- only the output on the standard error is new
 abbrev pub WritesErrorsAlone : {F I O E : Type 0} → HostSystem F I O E → HostSystem F I O E → Type 0
@@ -60,12 +60,12 @@ is_explained fault = not (is_reported_by_command fault)
 
 -- an error was reported: nothing is new if it is already reported; otherwise its message was written, to the standard
 -- error or, for help and the version, to the standard output
-pub record Reports {F I O E : Type 0} (writing : Writing O) (reporting : Writing E) (fault : Fault) (before after : HostSystem F I O E) (status : ℕ)
+pub record ReportsError {F I O E : Type 0} (writing : Writing O) (reporting : Writing E) (fault : Fault) (before after : HostSystem F I O E) (status : ℕ)
     : Type 0 where
-  pub status_is : status_of fault ≢ 0 → status ≡ status_of fault
-  pub reported : is_reported fault ≡ true → (after ≡ before) × (status ≡ status_of fault)
-  pub error : is_reported fault ≡ false → status_of fault ≢ 0 → WritesError reporting before after
-  pub shows : is_reported fault ≡ false → status_of fault ≡ 0 → Shows writing reporting before after status
+  pub status_is : exit_status_of fault ≢ 0 → status ≡ exit_status_of fault
+  pub reported : is_reported fault ≡ true → (after ≡ before) × (status ≡ exit_status_of fault)
+  pub error : is_reported fault ≡ false → exit_status_of fault ≢ 0 → WritesError reporting before after
+  pub shows : is_reported fault ≡ false → exit_status_of fault ≡ 0 → Shows writing reporting before after status
 
 -- more lines were written to the standard error, if they are requested
 pub record Explains {F I O E : Type 0} (reporting : Writing E) (requested : Bool) (before after : HostSystem F I O E) : Type 0 where
@@ -77,7 +77,7 @@ pub record Explains {F I O E : Type 0} (reporting : Writing E) (requested : Bool
 pub record ReportsAll {F I O E : Type 0} (writing : Writing O) (reporting : Writing E) (fault : Fault) (requested : Bool) (before after : HostSystem F I O E)
     (status : ℕ) : Type 0 where
   pub middle : HostSystem F I O E
-  pub reports : Reports writing reporting fault before middle status
+  pub reports : ReportsError writing reporting fault before middle status
   pub explains : Explains reporting requested middle after
 
 -- notes were written to the standard error, if they are requested: a prefix of them, if a write failed
@@ -90,22 +90,22 @@ pub record WritesNotes {F I O E : Type 0} (reporting : Writing E) (requested : B
 
 -- the words ask for a command, which was carried out and changed nothing else; its output is flushed
 pub record Runs {F R V T I O E : Type 0} (disk : Disk F R V) (host : Host F T) (reading : Reading I) (writing : Writing O) (reporting : Writing E)
-    (words : List Bytes) (notes : Bytes) (before after : HostSystem F I O E) (answer : Answer) : Type 0 where
+    (words : List Bytes) (notes : Bytes) (before after : HostSystem F I O E) (answer : CommandResult) : Type 0 where
   pub command : Command
   pub asked : IsAsked words command
   pub does : Performs disk host reading writing reporting command before after answer
   pub noted : Notes disk.files.bytes reading.remaining command before [] notes answer
-  pub flushed : Flushes writing before.output after.output answer
+  pub flushed : LeavesFlushed writing before.output after.output answer
   pub unread : ReadsFiles command → after.input ≡ before.input
   pub silent : WritesFile command → after.output ≡ before.output
   pub unreported : KeepsErrors command → after.errors ≡ before.errors
 
 -- an argument is not a number
-abbrev pub is_number : LineFault → Bool
-is_number Number = true
-is_number fault = false
+abbrev pub is_number_error : LineFault → Bool
+is_number_error Number = true
+is_number_error fault = false
 
--- the words ask for a command, which was carried out, with status 0, and the notes beside its answer were written unless
+-- the words ask for a command, which was carried out, with status 0, and the notes on its answer were written unless
 -- the words have the flag `quiet`; or it ended early, or the words are refused, and
 -- the error was reported, with its status
 abbrev pub ComesTo : {F R V T I O E : Type 0} → Disk F R V → Host F T → Reading I → Writing O → Writing E → List Bytes → HostSystem F I O E → HostSystem F I O E → ℕ
@@ -117,11 +117,11 @@ ComesTo {F} {R} {V} {T} {I} {O} {E} disk host reading writing reporting words be
     (ended : HostSystem F I O E) × (notes : Bytes) × Runs disk host reading writing reporting words notes before ended (Err fault)
     × ReportsAll writing reporting (OfCommand fault) (is_verbose_line words && is_explained fault) ended after status
 ComesTo disk host reading writing reporting words before after status (Err (Line fault)) =
-    RefusesLine words fault × ReportsAll writing reporting (Line fault) (is_number fault) before after status
+    RefusesLine words fault × ReportsAll writing reporting (Line fault) (is_number_error fault) before after status
 ComesTo disk host reading writing reporting words before after status (Err Words) = ⊥
 ComesTo disk host reading writing reporting words before after status (Err Write) = ⊥
 
--- the result of a whole run, with its status
+-- the result of a complete run, with its status
 abbrev pub EndsWith : {F R V T I O E : Type 0} → Disk F R V → Host F T → Reading I → Writing O → Writing E → List Bytes → HostSystem F I O E → HostSystem F I O E → ℕ → Type 0
 EndsWith disk host reading writing reporting words before after status =
     (result : Result (Unit {0}) Fault) × ComesTo disk host reading writing reporting words before after status result

@@ -4,7 +4,7 @@ use Rattle.std.specs.Prelude.{ℕ}
 use Rattle.clap.specs.Words.{kind_of}
 use Rattle.clap.specs.declared.error.kind.ErrorKind.{ErrorKind}
 use Rattle.clap.specs.declared.error.kind.ErrorKind.TheVariants.{DisplayHelp, DisplayVersion}
-use Rattle.pv_cli_commands.specs.Status.{status_of as command_status}
+use Rattle.pv_cli_commands.specs.Status.{command_status}
 use Rattle.pv_cli_line.specs.declared.command.LineFault.{LineFault}
 use Rattle.pv_cli_line.specs.declared.command.LineFault.TheVariants as line
 use Rattle.pv_cli_line.specs.declared.fault.Fault.{Fault}
@@ -21,8 +21,8 @@ line_status (line.Parser error) = kind_status (kind_of error)
 line_status line.Number = 2
 line_status line.Memory = 3
 
-abbrev pub status_of : Fault → ℕ
-status_of (Command fault) = command_status fault
-status_of (Line fault) = line_status fault
-status_of Words = 2
-status_of Write = 4
+abbrev pub exit_status_of : Fault → ℕ
+exit_status_of (Command fault) = command_status fault
+exit_status_of (Line fault) = line_status fault
+exit_status_of Words = 2
+exit_status_of Write = 4

@@ -2,17 +2,18 @@
 ghost use Rattle.std.specs.Prelude.{◌≡◌, map, None, IfOk, IfErr, option_map};
 ghost use Rattle.clap.specs.Words.{kind_of, matches_of, subcommand_of};
 ghost use Rattle.clap.specs.declared.error.kind.ErrorKind.TheVariants.{MissingRequiredArgument, ValueValidation};
-ghost use Rattle.pv_cli_line.specs.Line.{AreFaultyTurns, IsAsked, IsValidIn, RefusesLine, RefusesTurnsOf, RefusesWords, is_verbose_in, is_verbose_line, turns_of as turns_text_of};
+ghost use Rattle.pv_cli_line.specs.Line.{AreFaultyFiles, AreFaultyPaths, AreFilesOf, AreInvalidTurns, IsAsked, IsValidIn, RefusesLine, RefusesTurnsOf, RefusesWords, is_faulty, is_verbose_in, is_verbose_line, present_paths, turns_of as turns_text_of};
 ghost use Rattle.pv_cli_line.specs.Parser.{pvsim_app};
-ghost use Rattle.pv_cli_line.specs.Program.{is_number};
+ghost use Rattle.pv_cli_line.specs.Program.{is_number_error};
 
 use crate::matches::{Parsed, found_in};
 use crate::parser::parser;
+use crate::paths::is_plain_path;
 use crate::superfluous::{Superfluous, superfluous_in};
 use crate::texts::is_verbose;
 use clap::error::ErrorKind;
 use clap::{ArgMatches, Command as Parser, Error as ParserError};
-use pv_cli_commands::questions::is_turns;
+use pv_cli_commands::questions::{Files, Search, TreeQuestion, is_turns};
 use pv_cli_commands::{Command, RunInput, ScheduleInput};
 use std::alloc::{AllocError, Global};
 use std::convert::AsStr;
@@ -35,7 +36,7 @@ pub enum LineFault {
 impl LineFault {
     // Returns whether an argument is not a number, or is out of range.
     pub(crate) fn is_number(&self) -> bool
-        ensures { result ≡ is_number self.now }
+        ensures { result ≡ is_number_error self.now }
     {
         matches!(self, LineFault::Number)
     }
@@ -96,7 +97,7 @@ fn turns_of(command: Command<'_>) -> Option<&str>
 
 // Returns the turns of a command if they are invalid.
 fn faulty_turns(alloc: Global, command: Command<'_>) -> Result<Option<&str>, AllocError>
-    ensures { IfOk result (λ turns. AreFaultyTurns command.entry (option_map (λ text. text.now) turns)) }
+    ensures { IfOk result (λ turns. AreInvalidTurns command.entry (option_map (λ text. text.now) turns)) }
 {
     let Some(turns) = turns_of(command) else {
         return Ok(None);
@@ -121,7 +122,77 @@ fn turns_fault(
     parser.error(ErrorKind::ValueValidation, message.as_str())
 }
 
-// Returns a command line, if the turns of its command are turns.
+// Returns the files that a command is about, if it is about files.
+fn files_of(command: Command<'_>) -> Option<Files<'_>>
+    ensures { AreFilesOf command.entry result }
+{
+    match command {
+        Command::AskTree {
+            question: TreeQuestion::Search {
+                search: Search::Access { files, .. } | Search::Exposure { files, .. },
+                ..
+            },
+            ..
+        } => Some(files),
+        _ => None,
+    }
+}
+
+// Returns whether there is a path, and it is not plain.
+fn is_faulty(path: Option<&[u8]>) -> bool
+    ensures { result ≡ is_faulty path.entry }
+{
+    match path {
+        Some(path) => !is_plain_path(path),
+        None => false,
+    }
+}
+
+// Returns the first of these paths that is not plain.
+fn faulty_path<'a>(paths: &[Option<&'a [u8]>]) -> Option<&'a [u8]>
+    ensures { AreFaultyPaths (present_paths paths.now) (option_map (λ path. path.now) result) }
+{
+    for path in paths {
+        if is_faulty(*path) {
+            return *path;
+        }
+    }
+    None
+}
+
+// Returns the first path of a command's files that is not plain.
+fn faulty_file(command: Command<'_>) -> Option<&[u8]>
+    ensures { AreFaultyFiles command.entry (option_map (λ path. path.now) result) }
+{
+    let files = files_of(command)?;
+    faulty_path(&files.to_array())
+}
+
+// Returns the error for the path of a file that is not plain.
+fn file_fault(
+    alloc: Global,
+    parser: &mut Parser<'_>,
+    path: &[u8],
+) -> Result<ParserError, AllocError>
+    ensures { IfOk result (λ error. kind_of error ≡ ValueValidation) }
+{
+    let path = std::str::from_utf8(path).unwrap_or("");
+    let message = format!(in alloc;
+        "invalid value '{path}' for '--file <PATH>': expected an absolute path as the answer writes it, with '/' before each name, and without '.' and '..'"
+    )?;
+    parser.error(ErrorKind::ValueValidation, message.as_str())
+}
+
+// Returns the error for too many files.
+fn many_files(alloc: Global, parser: &mut Parser<'_>) -> Result<ParserError, AllocError>
+    ensures { IfOk result (λ error. kind_of error ≡ ValueValidation) }
+{
+    let message = format!(in alloc; "'--file <PATH>' may be given at most 8 times")?;
+    parser.error(ErrorKind::ValueValidation, message.as_str())
+}
+
+// Returns a command line, if the turns of its command are turns, and its files have plain paths.
+#[tactic(auto, using(crate::proofs::PlainPaths::not_all_plain))]
 fn checked<'a>(
     alloc: Global,
     parser: &mut Parser<'_>,
@@ -129,17 +200,20 @@ fn checked<'a>(
     verbose: bool,
 ) -> Result<CommandLine<'a>, LineFault>
     ensures value { IfOk result (λ line. (line.command ≡ command.entry) × (line.is_verbose ≡ verbose)) }
-    ensures turns { IfOk result (λ line. AreFaultyTurns line.command None) }
+    ensures turns { IfOk result (λ line. AreInvalidTurns line.command None) }
+    ensures files { IfOk result (λ line. AreFaultyFiles line.command None) }
     ensures refused { IfErr result (RefusesTurnsOf command.entry) }
 {
-    let Some(turns) = faulty_turns(alloc, command)? else {
-        return Ok(CommandLine {
-            command,
-            is_verbose: verbose,
-        });
-    };
-    let error = turns_fault(alloc, parser, turns)?;
-    Err(LineFault::Parser(error))
+    if let Some(turns) = faulty_turns(alloc, command)? {
+        return Err(LineFault::Parser(turns_fault(alloc, parser, turns)?));
+    }
+    if let Some(path) = faulty_file(command) {
+        return Err(LineFault::Parser(file_fault(alloc, parser, path)?));
+    }
+    Ok(CommandLine {
+        command,
+        is_verbose: verbose,
+    })
 }
 
 // Returns the arguments that the command in the matches expects.
@@ -186,6 +260,7 @@ fn parsed<'a, S: AsStr>(alloc: Global, words: &'a [S]) -> Result<CommandLine<'a>
             checked(alloc, &mut parser, command, is_verbose(&matches))
         }
         Some(Parsed::Number) => Err(LineFault::Number),
+        Some(Parsed::ManyFiles) => Err(LineFault::Parser(many_files(alloc, &mut parser)?)),
         None => Err(LineFault::Parser(no_command(alloc, &mut parser, &matches)?)),
     }
 }
@@ -196,7 +271,8 @@ fn parsed<'a, S: AsStr>(alloc: Global, words: &'a [S]) -> Result<CommandLine<'a>
 ///
 /// # Errors
 ///
-/// - `Parser`: the parser rejects the words, or they ask for help or the version, or the turns of `--by` are no turns.
+/// - `Parser`: the parser rejects the words, or they ask for help or the version, or the turns of `--by` are invalid,
+///   or a path of `--file` is not one that an answer writes, or there are more than 8.
 /// - `Number`: a numeric argument is not a decimal number without leading zeros, or is above 4,294,967,295 or another
 ///   limit.
 /// - `Memory`: there is no memory.

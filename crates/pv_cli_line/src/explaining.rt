@@ -429,7 +429,7 @@ fn push_sizes(alloc: Global, out: &mut Vec<u8>, command: Command<'_>) -> Result<
     push_line(out, line.as_str())
 }
 
-// Appends what an image of this version holds, and, for version 1, the option for version 2.
+// Appends the limits of an image of this version, and, for version 1, the option for version 2.
 fn push_limits(alloc: Global, out: &mut Vec<u8>, version: Version) -> Result<(), AllocError> {
     let (files, names) = (Layout::V2.greatest_length, Layout::V2.name_limit);
     let most = format!(in alloc; "files up to {files} bytes and names up to {names} bytes")?;
@@ -461,7 +461,7 @@ fn push_ways_out(alloc: Global, out: &mut Vec<u8>, command: Command<'_>) -> Resu
     )
 }
 
-// Appends the explanation of an error in what a command reads.
+// Appends the explanation of an error in the input of a command.
 fn push_input<F: Files>(
     alloc: Global,
     out: &mut Vec<u8>,
@@ -529,7 +529,7 @@ pub(crate) fn is_explained(fault: Fault) -> bool
 }
 
 // Writes the explanation of a command's error. If there is no memory or a write fails, nothing more is written.
-#[tactic(auto, using(crate::proofs::Messages::more_written, crate::proofs::Messages::more_nothing))]
+#[tactic(auto, using(crate::proofs::MessageParts::more_written, crate::proofs::MessageParts::more_nothing))]
 pub(crate) fn explain<F: Files, E: Sink>(
     alloc: Global,
     files: &F,

@@ -1,7 +1,7 @@
 //! Error messages and the exit status.
 ghost use Rattle.std.specs.Prelude.{◌≡◌};
 ghost use Rattle.pv_cli_line.specs.Program.{is_reported};
-ghost use Rattle.pv_cli_line.specs.Status.{kind_status, status_of};
+ghost use Rattle.pv_cli_line.specs.Status.{kind_status, exit_status_of};
 
 use crate::command::LineFault;
 use clap::error::ErrorKind;
@@ -40,7 +40,7 @@ impl Fault {
     /// Returns the exit status: 1 for invalid input, 2 for an error in the command line, 3 for out of memory, 4 for a
     /// failed read or write, 5 for a search that left a state out, and 0 if help or the version was requested.
     pub fn status(&self) -> u8
-        ensures { result ≡ status_of self.now }
+        ensures { result ≡ exit_status_of self.now }
     {
         match self {
             Fault::Command(fault) => fault.status(),

@@ -79,7 +79,7 @@ pub(crate) fn has_typographic_quotes(bytes: &[u8]) -> bool {
         .any(|three| matches!(three, [0xE2, 0x80, 0x98..=0x9F]))
 }
 
-// Returns what to change in the encoding of a text, if its first bytes or its ends of lines are at fault.
+// Returns the change that the encoding of a text needs, if its first bytes or its ends of lines are in error.
 fn encoding_fault(text: &[u8]) -> Option<&'static str> {
     if is_wide(text) {
         return Some("this is UTF-16; save as UTF-8 without BOM");
@@ -93,7 +93,7 @@ fn encoding_fault(text: &[u8]) -> Option<&'static str> {
     None
 }
 
-// Appends what to change in the encoding of a text, and returns whether there is something.
+// Appends the change that the encoding of a text needs, and returns whether there is one.
 pub(crate) fn push_encoding(
     alloc: Global,
     out: &mut Vec<u8>,

@@ -22,6 +22,7 @@ mod message;
 mod names;
 mod numbers;
 mod parser;
+mod paths;
 mod places;
 pub mod program;
 mod readings;

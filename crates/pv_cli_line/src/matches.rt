@@ -1,11 +1,11 @@
 //! The command in the matches of the parser.
-ghost use Rattle.std.specs.Prelude.{◌≡◌, ◌⊎◌, ℕ, List, codes, Option, None, Some, IfSome};
+ghost use Rattle.std.specs.Prelude.{◌≡◌, ◌⊎◌, ◌<◌, ℕ, List, codes, length, Option, None, Some, IfSome};
 ghost use Rattle.clap.specs.Words.{subcommand_rows_of as entered};
-ghost use Rattle.pv_cli_line.specs.Line.{AreComparedIn, AreMigrationTextsIn, HasFlags, HasTexts, IsCommandIn, IsCommandOf, IsFoundIn, IsMigrationOf, IsPlain, IsQuestionIn, IsRunIn, IsTracedIn, IsTracedTextIn, IsTreeIn, IsValidRunIn, IsValidTreeIn, IsWithoutNumbers, Never, NeverBoth, entered_text, errors_entered, kind_entered, output_entered, question_name, search_name, size_in};
+ghost use Rattle.pv_cli_line.specs.Line.{AreComparedIn, AreMigrationTextsIn, HasFlags, HasTexts, IsAboutFiles, IsCommandIn, IsCommandOf, IsReadFrom, IsMigrationOf, IsPlain, IsQuestionIn, IsRunIn, IsTracedIn, IsTracedTextIn, IsTreeIn, IsValidRunIn, IsValidTreeIn, IsWithoutNumbers, Never, NeverBoth, entered_text, errors_entered, files_entered, kind_entered, output_entered, question_name, search_name, size_in};
 
 use crate::texts::{
-    RunTexts, TreeTexts, count_of, is_flag_given, run_in, run_texts_in, size_of, states_of,
-    text_of, tree_in, tree_texts_in, version_of,
+    RunTexts, TreeTexts, count_of, files_in, is_flag_given, run_in, run_texts_in, size_of,
+    states_of, text_of, tree_in, tree_texts_in, version_of,
 };
 use clap::ArgMatches;
 use pv_cli_commands::questions::{Question, RunQuestion, Search, SearchKind, TreeQuestion};
@@ -105,6 +105,8 @@ pub(crate) enum Parsed<'a> {
     Command(Command<'a>),
     // A command with a numeric argument that is not a number.
     Number,
+    // A command with more files than a question has.
+    ManyFiles,
 }
 
 // Returns the name of the command that asks a question about a run.
@@ -121,7 +123,7 @@ fn name_of(question: Question<'_>) -> &'static str
     }
 }
 
-// Returns the command of the trace of a whole run. The trace of a plain bundle is a command of its own.
+// Returns the command of the trace of a complete run. The trace of a plain bundle is a command of its own.
 fn whole_trace<'a>(question: RunQuestion<'a>, run: RunInput<'a>) -> Command<'a>
     requires trace { question.question ≡ Question.Trace }
     requires whole { question.steps ≡ None }
@@ -135,7 +137,8 @@ fn whole_trace<'a>(question: RunQuestion<'a>, run: RunInput<'a>) -> Command<'a>
     }
 }
 
-// Returns the command of an audit after a whole run. That of an image and a schedule in files is a command of its own.
+// Returns the command of an audit after a complete run. That of an image and a schedule in files is a command of its
+// own.
 fn whole_audit<'a>(
     question: RunQuestion<'a>,
     path: Option<&'a [u8]>,
@@ -182,10 +185,10 @@ fn command_of_question<'a>(question: RunQuestion<'a>, run: RunInput<'a>) -> Comm
 }
 
 // Returns the command of a question about a run that is in the matches, with its number of steps.
-#[tactic(auto, using(crate::proofs::QuestionLemmas::found_command, crate::proofs::QuestionLemmas::no_number))]
+#[tactic(auto, using(crate::proofs::QuestionMatches::found_command, crate::proofs::QuestionMatches::no_number))]
 fn with_steps<'a>(matches: &ArgMatches<'a>, question: Question<'a>, run: RunInput<'a>) -> Parsed<'a>
     requires { IsQuestionIn (entered matches.now) question run }
-    ensures { IsFoundIn (entered matches.now) result }
+    ensures { IsReadFrom (entered matches.now) result }
 {
     let Some(word) = text_of(matches, name_of(question), "steps") else {
         let steps = None;
@@ -200,7 +203,7 @@ fn with_steps<'a>(matches: &ArgMatches<'a>, question: Question<'a>, run: RunInpu
 
 // Returns the `reach` command, if the matches are of it.
 fn reach_in<'a>(matches: &ArgMatches<'a>) -> Option<Parsed<'a>>
-    ensures found { IfSome result (IsFoundIn (entered matches.now)) }
+    ensures found { IfSome result (IsReadFrom (entered matches.now)) }
     ensures none { result ≡ None → NeverBoth (λ pid. IsQuestionIn (entered matches.now) (Question.Reach pid)) }
 {
     let RunTexts { run, further } = run_texts_in(matches, "reach", "PID")?;
@@ -215,7 +218,7 @@ fn reach_in<'a>(matches: &ArgMatches<'a>) -> Option<Parsed<'a>>
 
 // Returns the `audit` command, if the matches are of it.
 fn audit_in<'a>(matches: &ArgMatches<'a>) -> Option<Parsed<'a>>
-    ensures found { IfSome result (IsFoundIn (entered matches.now)) }
+    ensures found { IfSome result (IsReadFrom (entered matches.now)) }
     ensures none { result ≡ None → NeverBoth (IsRunIn (entered matches.now) (codes "audit") (codes "PATH")) }
 {
     let RunTexts { run, further } = run_texts_in(matches, "audit", "PATH")?;
@@ -256,7 +259,7 @@ fn traced_in<'a>(matches: &ArgMatches<'a>) -> Option<RunInput<'a>>
 
 // Returns the `needs` command, if the matches are of it.
 fn needs_in<'a>(matches: &ArgMatches<'a>) -> Option<Parsed<'a>>
-    ensures found { IfSome result (IsFoundIn (entered matches.now)) }
+    ensures found { IfSome result (IsReadFrom (entered matches.now)) }
     ensures none { result ≡ None → Never (IsValidRunIn (entered matches.now) (codes "needs")) }
 {
     let run = run_in(matches, "needs")?;
@@ -274,7 +277,7 @@ fn are_errors_explained(matches: &ArgMatches<'_>) -> bool
 
 // Returns the `explain` command, if the matches are of it.
 fn explain_in<'a>(matches: &ArgMatches<'a>) -> Option<Parsed<'a>>
-    ensures found { IfSome result (IsFoundIn (entered matches.now)) }
+    ensures found { IfSome result (IsReadFrom (entered matches.now)) }
     ensures none { result ≡ None → Never (IsValidRunIn (entered matches.now) (codes "explain")) }
 {
     let run = run_in(matches, "explain")?;
@@ -284,9 +287,9 @@ fn explain_in<'a>(matches: &ArgMatches<'a>) -> Option<Parsed<'a>>
 }
 
 // Returns the command of a question about a run, if the matches are of one.
-#[tactic(auto, using(crate::proofs::QuestionLemmas::no_question))]
+#[tactic(auto, using(crate::proofs::QuestionMatches::no_question))]
 fn question_in<'a>(matches: &ArgMatches<'a>) -> Option<Parsed<'a>>
-    ensures found { IfSome result (IsFoundIn (entered matches.now)) }
+    ensures found { IfSome result (IsReadFrom (entered matches.now)) }
     ensures none { result ≡ None → NeverBoth (IsQuestionIn (entered matches.now)) }
 {
     if let Some(run) = traced_in(matches) {
@@ -336,7 +339,7 @@ fn cat_in<'a>(matches: &ArgMatches<'a>) -> Option<Command<'a>>
 
 // Returns the `turns` command, if the matches are of it.
 fn turns_in<'a>(matches: &ArgMatches<'a>) -> Option<Parsed<'a>>
-    ensures found { IfSome result (IsFoundIn (entered matches.now)) }
+    ensures found { IfSome result (IsReadFrom (entered matches.now)) }
     ensures none { result ≡ None → Never (IsValidTreeIn (entered matches.now) (codes "turns")) }
 {
     let tree = tree_in(matches, "turns")?;
@@ -353,23 +356,23 @@ fn turns_in<'a>(matches: &ArgMatches<'a>) -> Option<Parsed<'a>>
 }
 
 // Returns the name of the command of a search.
-fn name_of_search(search: Search) -> &'static str
-    ensures { result.now ≡ search_name search }
+fn name_of_search(search: Search<'_>) -> &'static str
+    ensures { result.now ≡ search_name search.entry }
 {
     match search {
         Search::Explore(_) => "explore",
-        Search::Access(_) => "access",
-        Search::Exposure(_) => "exposure",
+        Search::Access { .. } => "access",
+        Search::Exposure { .. } => "exposure",
         Search::Policy { .. } => "policy",
         Search::Graph { .. } => "graph",
     }
 }
 
 // Returns the command of a search, if the matches are of it.
-fn search_by<'a>(matches: &ArgMatches<'a>, search: Search) -> Option<Parsed<'a>>
+fn search_by<'a>(matches: &ArgMatches<'a>, search: Search<'a>) -> Option<Parsed<'a>>
     requires { HasFlags (entered matches.now) search }
-    ensures found { IfSome result (IsFoundIn (entered matches.now)) }
-    ensures none { result ≡ None → Never (IsValidTreeIn (entered matches.now) (search_name search)) }
+    ensures found { IfSome result (IsReadFrom (entered matches.now)) }
+    ensures none { result ≡ None → Never (IsValidTreeIn (entered matches.now) (search_name search.entry)) }
 {
     let command = name_of_search(search);
     let tree = tree_in(matches, command)?;
@@ -393,21 +396,55 @@ fn kind_in(matches: &ArgMatches<'_>, command: &str) -> SearchKind
     }
 }
 
+// Returns that a search has more files than a question, if the matches are of the given command.
+#[tactic(auto, using(crate::proofs::Files::has_many_files))]
+fn many_files_in<'a>(matches: &ArgMatches<'a>, command: &str) -> Option<Parsed<'a>>
+    requires name { IsAboutFiles command.now }
+    requires many { 8 < length (files_entered (entered matches.now) command.now) }
+    ensures found { IfSome result (IsReadFrom (entered matches.now)) }
+    ensures none { result ≡ None → Never (IsValidTreeIn (entered matches.now) command.now) }
+{
+    tree_in(matches, command)?;
+    Some(Parsed::ManyFiles)
+}
+
+// Returns the command of `access`, if the matches are of it.
+fn access_in<'a>(matches: &ArgMatches<'a>) -> Option<Parsed<'a>>
+    ensures found { IfSome result (IsReadFrom (entered matches.now)) }
+    ensures none { result ≡ None → Never (IsValidTreeIn (entered matches.now) (codes "access")) }
+{
+    let kind = kind_in(matches, "access");
+    let Some(files) = files_in(matches, "access") else {
+        return many_files_in(matches, "access");
+    };
+    search_by(matches, Search::Access { kind, files })
+}
+
+// Returns the command of `exposure`, if the matches are of it.
+fn exposure_in<'a>(matches: &ArgMatches<'a>) -> Option<Parsed<'a>>
+    ensures found { IfSome result (IsReadFrom (entered matches.now)) }
+    ensures none { result ≡ None → Never (IsValidTreeIn (entered matches.now) (codes "exposure")) }
+{
+    let kind = kind_in(matches, "exposure");
+    let Some(files) = files_in(matches, "exposure") else {
+        return many_files_in(matches, "exposure");
+    };
+    search_by(matches, Search::Exposure { kind, files })
+}
+
 // Returns the command of a search, if there is one in the matches.
 fn search_in<'a>(matches: &ArgMatches<'a>) -> Option<Parsed<'a>>
-    ensures found { IfSome result (IsFoundIn (entered matches.now)) }
+    ensures found { IfSome result (IsReadFrom (entered matches.now)) }
     ensures none { result ≡ None → NeverBoth (λ search. IsValidTreeIn (entered matches.now) (search_name search)) }
 {
     let explore = Search::Explore(kind_in(matches, "explore"));
     if let Some(found) = search_by(matches, explore) {
         return Some(found);
     }
-    let access = Search::Access(kind_in(matches, "access"));
-    if let Some(found) = search_by(matches, access) {
+    if let Some(found) = access_in(matches) {
         return Some(found);
     }
-    let exposure = Search::Exposure(kind_in(matches, "exposure"));
-    if let Some(found) = search_by(matches, exposure) {
+    if let Some(found) = exposure_in(matches) {
         return Some(found);
     }
     let policy = Search::Policy {
@@ -445,7 +482,7 @@ fn compared_in<'a>(matches: &ArgMatches<'a>) -> Option<CompareInput<'a>>
 
 // Returns the `compare` command, if the matches are of it.
 fn compare_in<'a>(matches: &ArgMatches<'a>) -> Option<Parsed<'a>>
-    ensures found { IfSome result (IsFoundIn (entered matches.now)) }
+    ensures found { IfSome result (IsReadFrom (entered matches.now)) }
     ensures none { result ≡ None → Never (AreComparedIn (entered matches.now)) }
 {
     let inputs = compared_in(matches)?;
@@ -467,7 +504,7 @@ fn output_in(matches: &ArgMatches<'_>) -> Output
 }
 
 // Returns the plain command in the matches, if there is one.
-#[tactic(auto, using(crate::proofs::LineLemmas::no_plain_command))]
+#[tactic(auto, using(crate::proofs::LineMatches::no_plain_command))]
 fn plain_command_in<'a>(matches: &ArgMatches<'a>) -> Option<Command<'a>>
     ensures found { IfSome result (IsCommandIn (entered matches.now)) }
     ensures none { result ≡ None → (command : Command) → IsPlain command → IsCommandIn (entered matches.now) command → ⊥ }
@@ -489,7 +526,7 @@ fn plain_command_in<'a>(matches: &ArgMatches<'a>) -> Option<Command<'a>>
 
 // Returns the `migrate` command, if the matches are of it.
 fn migrate_in<'a>(matches: &ArgMatches<'a>) -> Option<Parsed<'a>>
-    ensures found { IfSome result (IsFoundIn (entered matches.now)) }
+    ensures found { IfSome result (IsReadFrom (entered matches.now)) }
     ensures none { result ≡ None → (image out blocks inodes : List ℕ) → HasTexts (entered matches.now) image out blocks inodes → ⊥ }
 {
     let migration = migration_in(matches)?;
@@ -501,7 +538,7 @@ fn migrate_in<'a>(matches: &ArgMatches<'a>) -> Option<Parsed<'a>>
 
 // Returns the `import` command, if the matches are of it.
 fn import_in<'a>(matches: &ArgMatches<'a>) -> Option<Parsed<'a>>
-    ensures found { IfSome result (IsFoundIn (entered matches.now)) }
+    ensures found { IfSome result (IsReadFrom (entered matches.now)) }
     ensures none { result ≡ None → (directory image : List ℕ)
         → entered_text (entered matches.now) (codes "import") (codes "DIR") ≡ Some directory
         → entered_text (entered matches.now) (codes "import") (codes "IMAGE") ≡ Some image → ⊥ }
@@ -523,7 +560,7 @@ fn import_in<'a>(matches: &ArgMatches<'a>) -> Option<Parsed<'a>>
 }
 
 // Returns the command without numeric arguments in the matches, if there is one.
-#[tactic(auto, using(crate::proofs::LineLemmas::no_command))]
+#[tactic(auto, using(crate::proofs::LineMatches::no_command))]
 fn command_in<'a>(matches: &ArgMatches<'a>) -> Option<Command<'a>>
     ensures found { IfSome result (IsCommandIn (entered matches.now)) }
     ensures none { result ≡ None → (command : Command) → IsWithoutNumbers command → IsCommandIn (entered matches.now) command → ⊥ }
@@ -538,9 +575,9 @@ fn command_in<'a>(matches: &ArgMatches<'a>) -> Option<Command<'a>>
 }
 
 // Returns the command in the matches, if there is one.
-#[tactic(auto, using(crate::proofs::LineLemmas::no_command_at_all))]
+#[tactic(auto, using(crate::proofs::LineMatches::no_command_at_all))]
 pub(crate) fn found_in<'a>(matches: &ArgMatches<'a>) -> Option<Parsed<'a>>
-    ensures found { IfSome result (IsFoundIn (entered matches.now)) }
+    ensures found { IfSome result (IsReadFrom (entered matches.now)) }
     ensures none { result ≡ None → Never (IsCommandIn (entered matches.now)) }
 {
     if let Some(command) = command_in(matches) {

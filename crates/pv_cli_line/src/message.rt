@@ -54,7 +54,7 @@ impl Write for Part {
 }
 
 // Writes the message of an error part by part, and returns whether it ends in a newline.
-#[tactic(auto, using(crate::proofs::Messages::text_grown))]
+#[tactic(auto, using(crate::proofs::MessageParts::text_grown))]
 fn write_parts<W: Sink>(fault: &Fault, sink: &mut W) -> Result<bool, Failed>
     ensures { WritesText W.Sink sink.old sink.new result }
 {
@@ -76,7 +76,7 @@ fn write_parts<W: Sink>(fault: &Fault, sink: &mut W) -> Result<bool, Failed>
 /// # Errors
 ///
 /// `Failed`, if a write or the flush fails. The sink received a prefix of the message.
-#[tactic(auto, using(crate::proofs::Messages::ended_flushed, crate::proofs::Messages::newline_flushed))]
+#[tactic(auto, using(crate::proofs::MessageParts::ended_flushed, crate::proofs::MessageParts::newline_flushed))]
 pub(crate) fn write_message<W: Sink>(fault: &Fault, sink: &mut W) -> Result<(), Failed>
     ensures { WritesMessage W.Sink sink.old sink.new result }
 {

@@ -15,7 +15,7 @@ pub(crate) struct Names<'a> {
     pub(crate) first: &'a str,
     // The expected kind of that file.
     pub(crate) wanted: &'static str,
-    // What to do if that file is an image in place of a text, or a text in place of an image.
+    // The advice if that file is an image in place of a text, or a text in place of an image.
     pub(crate) hint: &'static str,
     // Whether that file is a text.
     pub(crate) is_text: bool,
@@ -140,7 +140,7 @@ fn starts<F: Files>(alloc: Global, files: &F, format: Format, name: &str) -> boo
     end.is_ok()
 }
 
-// Returns the files of a comparison of images. The one at fault comes first.
+// Returns the files of a comparison of images. The one in error comes first.
 fn images_named<'a, F: Files>(
     alloc: Global,
     files: &F,
@@ -158,7 +158,7 @@ fn images_named<'a, F: Files>(
     }
 }
 
-// Returns the files of a comparison of bundles. The one at fault comes first.
+// Returns the files of a comparison of bundles. The one in error comes first.
 fn bundles_named<'a, F: Files>(
     alloc: Global,
     files: &F,

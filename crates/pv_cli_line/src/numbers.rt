@@ -149,7 +149,7 @@ fn explanation<S: AsStr>(alloc: Global, words: &[S]) -> Result<Vec<u8>, AllocErr
 
 // Writes the explanation of a numeric argument that is not a number, if the words ask for one. If there is no memory or
 // a write fails, nothing more is written.
-#[tactic(auto, using(crate::proofs::Messages::more_written, crate::proofs::Messages::more_nothing))]
+#[tactic(auto, using(crate::proofs::MessageParts::more_written, crate::proofs::MessageParts::more_nothing))]
 pub(crate) fn explain_number<S: AsStr, E: Sink>(alloc: Global, words: &[S], errors: &mut E)
     ensures { WritesMore E.Sink errors.old errors.new }
 {

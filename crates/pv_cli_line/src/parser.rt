@@ -3,7 +3,7 @@ ghost use Rattle.std.specs.Prelude.{◌≡◌, false, IfOk, map};
 ghost use Rattle.std.specs.Option.{option_or};
 ghost use Rattle.clap.specs.Words.{app_of, rule_of};
 ghost use Rattle.clap.specs.declared.builder.command.Command.TheViews.{out-Command as fields_of};
-ghost use Rattle.pv_cli_line.specs.Parser.{IsParserOf, app_of_row, bare_app, long_rule, pvsim_app, rule_of_argument, schedule_apps, search_apps, with_flags, with_rows};
+ghost use Rattle.pv_cli_line.specs.Parser.{IsParserOf, app_of_row, bare_app, long_rule, pvsim_app, repeated_rule, rule_of_argument, schedule_apps, search_apps, with_flags, with_rows};
 
 use clap::{Arg, ArgAction, Command as Parser};
 use std::alloc::{AllocError, Global};
@@ -28,6 +28,12 @@ enum Argument {
         value: &'static str,
         help: &'static str,
     },
+    // An option with one text, which may be given more than once.
+    Repeated {
+        name: &'static str,
+        value: &'static str,
+        help: &'static str,
+    },
     // A flag.
     Flag {
         name: &'static str,
@@ -36,9 +42,9 @@ enum Argument {
     },
 }
 
-use Argument::{Flag, Named, Optional, Renamed, Required};
+use Argument::{Flag, Named, Optional, Renamed, Repeated, Required};
 
-// A command: its name, its help, the end of its help with what the answer leaves out and an example, and its arguments
+// A command: its name, its help, the end of its help with the limits of the answer and an example, and its arguments
 // in order.
 struct CommandRow {
     name: &'static str,
@@ -127,6 +133,13 @@ const STATES: Argument = Named {
     short: None,
     value: "N",
     help: "the maximum number of states: 1 to 4294967295 (default 1000000); the exit status is 5 if a state is left out",
+};
+
+// The files that the answer of a search is about.
+const FILES: Argument = Repeated {
+    name: "file",
+    value: "PATH",
+    help: "keep only the lines about the file at this path in the image, under each path that it has; at most 8 times",
 };
 
 const REDUCED: Argument = Flag {
@@ -325,14 +338,14 @@ const SEARCHES: &[CommandRow] = &[
     CommandRow {
         name: "access",
         about: "Print which process can access which file under any schedule, each with a shortest schedule",
-        example: "A file is shown by its path at that step. After a rename or through a link it has another path.\n\nExample, with the files of examples/:\n  pvsim access -b race-first.bundle",
-        arguments: &[BUNDLE, SOURCE, IMAGE, STATES, REDUCED],
+        example: "A file is shown by its path at that step, and after 'first' by its path in the image if that is another one.\n\nExample, with the files of examples/:\n  pvsim access -b race-first.bundle --file /etc/key",
+        arguments: &[BUNDLE, SOURCE, IMAGE, STATES, REDUCED, FILES],
     },
     CommandRow {
         name: "exposure",
         about: "Print at which lines of each program a process could still reach each file, whatever it called next",
         example: "An attacker controls one process. LEAK and EDIT are about its own calls; PEER: another process could hand the file over;\nREAD: what was read there is still in the buffer later.\n\nExample, with the files of examples/:\n  pvsim exposure -b privsep.bundle",
-        arguments: &[BUNDLE, SOURCE, IMAGE, STATES, REDUCED],
+        arguments: &[BUNDLE, SOURCE, IMAGE, STATES, REDUCED, FILES],
     },
     CommandRow {
         name: "policy",
@@ -441,6 +454,18 @@ fn option_of<'a>(alloc: Global, name: &'a str, value: &'a str, help: &'a str) ->
         .help(help)
 }
 
+// Returns an option with one text, which may be given more than once.
+fn repeated_of<'a>(alloc: Global, name: &'a str, value: &'a str, help: &'a str) -> Arg<'a>
+    ensures rule { rule_of result ≡ repeated_rule name.now }
+    ensures local { result.global ≡ false }
+{
+    Arg::new(alloc, name)
+        .action(ArgAction::Append)
+        .long(name)
+        .value_name(value)
+        .help(help)
+}
+
 // Converts an argument of the table to an argument of the parser.
 fn argument_of<'a>(alloc: Global, argument: &Argument) -> Result<Arg<'a>, AllocError>
     ensures rule { IfOk result (λ one. rule_of one ≡ rule_of_argument argument.now) }
@@ -466,6 +491,7 @@ fn argument_of<'a>(alloc: Global, argument: &Argument) -> Result<Arg<'a>, AllocE
             value,
             help,
         } => option_of(alloc, name, value, help).alias(old),
+        Repeated { name, value, help } => Ok(repeated_of(alloc, name, value, help)),
         Flag { name, short, help } => {
             let flag = Arg::new(alloc, name)
                 .action(ArgAction::SetTrue)

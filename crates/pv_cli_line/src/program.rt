@@ -1,9 +1,9 @@
 //! The whole program.
 ghost use Rattle.std.specs.Prelude.{◌≡◌, ◌≢◌, map, ◌&&◌};
-ghost use Rattle.pv_cli_commands.specs.Status.{status_of as command_status_of};
+ghost use Rattle.pv_cli_commands.specs.Status.{command_status as command_status_of};
 ghost use Rattle.pv_cli_commands.specs.Streams.{disk_of, host_of};
 ghost use Rattle.pv_cli_line.specs.declared.fault.Fault.TheVariants.{Command as OfCommand, Line as OfLine};
-ghost use Rattle.pv_cli_line.specs.Program.{EndsWith, Reports, ReportsAll, WritesNotes, is_explained, is_number};
+ghost use Rattle.pv_cli_line.specs.Program.{EndsWith, ReportsError, ReportsAll, WritesNotes, is_explained, is_number_error};
 
 use crate::command::{CommandLine, LineFault, command_line_of};
 use crate::explaining::{explain, is_explained};
@@ -22,7 +22,7 @@ pub fn report<F: Drop, I: Drop, O: Sink + Drop, E: Sink + Drop>(
     fault: &Fault,
     system: &mut HostSystem<F, I, O, E>,
 ) -> u8
-    ensures reports { Reports O.Sink E.Sink fault.now system.old system.new result }
+    ensures reports { ReportsError O.Sink E.Sink fault.now system.old system.new result }
     ensures flushed { O.buffered system.old.output ≡ 0 → result ≢ 4 → O.buffered system.new.output ≡ 0 }
 {
     let status = fault.status();
@@ -74,7 +74,7 @@ fn report_words<S: AsStr, F: Drop, I: Drop, O: Sink + Drop, E: Sink + Drop>(
     fault: LineFault,
     system: &mut HostSystem<F, I, O, E>,
 ) -> u8
-    ensures reports { ReportsAll O.Sink E.Sink (OfLine fault) (is_number fault) system.old system.new result }
+    ensures reports { ReportsAll O.Sink E.Sink (OfLine fault) (is_number_error fault) system.old system.new result }
     ensures flushed { O.buffered system.old.output ≡ 0 → result ≢ 4 → O.buffered system.new.output ≡ 0 }
 {
     let is_number = fault.is_number();
@@ -85,9 +85,9 @@ fn report_words<S: AsStr, F: Drop, I: Drop, O: Sink + Drop, E: Sink + Drop>(
     status
 }
 
-// Writes the notes beside an answer to the standard error, if they are requested, and returns the exit status of
+// Writes the notes on an answer to the standard error, if they are requested, and returns the exit status of
 // success. If a write fails, nothing more is written.
-#[tactic(auto, using(crate::proofs::Reported::notes_unrequested, crate::proofs::Reported::notes_absent, crate::proofs::Reported::notes_written))]
+#[tactic(auto, using(crate::proofs::ReportedErrors::notes_unrequested, crate::proofs::ReportedErrors::notes_absent, crate::proofs::ReportedErrors::notes_written))]
 fn report_notes<F: Drop, I: Drop, O: Drop, E: Sink + Drop>(
     requested: bool,
     notes: &[u8],
@@ -111,7 +111,7 @@ fn report_notes<F: Drop, I: Drop, O: Drop, E: Sink + Drop>(
 ///
 /// The status is 0 on success and after help or the version, 1 if the input is invalid, 2 for an error in the command
 /// line, 3 if there is no memory, 4 if a read or a write fails, and 5 if a search left a state out. Unless the words have
-/// the flag `quiet`, an error is explained in lines that begin with two spaces, and notes beside an answer are written to
+/// the flag `quiet`, an error is explained in lines that begin with two spaces, and notes on an answer are written to
 /// the standard error in lines that begin with `pvsim: note: `. If the standard output had nothing buffered and the status is not 4, it has nothing buffered
 /// afterwards. A search of states reports to `progress`.
 pub fn run<

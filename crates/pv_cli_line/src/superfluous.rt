@@ -22,8 +22,8 @@ fn takes_further(command: &str) -> bool {
     command == "audit" || command == "reach" || command == "cat"
 }
 
-// Returns the maximum number of words of a command beside its options. A bundle or source takes the place of the image,
-// and turns that of the schedule.
+// Returns the maximum number of words of a command without its options. A bundle or source takes the place of the
+// image, and turns that of the schedule.
 fn most_words(command: &str, has_text: bool, has_turns: bool) -> usize {
     if command == "compare" {
         return if has_text { 1 } else { 2 };

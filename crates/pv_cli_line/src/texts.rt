@@ -1,9 +1,10 @@
 //! The texts and numbers of a command in the parser's matches.
-ghost use Rattle.std.specs.Prelude.{◌≡◌, Option, None, Some, IfSome, option_map};
+ghost use Rattle.std.specs.Prelude.{◌≡◌, ◌<◌, length, map, slice_get, Option, None, Some, IfSome, option_map};
 ghost use Rattle.clap.specs.Words.{found_of, rows_of, subcommand_rows_of as entered};
-ghost use Rattle.pv_cli_line.specs.Line.{AreRunTextsIn, AreTreeTextsIn, IsGivenIn, IsRunIn, IsScheduleOf, IsTextIn, IsTextless, IsTreeIn, IsValidRunIn, IsValidTreeIn, Never, NeverBoth, count_in, entered_text, is_given, is_set, is_set_in, is_verbose_in, size_in, states_in, version_in};
+ghost use Rattle.pv_cli_line.specs.Line.{AreRunTextsIn, AreTreeTextsIn, IsGivenIn, IsRunIn, IsScheduleOf, IsTextIn, IsTextless, IsTreeIn, IsValidRunIn, IsValidTreeIn, Never, NeverBoth, count_or_default, entered_text, entered_texts, files_entered, is_given, is_set, is_flag_set_in, is_verbose_in, paths_in, size_in, states_in, version_in};
 
 use clap::ArgMatches;
+use pv_cli_commands::questions::Files;
 use pv_cli_commands::{RunInput, ScheduleInput, TextInput, TreeInput};
 use pv_model::Version;
 use pv_text::words::decimal;
@@ -32,7 +33,7 @@ fn is_set(matches: &ArgMatches<'_>, flag: &str) -> bool
 
 // Returns whether a flag is set in the matches, before or after the name of a command.
 fn is_set_in(matches: &ArgMatches<'_>, flag: &str) -> bool
-    ensures { result ≡ is_set_in (rows_of (found_of matches.now)) (entered matches.now) flag.now }
+    ensures { result ≡ is_flag_set_in (rows_of (found_of matches.now)) (entered matches.now) flag.now }
 {
     let above = is_set(matches, flag);
     match matches.subcommand() {
@@ -65,7 +66,7 @@ pub(crate) fn size_of(word: &str) -> Option<u32>
 
 // Parses a number of steps, from 1 to 65,536. Without a word, returns the default.
 pub(crate) fn count_of(word: Option<&str>, default: u32) -> Option<u32>
-    ensures { result ≡ count_in default (option_map (λ text. text.now) word.entry) }
+    ensures { result ≡ count_or_default default (option_map (λ text. text.now) word.entry) }
 {
     let Some(word) = word else {
         return Some(default);
@@ -117,6 +118,57 @@ pub(crate) fn is_flag_given(matches: &ArgMatches<'_>, command: &str, flag: &str)
     }
 }
 
+// Returns the texts of an argument that may be given more than once, if the matches are of the given command.
+fn texts_of<'m, 'a>(
+    matches: &'m ArgMatches<'a>,
+    command: &str,
+    argument: &str,
+) -> Option<&'m [&'a str]>
+    ensures { option_map (λ texts. map (λ text. text.now) texts.now) result ≡ entered_texts (entered matches.now) command.now argument.now }
+{
+    let inner = matches.subcommand_matches(command)?;
+    inner.get_strs(argument)
+}
+
+// Returns the bytes of a text, if there is one with this number.
+fn path_at<'a>(texts: &[&'a str], number: usize) -> Option<&'a [u8]>
+    ensures { option_map (λ path. path.now) result ≡ option_map (λ text. text.now) (slice_get texts.now number) }
+{
+    let text = texts.get(number)?;
+    Some(text.as_bytes())
+}
+
+// Returns the bytes of texts. Returns `None` if there are more than 8.
+#[tactic(auto, using(crate::proofs::Files::are_paths))]
+fn files_of<'a>(texts: &[&'a str]) -> Option<Files<'a>>
+    ensures found { IfSome result (λ files. paths_in files ≡ map (λ text. text.now) texts.now) }
+    ensures none { result ≡ None → 8 < length texts.now }
+{
+    if texts.len() > 8 {
+        return None;
+    }
+    Some(Files {
+        paths: (
+            path_at(texts, 0),
+            path_at(texts, 1),
+            path_at(texts, 2),
+            path_at(texts, 3),
+            path_at(texts, 4),
+            path_at(texts, 5),
+            path_at(texts, 6),
+            path_at(texts, 7),
+        ),
+    })
+}
+
+// Returns the files of a search, if the matches are of the given command. Returns `None` if there are more than 8.
+pub(crate) fn files_in<'a>(matches: &ArgMatches<'a>, command: &str) -> Option<Files<'a>>
+    ensures found { IfSome result (λ files. paths_in files ≡ files_entered (entered matches.now) command.now) }
+    ensures none { result ≡ None → 8 < length (files_entered (entered matches.now) command.now) }
+{
+    files_of(texts_of(matches, command, "file").unwrap_or(&[]))
+}
+
 // The manifests and bundles that are given in place of an image.
 #[derive(Clone, Copy)]
 pub(crate) enum Given<'a> {
@@ -129,7 +181,7 @@ pub(crate) enum Given<'a> {
 }
 
 // Returns the manifests and bundles that are given, if the matches are of the given command.
-#[tactic(auto, using(crate::proofs::LineLemmas::text_none, crate::proofs::LineLemmas::text_both))]
+#[tactic(auto, using(crate::proofs::LineMatches::text_none, crate::proofs::LineMatches::text_both))]
 fn given_in<'a>(matches: &ArgMatches<'a>, command: &str) -> Given<'a>
     ensures { IsGivenIn (entered matches.now) command.now result }
 {
@@ -333,7 +385,7 @@ pub(crate) fn tree_texts_in<'a>(
 }
 
 // Returns the input that has a tree, if the matches are of the given command, which has no further argument.
-#[tactic(auto, using(crate::proofs::LineLemmas::tree_further))]
+#[tactic(auto, using(crate::proofs::LineMatches::tree_further))]
 pub(crate) fn tree_in<'a>(matches: &ArgMatches<'a>, command: &str) -> Option<TreeInput<'a>>
     ensures found { IfSome result (λ tree. IsValidTreeIn (entered matches.now) command.now tree) }
     ensures none { result ≡ None → Never (IsValidTreeIn (entered matches.now) command.now) }

@@ -1,13 +1,13 @@
--- Lemmas about the comparison of two images: Stopping (a search that stops), Searched (the search of pairs), LiveOnes (the
--- processes that are live in either state), Numbered (pairs stored as numbers), Moved (steps in both states), Answered
--- (the text), Looped (the loops of the search), Stepped (the steps of both images from a visited pair),
--- Fetching (a next step that is no call).
-pub mod Stopping
-pub mod Searched
-pub mod LiveOnes
-pub mod Numbered
-pub mod Moved
-pub mod Answered
-pub mod Looped
-pub mod Stepped
-pub mod Fetching
+-- Lemmas about the comparison of two images: StoppingSearch (a search that stops), PlannedComparison (the search of
+-- pairs), LivePairProcesses (the processes that are live in either state), PairNumbers (pairs stored as numbers),
+-- PairSteps (steps in both states), ComparisonText (the text), PairLoops (the loops of the search), StepsOfPairs (the
+-- steps of both images from a visited pair), NextSteps (a next step that is not a call).
+pub mod StoppingSearch
+pub mod PlannedComparison
+pub mod LivePairProcesses
+pub mod PairNumbers
+pub mod PairSteps
+pub mod ComparisonText
+pub mod PairLoops
+pub mod StepsOfPairs
+pub mod NextSteps

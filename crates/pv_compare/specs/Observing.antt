@@ -1,10 +1,10 @@
--- What is observed of the steps of both images.
+-- The observations of the steps of both images.
 use Rattle.std.specs.Prelude.{◌≡◌, ℕ, Bool, true, false, not, ◌&&◌, if◌then◌else◌, List, [], ◌∷◌, bytes_eq}
 use Rattle.std.proofs.Common.{ap, ap₂, sym}
 use Rattle.pv_model.specs.Answers.Compare.{is_restraint}
 use Rattle.pv_model.specs.Machine.{Observer, Bytes, program_of, process_at, trace_bytes}
-use Rattle.pv_explore.proofs.SeenProcess.{process-seen}
-use Rattle.pv_laws_steps.proofs.SeenSteps.{steps-by_seen}
+use Rattle.pv_explore.proofs.SteppingProcess.{process-seen}
+use Rattle.pv_laws_steps.proofs.DependentSteps.{steps-by_seen}
 use Rattle.pv_explore.specs.OfStepCache.Cached.{DependsOnSeen}
 
 -- a note, if the step is a call of pledge or unveil
@@ -25,10 +25,10 @@ text_in [] = []
 text_in (text ∷ texts) = text
 
 -- whether a note follows the text
-abbrev pub is_marked : List Bytes → Bool
-is_marked (text ∷ note ∷ texts) = true
-is_marked texts = false
+abbrev pub has_note : List Bytes → Bool
+has_note (text ∷ note ∷ texts) = true
+has_note texts = false
 
 -- whether the texts of two steps are different, unless both have a note
 abbrev pub texts_differ : List Bytes → List Bytes → Bool
-texts_differ first second = not (is_marked first && is_marked second) && not (bytes_eq (text_in first) (text_in second))
+texts_differ first second = not (has_note first && has_note second) && not (bytes_eq (text_in first) (text_in second))

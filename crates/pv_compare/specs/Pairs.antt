@@ -9,7 +9,7 @@ use Rattle.pv_explore.specs.Plan.{state_key}
 use Rattle.pv_explore.specs.Rows.{number_in, IsAmong}
 use Rattle.pv_explore.specs.Witnesses.{longer}
 use Rattle.pv_model.specs.Machine.{Comparison, FoundPair, PairMove, alike, different, differs, pair_moves, Bytes, program_of, State, trace_bytes}
-use Rattle.pv_model.specs.Answers.Compare.{is_found, pair_move, same_pair}
+use Rattle.pv_model.specs.Answers.Compare.{is_pair_found, pair_move, same_pair}
 use Rattle.pv_explore.specs.OfStateEncoding.Packed.{packed_all}
 
 -- ---- the pairs
@@ -76,20 +76,20 @@ pub record AreNumbered (firsts seconds keys : List Bytes) (numbers : List PairNu
 abbrev pub NumbersAre : Pairs → Type 0
 NumbersAre p = AreNumbered p.first.keys p.second.keys p.keys p.numbers.items (found_in (pairs_of p))
 
--- the numbers of each pair are stored, and each image has at most as many states as there are pairs
-pub record IsWhole (p : Pairs) : Type 0 where
+-- the numbers of each pair are stored, and the number of states of each image is at most the number of pairs
+pub record IsSearchInvariant (p : Pairs) : Type 0 where
   pub numbered : NumbersAre p
   pub first_few : length p.first.keys ≤ length p.witnesses
   pub second_few : length p.second.keys ≤ length p.witnesses
 
--- there are as many numbers as pairs
+-- the lists of numbers and of pairs have equal lengths
 abbrev pub AreCounted : Pairs → Type 0
 AreCounted p = length p.numbers.items ≡ length p.witnesses
 
 -- the number of a state, or none if it is not stored and there are at least `limit` pairs
-abbrev pub IsReached : ℕ → ℕ → List Bytes → Bytes → Option ℕ → Type 0
-IsReached limit pairs keys key None = (list_any (bytes_eq key) keys ≡ false) × (limit ≤ pairs)
-IsReached limit pairs keys key (Some number) = (number ≡ number_in keys key) × IsAmong keys key
+abbrev pub IsNumberOfState : ℕ → ℕ → List Bytes → Bytes → Option ℕ → Type 0
+IsNumberOfState limit pairs keys key None = (list_any (bytes_eq key) keys ≡ false) × (limit ≤ pairs)
+IsNumberOfState limit pairs keys key (Some number) = (number ≡ number_in keys key) × IsAmong keys key
 
 -- ---- steps
 
@@ -105,19 +105,19 @@ abbrev pub move_in : PairsFound → List ℕ → ℕ → PairMove
 move_in p witness pid = pair_move program_of (pair_in p witness) pid
 
 -- a step differs, or the pair after it was visited
-abbrev pub IsMoved : ℕ → (old new : Pairs) → List ℕ → ℕ → Option Difference → Type 0
-IsMoved limit old new witness pid None =
-    (differs (move_in (pairs_of old) witness pid) ≡ false) × (pairs_of new ≡ visited limit (pairs_of old) (witness ++ pid ∷ [])) × IsWhole new
-IsMoved limit old new witness pid (Some d) =
+abbrev pub ComparesStep : ℕ → (old new : Pairs) → List ℕ → ℕ → Option Difference → Type 0
+ComparesStep limit old new witness pid None =
+    (differs (move_in (pairs_of old) witness pid) ≡ false) × (pairs_of new ≡ visited limit (pairs_of old) (witness ++ pid ∷ [])) × IsSearchInvariant new
+ComparesStep limit old new witness pid (Some d) =
     (differs (move_in (pairs_of old) witness pid) ≡ true) × IsDifference d (move_in (pairs_of old) witness pid) × (pairs_of new ≡ pairs_of old)
 
 -- one of the steps differs, or the pairs after them were visited
-abbrev pub AreMoved : ℕ → (old new : Pairs) → List PairMove → Option Difference → Type 0
-AreMoved limit old new ms None =
+abbrev pub ComparesSteps : ℕ → (old new : Pairs) → List PairMove → Option Difference → Type 0
+ComparesSteps limit old new ms None =
     ((rest : List FoundPair → Bool → Comparison)
     → compared_moves program_of limit rest (found_in (pairs_of old)) old.complete ms ≡ rest (found_in (pairs_of new)) new.complete)
-    × Extends (pairs_of old) (pairs_of new) × IsWhole new
-AreMoved limit old new ms (Some d) =
+    × Extends (pairs_of old) (pairs_of new) × IsSearchInvariant new
+ComparesSteps limit old new ms (Some d) =
     (m : PairMove) × IsDifference d m
     × ((rest : List FoundPair → Bool → Comparison)
     → compared_moves program_of limit rest (found_in (pairs_of old)) old.complete ms ≡ different m (length new.witnesses))

@@ -1,7 +1,7 @@
 -- The search of pairs as it is made: the steps of both machines in each visited pair, up to the first that differs.
 use Rattle.std.specs.Prelude.{ℕ, Bool, true, List, [], ◌∷◌, map, Option}
 use Rattle.pv_model.specs.Machine.{Comparison, FoundPair, PairMove, alike, different, differs, pair_moves, Bytes, Program, State, run}
-use Rattle.pv_model.specs.Answers.Compare.{found_by, is_found}
+use Rattle.pv_model.specs.Answers.Compare.{pair_found_by, is_pair_found}
 use Rattle.pv_compare.specs.Stopping.{result_from, result_of_moves}
 
 module _ (program_of : Bytes → Option Program) (s t : State) where
@@ -15,11 +15,11 @@ module _ (program_of : Bytes → Option Program) (s t : State) where
 module _ (program_of : Bytes → Option Program) (limit : ℕ) where
   -- the comparison of the steps from at most `pairs` more pairs, beginning with number k
   abbrev pub compared_pairs : ℕ → ℕ → List FoundPair → Bool → Comparison
-  compared_pairs pairs k found complete = result_from (pair_moves program_of) found_by is_found limit differs different alike pairs k found complete
+  compared_pairs pairs k found complete = result_from (pair_moves program_of) pair_found_by is_pair_found limit differs different alike pairs k found complete
 
   -- the comparison of steps in sequence, then of the rest
   abbrev pub compared_moves : (List FoundPair → Bool → Comparison) → List FoundPair → Bool → List PairMove → Comparison
-  compared_moves rest found complete ms = result_of_moves (pair_moves program_of) found_by is_found limit differs different alike rest found complete ms
+  compared_moves rest found complete ms = result_of_moves (pair_moves program_of) pair_found_by is_pair_found limit differs different alike rest found complete ms
 
   abbrev pub planned : State → State → Comparison
   planned s t = compared_pairs limit 0 (pair_at program_of s t [] ∷ []) true

@@ -1,7 +1,7 @@
 -- A breadth-first search that stops at the first move with a property. It makes the moves of each visited element in
 -- turn, and knows at its end whether it left a move out.
 use Rattle.std.specs.Prelude.{ℕ, zero, suc, Bool, false, not, ◌&&◌, if◌then◌else◌, nat_le, List, [], ◌∷◌, length, slice_get, Option, None, Some}
-use Rattle.pv_model.specs.Answers.Search.{with_move, is_closed}
+use Rattle.pv_model.specs.Answers.Search.{with_element, is_closed}
 
 module _ {F M R : Type 0} (moves_of : F → List M) (found_by : M → F) (is_known : M → List F → Bool) (limit : ℕ)
     (stops : M → Bool) (stopped : M → ℕ → R) (ended : Bool → ℕ → R) where
@@ -14,7 +14,7 @@ module _ {F M R : Type 0} (moves_of : F → List M) (found_by : M → F) (is_kno
   result_of_moves rest found complete [] = rest found complete
   result_of_moves rest found complete (m ∷ ms) =
       if stops m then stopped m (length found)
-      else result_of_moves rest (with_move moves_of found_by is_known limit found m) (complete && not (is_left_out found m)) ms
+      else result_of_moves rest (with_element moves_of found_by is_known limit found m) (complete && not (is_left_out found m)) ms
 
   abbrev pub result_at : (List F → Bool → R) → List F → Bool → Option F → R
   result_at rest found complete None = ended complete (length found)
@@ -29,4 +29,4 @@ module _ {F M R : Type 0} (moves_of : F → List M) (found_by : M → F) (is_kno
   abbrev pub result_of : List F → List M → R
   result_of found [] = ended (is_closed moves_of found_by is_known limit found) (length found)
   result_of found (m ∷ ms) =
-      if stops m then stopped m (length found) else result_of (with_move moves_of found_by is_known limit found m) ms
+      if stops m then stopped m (length found) else result_of (with_element moves_of found_by is_known limit found m) ms

@@ -1,7 +1,7 @@
 //! The comparison of two machines, and its answer.
 ghost use Rattle.std.specs.Prelude.{◌≡◌, ◌≤◌, option_map, IfOk, OnOk};
 ghost use Rattle.pv_compare.specs.Answering.{compared_by, compared_of, difference_text, result_text};
-ghost use Rattle.pv_compare.specs.Pairs.{AreCounted, IsCompared, IsWhole, found_in, pairs_of};
+ghost use Rattle.pv_compare.specs.Pairs.{AreCounted, IsCompared, IsSearchInvariant, found_in, pairs_of};
 ghost use Rattle.pv_compare.specs.Plan.{compared_pairs};
 ghost use Rattle.pv_model.specs.Machine.{comparison, answer_bytes, answer_line_bytes, program_of};
 ghost use Rattle.pv_model.specs.Answers.Compare.{alike_text, comparison_lines, pairs_line};
@@ -114,7 +114,7 @@ fn search_all<P: Progress>(
     pairs: u32,
     progress: &mut P,
 ) -> Result<Option<Difference>, StepFault>
-    requires { IsWhole visited.old }
+    requires { IsSearchInvariant visited.old }
     ensures counted { OnOk result (AreCounted visited.new) }
     ensures compared { IfOk result (IsCompared pairs (compared_pairs program_of pairs pairs 0 (found_in (pairs_of visited.old)) visited.old.complete) visited.new) }
 {

@@ -1,6 +1,6 @@
 //! Steps that differ.
 ghost use Rattle.std.specs.Prelude.{◌≡◌, ◌++◌, ◌∷◌, [], IfOk};
-ghost use Rattle.pv_compare.specs.Observing.{is_marked, text_in, texts_differ};
+ghost use Rattle.pv_compare.specs.Observing.{has_note, text_in, texts_differ};
 ghost use Rattle.pv_explore.specs.OfStepCache.Steps.{texts_in};
 
 use std::alloc::{AllocError, Global};
@@ -18,7 +18,7 @@ pub(crate) struct Difference {
     pub(crate) second: Vec<u8>,
 }
 
-// Returns the text of the lines of a step, given what was observed of it.
+// Returns the text of the lines of a step, given its observed texts.
 fn text_of(texts: &[Vec<u8>]) -> &[u8]
     ensures { result.now ≡ text_in (texts_in texts.now) }
 {
@@ -28,14 +28,14 @@ fn text_of(texts: &[Vec<u8>]) -> &[u8]
     }
 }
 
-// Returns whether a step is a call of pledge(2) or unveil(2), given what was observed of it.
+// Returns whether a step is a call of pledge(2) or unveil(2), given its observed texts.
 fn is_marked(texts: &[Vec<u8>]) -> bool
-    ensures { result ≡ is_marked (texts_in texts.now) }
+    ensures { result ≡ has_note (texts_in texts.now) }
 {
     texts.len() > 1
 }
 
-/// Returns whether two steps differ, given what was observed of them: their lines are different, and one of them is not a
+/// Returns whether two steps differ, given their observed texts: their lines are different, and one of them is not a
 /// call of pledge(2) or unveil(2).
 pub(crate) fn differ(first: &[Vec<u8>], second: &[Vec<u8>]) -> bool
     ensures { result ≡ texts_differ (texts_in first.now) (texts_in second.now) }
@@ -46,7 +46,7 @@ pub(crate) fn differ(first: &[Vec<u8>], second: &[Vec<u8>]) -> bool
     text_of(first) != text_of(second)
 }
 
-/// Returns a difference: a step of a process after a schedule, given what was observed of it in both states.
+/// Returns a difference: a step of a process after a schedule, given its observed texts in both states.
 ///
 /// # Errors
 ///

@@ -1,6 +1,6 @@
 //! The visited pairs of states.
 ghost use Rattle.std.specs.Prelude.{◌≡◌, ◌⊎◌, ◌++◌, ◌∷◌, [], ◌<◌, length, slice_get, IfOk, IfSome, OnOk, None, Some};
-ghost use Rattle.pv_compare.specs.Pairs.{IsReached, IsWhole, NumbersAre, first_pair, pair_in, pair_key, pairs_of, visited};
+ghost use Rattle.pv_compare.specs.Pairs.{IsNumberOfState, IsSearchInvariant, NumbersAre, first_pair, pair_in, pair_key, pairs_of, visited};
 ghost use Rattle.pv_explore.specs.Plan.{state_key};
 ghost use Rattle.pv_explore.specs.Witnesses.{longer};
 ghost use Rattle.pv_model.specs.Answers.Compare.{live_in_either};
@@ -86,7 +86,7 @@ impl<'a> Pairs<'a> {
         second: &'a FirstMachine,
     ) -> Result<Pairs<'a>, StepFault>
         ensures pairs { IfOk result (λ pairs. pairs_of pairs ≡ first_pair first.now second.now) }
-        ensures whole { IfOk result IsWhole }
+        ensures whole { IfOk result IsSearchInvariant }
     {
         let only = PairNumbers {
             first: 0,
@@ -117,9 +117,9 @@ impl<'a> Pairs<'a> {
         number: u32,
         witness: &[u32],
     ) -> Result<Vec<u32>, StepFault>
-        requires whole { IsWhole self.old }
+        requires whole { IsSearchInvariant self.old }
         requires at { slice_get self.old.witnesses number ≡ Some witness.now }
-        ensures whole { IsWhole self.new }
+        ensures whole { IsSearchInvariant self.new }
         ensures unchanged { pairs_of self.new ≡ pairs_of self.old }
         ensures live { IfOk result (λ pids. pids.items ≡ live_in_either (pair_in (pairs_of self.old) witness.now).states) }
     {
@@ -149,8 +149,8 @@ impl<'a> Pairs<'a> {
     ) -> Result<(), StepFault>
         requires numbered { NumbersAre self.old }
         requires from { from < length self.old.witnesses }
-        requires first { IsReached limit (length self.old.witnesses) self.old.first.keys (state_key (pair_in (pairs_of self.old) (longer self.old.witnesses from pid)).states.first) first }
-        requires second { IsReached limit (length self.old.witnesses) self.old.second.keys (state_key (pair_in (pairs_of self.old) (longer self.old.witnesses from pid)).states.second) second }
+        requires first { IsNumberOfState limit (length self.old.witnesses) self.old.first.keys (state_key (pair_in (pairs_of self.old) (longer self.old.witnesses from pid)).states.first) first }
+        requires second { IsNumberOfState limit (length self.old.witnesses) self.old.second.keys (state_key (pair_in (pairs_of self.old) (longer self.old.witnesses from pid)).states.second) second }
         ensures first { self.new.first ≡ self.old.first }
         ensures second { self.new.second ≡ self.old.second }
         ensures numbered { OnOk result (NumbersAre self.new) }

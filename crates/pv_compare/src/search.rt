@@ -1,6 +1,6 @@
 //! The search of pairs.
 ghost use Rattle.std.specs.Prelude.{◌≡◌, ◌<◌, [], get_or, length, slice_get, IfOk, OnOk, Some};
-ghost use Rattle.pv_compare.specs.Pairs.{AreCounted, AreMoved, IsCompared, IsMoved, IsWhole, found_in, pair_in, pairs_of};
+ghost use Rattle.pv_compare.specs.Pairs.{AreCounted, ComparesSteps, IsCompared, ComparesStep, IsSearchInvariant, found_in, pair_in, pairs_of};
 ghost use Rattle.pv_compare.specs.Plan.{compared_pairs};
 ghost use Rattle.pv_model.specs.Machine.{pair_moves, program_of};
 
@@ -29,9 +29,9 @@ impl<'a> Pairs<'a> {
         witness: &[u32],
         pid: u32,
     ) -> Result<Option<Difference>, StepFault>
-        requires whole { IsWhole self.old }
+        requires whole { IsSearchInvariant self.old }
         requires at { slice_get self.old.witnesses number ≡ Some witness.now }
-        ensures moved { IfOk result (IsMoved limit self.old self.new witness.now pid) }
+        ensures moved { IfOk result (ComparesStep limit self.old self.new witness.now pid) }
         ensures counted { OnOk result (AreCounted self.new) }
     {
         let numbers = self.numbers[number as usize];
@@ -53,10 +53,10 @@ impl<'a> Pairs<'a> {
         limit: u32,
         number: u32,
     ) -> Result<Option<Difference>, StepFault>
-        requires whole { IsWhole self.old }
+        requires whole { IsSearchInvariant self.old }
         requires found { number < length self.old.witnesses }
         ensures counted { OnOk result (AreCounted self.new) }
-        ensures moved { IfOk result (AreMoved limit self.old self.new (pair_moves program_of (pair_in (pairs_of self.old) (get_or self.old.witnesses number [])))) }
+        ensures moved { IfOk result (ComparesSteps limit self.old self.new (pair_moves program_of (pair_in (pairs_of self.old) (get_or self.old.witnesses number [])))) }
     {
         let witness = self.witnesses.at(alloc, number)?;
         let pids = self.live(alloc, number, &witness)?;
@@ -83,7 +83,7 @@ impl<'a> Pairs<'a> {
         limit: u32,
         progress: &mut P,
     ) -> Result<Option<Difference>, StepFault>
-        requires { IsWhole self.old }
+        requires { IsSearchInvariant self.old }
         ensures counted { OnOk result (AreCounted self.new) }
         ensures compared { IfOk result (IsCompared limit (compared_pairs program_of limit limit 0 (found_in (pairs_of self.old)) self.old.complete) self.new) }
     {

@@ -1,8 +1,8 @@
 //! `pv_demo`: runs the bundle on the standard input, and writes its trace, as `pvsim` without arguments does.
 //!
-//! It stands on the crates of a run alone, so that `rt try` builds it in a third of the time that `pvsim` takes. The
-//! bundle is read whole, and the trace is written after the run. The contract of `run_tree`, over these bytes, is what
-//! is proved of the program.
+//! It depends only on the crates of a run, so that `rt try` builds it in a third of the time that `pvsim` takes. The
+//! bundle is read completely, and the trace is written after the run. The contract of `run_tree`, over these bytes,
+//! states everything that is proved of the program.
 #![tactic(auto)]
 
 use pv_model::RunFault;

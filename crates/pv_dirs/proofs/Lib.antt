@@ -1,36 +1,37 @@
 -- Lemmas of directories on slots.
 --
--- - entries: Entries, Closing (filling a hole with the last slot), Next (the next name), Permuted (entries in another
---   order), Ascending (names that ascend from slot to slot), Between (what the names between two names have in common
---   with them)
--- - bytes: Strides (parts of equal length), SlotBytes, Runs (bytes from a slot on), Stored (slots in the image format)
--- - passes over slots: Passes (for the next name), Named (for one that names a node), Counts (of entries)
--- - trees: TreeOf, Viewed (statements about the tree as statements about files), Mapped, Adding, Removing, Exchanging,
---   Contents, Emptiness, Outcomes, Images (the tree of an image)
--- - the index: Leading (the entries to which it leads), Indexed (the index after a change)
-pub mod Adding
-pub mod Ascending
-pub mod Between
-pub mod Closing
-pub mod Contents
-pub mod Counts
-pub mod Emptiness
-pub mod Entries
-pub mod Exchanging
-pub mod Images
-pub mod Indexed
-pub mod Leading
-pub mod Mapped
-pub mod Named
-pub mod Next
-pub mod Outcomes
-pub mod Passes
-pub mod Permuted
-pub mod Removing
-pub mod Runs
+-- - entries: SortedEntries, EntryReplacement (filling a hole with the last slot), NextNames (the next name),
+--   EntryOrders (entries in another order), AscendingNames (names that ascend from slot to slot), CommonPrefixes (the
+--   prefix that the names between two names share with them)
+-- - bytes: EqualParts (parts of equal length), SlotBytes, SlotRuns (bytes from a slot on), ImageSlots (slots in the
+--   image format)
+-- - passes over slots: SlotScans (for the next name), NamedInodes (for one that names a node), EntryCounts (of entries)
+-- - trees: FileTrees, TreeViews (statements about the tree as statements about files), MappedNumbers, EntryAddition,
+--   EntryRemoval, SlotExchange, FileContents, EmptyTrees, CallResults, ImageTrees (the tree of an image)
+-- - the index: IndexedEntries (the entries to which it leads), ChangedIndex (the index after a change)
+pub mod EntryAddition
+pub mod AscendingNames
+pub mod CommonPrefixes
+pub mod EntryReplacement
+pub mod FileContents
+pub mod EntryCounts
+pub mod EmptyTrees
+pub mod SortedEntries
+pub mod SlotExchange
+pub mod ImageTrees
+pub mod ChangedIndex
+pub mod IndexedEntries
+pub mod MappedNumbers
+pub mod NamedInodes
+pub mod NextNames
+pub mod CallResults
+pub mod SlotScans
+pub mod EntryOrders
+pub mod EntryRemoval
+pub mod SlotRuns
 pub mod SlotBytes
-pub mod Stored
-pub mod Strides
-pub mod TreeOf
-pub mod Viewed
+pub mod ImageSlots
+pub mod EqualParts
+pub mod FileTrees
+pub mod TreeViews
 pub use Rattle.pv_inodes.proofs as OfInodes

@@ -6,12 +6,12 @@ use Rattle.std.proofs.lemmas.List.{same_lists, append-nil, length-append, length
 use Rattle.std.proofs.lemmas.List.FromFn.{get_or-map-range_with_len, length-map-range_with_len}
 use Rattle.pv_model.specs.declared.version.Version.{Version}
 use Rattle.pv_model.specs.Machine.{Bytes, overwrite, resize, entry_length, Entries, is_name}
-use Rattle.pv_inodes.proofs.Bytes.{same_bytes, overwrite-over, length-resize_shorter, get_or-resize_shorter, length-overwrite}
-use Rattle.pv_inodes.proofs.Splices.{over, get_or-over_below, get_or-over_within, get_or-over_above}
-use Rattle.pv_dirs.specs.Slots.{slot_at, slot_count, slot_number, slot_name, slot_entry, slot_entries, in_order, IsDistinct, IsSlotted}
-use Rattle.pv_dirs.proofs.Strides.{slot_some, component_before, component_within, components_more, whole_more, whole_is, components_of, whole_of}
-use Rattle.pv_dirs.proofs.Entries.{by_name, distinct-append, find_at}
-use Rattle.pv_dirs.proofs.Closing.{closed, distinct-closed, in_order-closed}
+use Rattle.pv_inodes.proofs.ByteLists.{same_bytes, overwrite-over, length-resize_shorter, get_or-resize_shorter, length-overwrite}
+use Rattle.pv_inodes.proofs.BlockNumbers.{over, get_or-over_below, get_or-over_within, get_or-over_above}
+use Rattle.pv_dirs.specs.Slots.{slot_at, slot_count, inode_in_slot, name_in_slot, slot_entry, slot_entries, in_order, IsDistinct, IsSlotted}
+use Rattle.pv_dirs.proofs.EqualParts.{slot_some, component_before, component_within, components_more, whole_more, whole_is, components_of, whole_of}
+use Rattle.pv_dirs.proofs.SortedEntries.{by_name, distinct-append, find_at}
+use Rattle.pv_dirs.proofs.EntryReplacement.{closed, distinct-closed, in_order-closed}
 
 -- writing after the end appends
 pub overwrite-end : (old : Bytes) (new : Bytes) → overwrite old (length old) new ≡ old ++ new
@@ -34,12 +34,12 @@ front_part n l xs fits =
     take_front (suc n) (suc m) [] less = refl
     take_front (suc n) (suc m) (y ∷ ys) less = ap (λ (zs : Bytes). y ∷ zs) (take_front n m ys (omega arith))
 
-pub front_name : (l : ℕ) (xs : Bytes) → 4 + get_or xs 2 0 ≤ l → slot_name (take l xs) ≡ slot_name xs
-unfolding slot_name
+pub front_name : (l : ℕ) (xs : Bytes) → 4 + get_or xs 2 0 ≤ l → name_in_slot (take l xs) ≡ name_in_slot xs
+unfolding name_in_slot
 front_name l xs fits = ap (λ n. take n (drop 4 (take l xs))) (get_or-take l xs 2 0 (omega arith)) ∙ front_part (get_or xs 2 0) l xs fits
 
-pub front_number : (l : ℕ) (xs : Bytes) → 2 ≤ l → slot_number (take l xs) ≡ slot_number xs
-unfolding slot_number
+pub front_number : (l : ℕ) (xs : Bytes) → 2 ≤ l → inode_in_slot (take l xs) ≡ inode_in_slot xs
+unfolding inode_in_slot
 front_number l xs fits = ap₂ (λ a b. a + 256 * (b + 256 * 0)) (get_or-take l xs 0 0 (omega arith)) (get_or-take l xs 1 0 (omega arith))
 
 module _ (v : Version) where
@@ -91,7 +91,7 @@ module _ (v : Version) where
   get_or-slot_entries bytes k d within = get_or-map-range_with_len (slot_entry v bytes) 0 (slot_count v bytes) k k d within (zero-add k)
 
   -- the entry of a slot is found by its name
-  pub find-slot_entries : (bytes : Bytes) (k : ℕ) (name : Bytes) → IsDistinct (slot_entries v bytes) → k < slot_count v bytes → slot_name (slot_at v bytes k) ≡ name → find by_name name (slot_entries v bytes) ≡ Some (slot_number (slot_at v bytes k))
+  pub find-slot_entries : (bytes : Bytes) (k : ℕ) (name : Bytes) → IsDistinct (slot_entries v bytes) → k < slot_count v bytes → name_in_slot (slot_at v bytes k) ≡ name → find by_name name (slot_entries v bytes) ≡ Some (inode_in_slot (slot_at v bytes k))
   find-slot_entries bytes k name distinct within named =
       ap (λ (q : Bytes). find by_name q (slot_entries v bytes)) (sym named)
       ∙ find_at (slot_entries v bytes) k (slot_entry v bytes k) distinct (omega (arith, length-slot_entries bytes)) (get_or-slot_entries bytes k (slot_entry v bytes k) within)
@@ -116,27 +116,27 @@ module _ (v : Version) where
         slot_at-is (bytes ++ slot) k slot (omega (arith, length_more)) long
         (λ x below. get_or-append_right bytes slot (length bytes) (L * k + x) 0 refl (omega arith) ∙ ap (λ p. get_or slot p 0) (omega arith))
 
-    pub slot_entries-append : slot_entries v (bytes ++ slot) ≡ slot_entries v bytes ++ (slot_name slot, slot_number slot) ∷ []
+    pub slot_entries-append : slot_entries v (bytes ++ slot) ≡ slot_entries v bytes ++ (name_in_slot slot, inode_in_slot slot) ∷ []
     slot_entries-append =
         let count = slot_count-append in
         let all = length-slot_entries (bytes ++ slot) in
         let before = length-slot_entries bytes in
-        same_lists (slot_entries v (bytes ++ slot)) (slot_entries v bytes ++ (slot_name slot, slot_number slot) ∷ [])
-        (all ∙ count ∙ ap (λ n. n + 1) (sym before) ∙ sym (length-append (slot_entries v bytes) ((slot_name slot, slot_number slot) ∷ [])))
+        same_lists (slot_entries v (bytes ++ slot)) (slot_entries v bytes ++ (name_in_slot slot, inode_in_slot slot) ∷ [])
+        (all ∙ count ∙ ap (λ n. n + 1) (sym before) ∙ sym (length-append (slot_entries v bytes) ((name_in_slot slot, inode_in_slot slot) ∷ [])))
         (λ k d within.
         get_or-slot_entries (bytes ++ slot) k d (omega arith)
         ∙ elim (cases_lt k (slot_count v bytes)) [
           | inl less ↦
-              ap (λ (s : Bytes). (slot_name s, slot_number s)) (slot_at-append_before k less)
+              ap (λ (s : Bytes). (name_in_slot s, inode_in_slot s)) (slot_at-append_before k less)
               ∙ sym (get_or-slot_entries bytes k d less)
-              ∙ sym (get_or_append_left (slot_entries v bytes) ((slot_name slot, slot_number slot) ∷ []) d k (omega arith))
+              ∙ sym (get_or_append_left (slot_entries v bytes) ((name_in_slot slot, inode_in_slot slot) ∷ []) d k (omega arith))
           | inr not_less ↦
-              ap (λ (s : Bytes). (slot_name s, slot_number s)) (slot_at-append_last k (omega arith))
-              ∙ sym (get_or_push (slot_entries v bytes) (slot_name slot, slot_number slot) d k (omega arith))
+              ap (λ (s : Bytes). (name_in_slot s, inode_in_slot s)) (slot_at-append_last k (omega arith))
+              ∙ sym (get_or_push (slot_entries v bytes) (name_in_slot slot, inode_in_slot slot) d k (omega arith))
         ])
 
-  pub slotted-append : (bytes : Bytes) (slot : Bytes) → IsSlotted v bytes → length slot ≡ L → IsTrue (is_name v (slot_name slot)) → get_or slot 2 0 ≡ length (slot_name slot)
-      → find by_name (slot_name slot) (slot_entries v bytes) ≡ None → IsSlotted v (bytes ++ slot)
+  pub slotted-append : (bytes : Bytes) (slot : Bytes) → IsSlotted v bytes → length slot ≡ L → IsTrue (is_name v (name_in_slot slot)) → get_or slot 2 0 ≡ length (name_in_slot slot)
+      → find by_name (name_in_slot slot) (slot_entries v bytes) ≡ None → IsSlotted v (bytes ++ slot)
   slotted-append bytes slot s long named measured absent =
       let whole : length bytes % L ≡ 0 = s.whole in
       let count = slot_count-append bytes slot whole long in
@@ -150,7 +150,7 @@ module _ (v : Version) where
           | inl less ↦ rw (slot_at-append_before bytes slot whole long k less) (s.measured k less)
           | inr not_less ↦ rw (slot_at-append_last bytes slot whole long k (omega arith)) measured
         ];
-        distinct = rw (slot_entries-append bytes slot whole long) (distinct-append (slot_entries v bytes) (slot_name slot) (slot_number slot) s.distinct absent);
+        distinct = rw (slot_entries-append bytes slot whole long) (distinct-append (slot_entries v bytes) (name_in_slot slot) (inode_in_slot slot) s.distinct absent);
       }
 
   -- ---- a hole that is filled with the last slot
@@ -218,11 +218,11 @@ module _ (v : Version) where
           | inl same ↦
               let hole : k < last = omega arith in
               ap (λ n. slot_entry v (closed_bytes bytes k last) n) same
-              ∙ ap (λ (s : Bytes). (slot_name s, slot_number s)) (slot_at-closed_hole hole)
+              ∙ ap (λ (s : Bytes). (name_in_slot s, inode_in_slot s)) (slot_at-closed_hole hole)
               ∙ sym (get_or-set_same (slot_entries v bytes) k (slot_entry v bytes last) d (omega arith))
               ∙ ap (λ n. get_or (set (slot_entries v bytes) k (slot_entry v bytes last)) n d) (sym same)
           | inr other ↦
-              ap (λ (s : Bytes). (slot_name s, slot_number s)) (slot_at-closed_other i less other)
+              ap (λ (s : Bytes). (name_in_slot s, inode_in_slot s)) (slot_at-closed_other i less other)
               ∙ sym (get_or-slot_entries bytes i d (omega arith))
               ∙ sym (get_or-set_other (slot_entries v bytes) k i (slot_entry v bytes last) d other)
         ]
@@ -267,7 +267,7 @@ module _ (v : Version) where
         }
 
     -- the entry in the hole is removed
-    pub in_order-closed_bytes : IsDistinct (slot_entries v bytes) → (name : Bytes) → slot_name (slot_at v bytes k) ≡ name
+    pub in_order-closed_bytes : IsDistinct (slot_entries v bytes) → (name : Bytes) → name_in_slot (slot_at v bytes k) ≡ name
         → in_order (slot_entries v (closed_bytes bytes k last)) ≡ where_key by_name (λ other. not (bytes_eq other name)) (in_order (slot_entries v bytes))
     in_order-closed_bytes distinct name is =
         let at : get_or (take last (slot_entries v bytes) ++ slot_entry v bytes last ∷ []) k (slot_entry v bytes k) ≡ slot_entry v bytes k =

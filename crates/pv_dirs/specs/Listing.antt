@@ -7,9 +7,9 @@ use Rattle.std.specs.declared.cmp.Ordering.TheVariants.{Less}
 use Rattle.pv_model.specs.Machine.{Bytes, is_past, Entries, Tree, find_entry}
 
 -- the first name if there is one, else the second
-abbrev pub first_of : Option Bytes → Option Bytes → Option Bytes
-first_of (Some name) second = Some name
-first_of None second = second
+abbrev pub first_name : Option Bytes → Option Bytes → Option Bytes
+first_name (Some name) second = Some name
+first_name None second = second
 
 -- whether a name precedes another one, or there is no other one
 abbrev pub is_before : Bytes → Option Bytes → Bool
@@ -25,18 +25,18 @@ abbrev pub IsShared : Option Bytes → Option Bytes → ℕ → ℕ → Type 0
 IsShared last best at byte = (name : Bytes) → IsTrue (is_before name best) → IsTrue (is_past last name) → (at < length name) × (slice_index name at ≡ byte)
 
 -- an entry of the list has the name
-abbrev pub IsListed : Entries → Bytes → Type 0
-IsListed es name = IsSome (find (slice_cmp nat_cmp) name es)
+abbrev pub IsListedName : Entries → Bytes → Type 0
+IsListedName es name = IsSome (find (slice_cmp nat_cmp) name es)
 
 -- a name is the least in the list that follows the last one
 pub record IsLeastPast (last : Option Bytes) (es : Entries) (name : Bytes) : Type 0 where
-  pub listed : IsListed es name
+  pub listed : IsListedName es name
   pub following : IsTrue (is_past last name)
-  pub least : (other : Bytes) → IsListed es other → IsTrue (is_past last other) → slice_cmp nat_cmp other name ≢ Less
+  pub least : (other : Bytes) → IsListedName es other → IsTrue (is_past last other) → slice_cmp nat_cmp other name ≢ Less
 
 -- the next name after the last one; without one, no name of the list follows the last
 abbrev pub IsNextName : Option Bytes → Entries → Option Bytes → Type 0
-IsNextName last es next = MatchOption next ((other : Bytes) → IsListed es other → is_past last other ≢ true) (IsLeastPast last es)
+IsNextName last es next = MatchOption next ((other : Bytes) → IsListedName es other → is_past last other ≢ true) (IsLeastPast last es)
 
 -- ---- the names of one node
 

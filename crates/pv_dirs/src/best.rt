@@ -4,7 +4,7 @@ ghost use Rattle.std.specs.Option.{option_copied};
 ghost use Rattle.pv_model.specs.Machine.{is_past};
 ghost use Rattle.pv_model.specs.declared.limits.TheConstants.{NAME_V2};
 ghost use Rattle.pv_dirs.specs.Listing.{is_before, better_of, IsShared};
-ghost use Rattle.pv_dirs.specs.Slots.{slot_name};
+ghost use Rattle.pv_dirs.specs.Slots.{name_in_slot};
 
 use crate::slot::{name_in, room_in};
 use pv_model::Name;
@@ -34,11 +34,11 @@ impl<'a> Model for Best<'a> {
     ghost use Rattle.std.specs.Option.{option_copied};
     ghost use Rattle.pv_model.specs.Bytes.{Bytes};
     ghost use Rattle.pv_model.specs.declared.limits.TheConstants.{NAME_V2};
-    ghost use Rattle.pv_dirs.specs.Listing.{first_of};
+    ghost use Rattle.pv_dirs.specs.Listing.{first_name};
 
     ghost Value = { Option Bytes };
 
-    ghost view = { λ b. first_of b.copied (option_copied b.lent) };
+    ghost view = { λ b. first_name b.copied (option_copied b.lent) };
 
     ghost invariant = { λ b. IfSome b.lent (λ name. length name.now ≤ NAME_V2) };
 }
@@ -171,7 +171,7 @@ pub(crate) fn improve<'a>(
 )
     requires long { 4 ≤ length slot.now }
     requires shared { IfSome mark.old (λ m. IsShared (option_copied last) best.old m.at m.byte) }
-    ensures best { best.new ≡ better_of (option_copied last.entry) (slot_name slot.now) best.old }
+    ensures best { best.new ≡ better_of (option_copied last.entry) (name_in_slot slot.now) best.old }
     ensures shared { IfSome mark.new (λ m. IsShared (option_copied last.entry) best.new m.at m.byte) }
 {
     if !has_mark(*mark, room_in(slot)) {

@@ -6,8 +6,8 @@ ghost use Rattle.pv_model.specs.declared.limits.TheConstants.{NAME_V2};
 ghost use Rattle.pv_model.specs.declared.version.Version.TheVariants.{V2};
 ghost use Rattle.pv_model.specs.Machine.{entry_length, greatest_entries, greatest_length, is_directory_at};
 ghost use Rattle.pv_inodes.specs.Files.{IsUsed};
-ghost use Rattle.pv_dirs.specs.Slots.{slot_name};
-ghost use Rattle.pv_dirs.specs.Trees.{tree_of};
+ghost use Rattle.pv_dirs.specs.Slots.{name_in_slot};
+ghost use Rattle.pv_dirs.specs.Trees.{tree_of_files};
 
 use crate::slot::{LONGEST, Slot, name_in};
 use byteorder::{ByteOrder, LittleEndian};
@@ -26,7 +26,7 @@ pub(crate) struct Dir<'a> {
 
 /// Returns whether an inode is a directory.
 pub(crate) fn is_directory(inodes: &Inodes, inode: u16) -> bool
-    ensures { result ≡ is_directory_at (tree_of inodes.now) inode }
+    ensures { result ≡ is_directory_at (tree_of_files inodes.now) inode }
 {
     inodes.is_used(inode) && matches!(inodes.kind(inode), Kind::Directory)
 }
@@ -41,7 +41,7 @@ pub(crate) fn rest_of(run: &[u8], length: usize) -> &[u8]
 /// Returns the name in the first slot of `run`, without a copy, or `None` if the slot ends past the run.
 pub(crate) fn name_in_run(run: &[u8], slot_length: usize) -> Option<&[u8]>
     requires { 4 ≤ slot_length }
-    ensures value { IfSome result (λ name. name.now ≡ slot_name (take slot_length run.now)) }
+    ensures value { IfSome result (λ name. name.now ≡ name_in_slot (take slot_length run.now)) }
     ensures whole { IfSome result (λ _. slot_length ≤ length run.now) }
     ensures short { IfSome result (λ name. length name.now ≤ NAME_V2) }
 {
@@ -52,13 +52,13 @@ pub(crate) fn name_in_run(run: &[u8], slot_length: usize) -> Option<&[u8]>
 }
 
 impl<'a> Dir<'a> {
-    ghost use Rattle.pv_dirs.specs.Dirs.{bytes_in, slots_in, slot_in, name_in, number_in, any_name_in, IsRunIn};
+    ghost use Rattle.pv_dirs.specs.Dirs.{directory_bytes, slots_in, slot_in, name_in, slot_number_in, any_name_in, StartsAtSlotIn};
 
     /// Returns the number of slots in the directory.
     pub(crate) fn count(&self) -> u32
         ensures value { result ≡ slots_in self.now }
         ensures few { result ≤ greatest_entries V2 }
-        ensures allowed { length (bytes_in self.now) ≤ greatest_length self.now.inodes.now.version }
+        ensures allowed { length (directory_bytes self.now) ≤ greatest_length self.now.inodes.now.version }
     {
         self.inodes.size(self.directory) / self.inodes.version().layout().slot_length as u32
     }
@@ -75,7 +75,7 @@ impl<'a> Dir<'a> {
     pub(crate) fn number(&self, k: u32) -> u16
         requires within { k < slots_in self.now }
         requires few { k ≤ greatest_entries V2 }
-        ensures { result ≡ number_in self.now k }
+        ensures { result ≡ slot_number_in self.now k }
     {
         LittleEndian::read_u16(self.inodes.lend(self.directory, self.start(k)))
     }
@@ -98,7 +98,7 @@ impl<'a> Dir<'a> {
     pub(crate) fn run_from(&self, k: u32) -> &'a [u8]
         requires within { k < slots_in self.now }
         requires few { k ≤ greatest_entries V2 }
-        ensures { IsRunIn self.now k result.now }
+        ensures { StartsAtSlotIn self.now k result.now }
     {
         self.inodes.lend(self.directory, self.start(k))
     }
@@ -108,8 +108,8 @@ impl<'a> Dir<'a> {
     pub(crate) fn run_at(&self, k: u32, left: &'a [u8]) -> &'a [u8]
         requires within { k < slots_in self.now }
         requires few { k ≤ greatest_entries V2 }
-        requires left { IsRunIn self.now k left.now }
-        ensures { IsRunIn self.now k result.now }
+        requires left { StartsAtSlotIn self.now k left.now }
+        ensures { StartsAtSlotIn self.now k result.now }
     {
         if left.is_empty() {
             self.run_from(k)
@@ -122,8 +122,8 @@ impl<'a> Dir<'a> {
     pub(crate) fn number_in(&self, k: u32, run: &[u8]) -> u16
         requires within { k < slots_in self.now }
         requires few { k ≤ greatest_entries V2 }
-        requires run { IsRunIn self.now k run.now }
-        ensures { result ≡ number_in self.now k }
+        requires run { StartsAtSlotIn self.now k run.now }
+        ensures { result ≡ slot_number_in self.now k }
     {
         if run.len() < 2 {
             return self.number(k);

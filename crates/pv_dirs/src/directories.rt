@@ -6,7 +6,7 @@ ghost use Rattle.pv_model.specs.Machine.{next_name, size_of, inode_blocks, great
 ghost use Rattle.pv_inodes.specs.Sizes.{AreImageSizes};
 ghost use Rattle.pv_dirs.specs.Listing.{IsNextName, IsNextNameOf};
 ghost use Rattle.pv_dirs.specs.Sizes.{HaveSameSizes};
-ghost use Rattle.pv_dirs.specs.Trees.{sort_of, new_node, bytes_at, written, cut, without_node, total_need, LacksRoom, grown_length};
+ghost use Rattle.pv_dirs.specs.Trees.{kind_of_node, empty_node, node_bytes_at, written_tree, truncated_tree, without_node, total_need, LacksRoomForTree, grown_length};
 
 mod counting;
 mod image;
@@ -34,14 +34,14 @@ pub struct Directories {
 
 impl Model for Directories {
     ghost use Rattle.pv_model.specs.Tree.{Tree};
-    ghost use Rattle.pv_dirs.specs.Index.{IsConsistent};
-    ghost use Rattle.pv_dirs.specs.Trees.{tree_of};
+    ghost use Rattle.pv_dirs.specs.Index.{IsConsistentIndex};
+    ghost use Rattle.pv_dirs.specs.Trees.{tree_of_files};
 
     ghost Value = { Tree };
 
-    ghost view = { λ d. tree_of d.inodes };
+    ghost view = { λ d. tree_of_files d.inodes };
 
-    ghost invariant = { λ d. IsConsistent d.inodes d.block_count d.index.value };
+    ghost invariant = { λ d. IsConsistentIndex d.inodes d.block_count d.index.value };
 }
 
 impl Directories {
@@ -137,7 +137,7 @@ impl Directories {
     /// Returns the kind of a node.
     pub fn kind(&self, inode: u16) -> Kind
         requires { IsSome (node_at self.now inode) }
-        ensures { option_map sort_of (node_at self.now inode) ≡ Some result }
+        ensures { option_map kind_of_node (node_at self.now inode) ≡ Some result }
     {
         self.inodes.kind(inode)
     }
@@ -256,7 +256,7 @@ impl Directories {
             ↔ (greatest_length self.old.version < grown_length self.old directory) }
         ensures full { (result ≡ Err Space.Full)
             ↔ ((grown_length self.old directory ≤ greatest_length self.old.version)
-            × LacksRoom (with_entry self.old directory name.now inode)) }
+            × LacksRoomForTree (with_entry self.old directory name.now inode)) }
     {
         let end = self.inodes.size(directory);
         let dir = Dir {
@@ -305,8 +305,8 @@ impl Directories {
     pub fn lend(&self, inode: u16, at: u32) -> &[u8]
         requires used { IsSome (node_at self.now inode) }
         requires other { is_directory_at self.now inode ≡ false }
-        requires within { at < length (bytes_at self.now inode) }
-        ensures { result.now ≡ take (BLOCK - at % BLOCK) (drop at (bytes_at self.now inode)) }
+        requires within { at < length (node_bytes_at self.now inode) }
+        ensures { result.now ≡ take (BLOCK - at % BLOCK) (drop at (node_bytes_at self.now inode)) }
     {
         self.inodes.lend(inode, at)
     }
@@ -317,9 +317,9 @@ impl Directories {
     pub fn read_at(&self, inode: u16, at: u32, buffer: &mut [u8]) -> usize
         requires used { IsSome (node_at self.now inode) }
         requires other { is_directory_at self.now inode ≡ false }
-        ensures count { result ≡ min (length buffer.old) (length (bytes_at self.now inode) - at) }
+        ensures count { result ≡ min (length buffer.old) (length (node_bytes_at self.now inode) - at) }
         ensures bytes { buffer.new
-            ≡ take result (drop at (bytes_at self.now inode)) ++ drop result buffer.old }
+            ≡ take result (drop at (node_bytes_at self.now inode)) ++ drop result buffer.old }
     {
         self.inodes.read_at(inode, at, buffer)
     }
@@ -334,7 +334,7 @@ impl Directories {
     pub fn write_at(&mut self, inode: u16, at: u32, bytes: &[u8]) -> Result<(), Space>
         requires used { IsSome (node_at self.old inode) }
         requires other { is_directory_at self.old inode ≡ false }
-        ensures ok { OnOk result (self.new ≡ written self.old inode at bytes.now) }
+        ensures ok { OnOk result (self.new ≡ written_tree self.old inode at bytes.now) }
         ensures err { OnErr result (self.new ≡ self.old) }
         ensures too_big { (result ≡ Err Space.TooBig)
             ↔ ((0 < length bytes.now)
@@ -342,7 +342,7 @@ impl Directories {
         ensures full { (result ≡ Err Space.Full)
             ↔ ((0 < length bytes.now)
             × (at + length bytes.now ≤ greatest_length self.old.version)
-            × LacksRoom (written self.old inode at bytes.now)) }
+            × LacksRoomForTree (written_tree self.old inode at bytes.now)) }
     {
         self.inodes.write_at(inode, at, bytes)
     }
@@ -356,13 +356,13 @@ impl Directories {
     pub fn cut(&mut self, inode: u16, size: u32) -> Result<(), Space>
         requires used { IsSome (node_at self.old inode) }
         requires other { is_directory_at self.old inode ≡ false }
-        ensures ok { OnOk result (self.new ≡ cut self.old inode size) }
+        ensures ok { OnOk result (self.new ≡ truncated_tree self.old inode size) }
         ensures err { OnErr result (self.new ≡ self.old) }
         ensures too_big { (result ≡ Err Space.TooBig)
             ↔ (greatest_length self.old.version < size) }
         ensures full { (result ≡ Err Space.Full)
             ↔ ((size ≤ greatest_length self.old.version)
-            × LacksRoom (cut self.old inode size)) }
+            × LacksRoomForTree (truncated_tree self.old inode size)) }
     {
         self.inodes.cut(inode, size)
     }
@@ -375,7 +375,7 @@ impl Directories {
         ensures least { IfSome result (λ n. n ≡ new_number self.old) }
         ensures free { IfSome result (λ n. node_at self.old n ≡ None) }
         ensures within { IfSome result (λ n. n < length self.old.nodes) }
-        ensures after { IfSome result (λ n. self.new ≡ with_node self.old n (new_node sort)) }
+        ensures after { IfSome result (λ n. self.new ≡ with_node self.old n (empty_node sort)) }
     {
         self.inodes.fresh(sort)
     }

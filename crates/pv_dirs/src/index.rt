@@ -3,7 +3,7 @@ ghost use Rattle.std.specs.Prelude.{◌≡◌, ◌≢◌, ◌↔◌, ◌<◌, �
 ghost use Rattle.pv_model.specs.Machine.{Bytes};
 ghost use Rattle.pv_model.specs.declared.limits.TheConstants.{INODES};
 ghost use Rattle.pv_dirs.specs.declared.index.TheConstants.{PLACES};
-ghost use Rattle.pv_dirs.specs.Index.{place_of, said, recorded_count, known, Leads};
+ghost use Rattle.pv_dirs.specs.Index.{bucket_of, bucket_at, recorded_count, known, LeadsToSlot};
 
 use pv_model::limits::INODES;
 
@@ -41,7 +41,7 @@ impl Bucket {
 
 /// Returns the bucket to which a name of a directory hashes. Only the bits of the hash in `mask` count.
 fn place_of(directory: u16, name: &[u8], mask: u16) -> usize
-    ensures value { result ≡ place_of mask directory name.now }
+    ensures value { result ≡ bucket_of mask directory name.now }
     ensures within { result < PLACES }
 {
     let mut sum = directory;
@@ -85,7 +85,7 @@ impl Index {
     // Returns the number of buckets in use.
     fn bucket_count(&self) -> usize
         ensures within { result ≤ PLACES }
-        ensures all { (d : ℕ) (name : Bytes) → place_of self.now.mask d name < result }
+        ensures all { (d : ℕ) (name : Bytes) → bucket_of self.now.mask d name < result }
     {
         usize::from(self.mask).min(PLACES - 1) + 1
     }
@@ -101,7 +101,7 @@ impl Index {
     /// Makes lookups in this index equal to those in another one. Buckets and records that are not in use do not
     /// change.
     pub(crate) fn copy_from(&mut self, other: &Index)
-        ensures said { (d : ℕ) (name : Bytes) → said self.new d name ≡ said other.now d name }
+        ensures said { (d : ℕ) (name : Bytes) → bucket_at self.new d name ≡ bucket_at other.now d name }
         ensures known { (d : ℕ) → known self.new d ≡ known other.now d }
     {
         let count = other.bucket_count();
@@ -142,7 +142,7 @@ impl Index {
 
     /// Returns the bucket to which a name hashes.
     pub(crate) fn find(&self, directory: u16, name: &[u8]) -> Bucket
-        ensures { result ≡ said self.now directory name.now }
+        ensures { result ≡ bucket_at self.now directory name.now }
     {
         self.places[place_of(directory, name, self.mask)]
     }
@@ -150,8 +150,8 @@ impl Index {
     /// Adds an entry to the index. Lookups of other entries do not change. `ascends` is whether the names of the
     /// directory ascend with the new one.
     pub(crate) fn add(&mut self, directory: u16, name: &[u8], slot: u16, ascends: bool)
-        ensures this { Leads self.new directory name.now slot }
-        ensures others { (d k : ℕ) (other : Bytes) → Leads self.old d other k → Leads self.new d other k }
+        ensures this { LeadsToSlot self.new directory name.now slot }
+        ensures others { (d k : ℕ) (other : Bytes) → LeadsToSlot self.old d other k → LeadsToSlot self.new d other k }
         ensures ascends { known self.new directory ≡ true → ascends ≡ true }
         ensures known { (d : ℕ) → d ≢ directory → known self.new d ≡ known self.old d }
     {
@@ -165,7 +165,7 @@ impl Index {
 
     /// Removes an entry from the index. Lookups of other entries do not change.
     pub(crate) fn remove(&mut self, directory: u16, name: &[u8], slot: u16)
-        ensures others { (d k : ℕ) (other : Bytes) → (d ≡ directory → k ≢ slot) → Leads self.old d other k → Leads self.new d other k }
+        ensures others { (d k : ℕ) (other : Bytes) → (d ≡ directory → k ≢ slot) → LeadsToSlot self.old d other k → LeadsToSlot self.new d other k }
         ensures known { (d : ℕ) → known self.new d ≡ known self.old d }
     {
         let at = place_of(directory, name, self.mask);
@@ -177,8 +177,8 @@ impl Index {
     /// Changes the slot of an entry in the index. Lookups of other entries do not change. If the slot differs, the
     /// names of the directory may no longer ascend.
     pub(crate) fn change(&mut self, directory: u16, name: &[u8], from: u16, to: u16)
-        ensures this { Leads self.old directory name.now from → Leads self.new directory name.now to }
-        ensures others { (d k : ℕ) (other : Bytes) → (d ≡ directory → k ≢ from) → Leads self.old d other k → Leads self.new d other k }
+        ensures this { LeadsToSlot self.old directory name.now from → LeadsToSlot self.new directory name.now to }
+        ensures others { (d k : ℕ) (other : Bytes) → (d ≡ directory → k ≢ from) → LeadsToSlot self.old d other k → LeadsToSlot self.new d other k }
         ensures stays { known self.new directory ≡ true → from ≡ to }
         ensures known { (d : ℕ) → known self.new d ≡ true → known self.old d ≡ true }
     {

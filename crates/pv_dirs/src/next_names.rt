@@ -6,7 +6,7 @@ ghost use Rattle.std.specs.Option.{option_copied};
 ghost use Rattle.std.specs.Ordering.{nat_cmp};
 ghost use Rattle.pv_model.specs.Machine.{next_name, greatest_entries};
 ghost use Rattle.pv_model.specs.declared.version.Version.TheVariants.{V2};
-ghost use Rattle.pv_dirs.specs.Dirs.{slots_in, name_in, any_name_in, entries_in, IsNamedIn, IsPast, IsLedBy};
+ghost use Rattle.pv_dirs.specs.Dirs.{slots_in, name_in, any_name_in, directory_entries, IsNamedIn, IsPast, IsLedBy};
 ghost use Rattle.pv_dirs.specs.Listing.{better_of, IsNextOf, IsShared};
 ghost use Rattle.pv_dirs.specs.Slots.{in_order, IsDistinct};
 
@@ -37,8 +37,8 @@ impl<'a> Dir<'a> {
     /// exists. The result does not depend on `first`. If that slot has the next name, one byte is enough to skip most
     /// of the others.
     fn best_of_pass(&self, last: Option<&[u8]>, first: u32) -> Option<Name>
-        requires distinct { IsDistinct (entries_in self.now) }
-        ensures { result ≡ next_name (option_copied last.entry) (in_order (entries_in self.now)) }
+        requires distinct { IsDistinct (directory_entries self.now) }
+        ensures { result ≡ next_name (option_copied last.entry) (in_order (directory_entries self.now)) }
     {
         let length = self.inodes.version().layout().slot_length;
         let count = self.count();
@@ -103,8 +103,8 @@ impl<'a> Dir<'a> {
     // name. Otherwise fails with the slot at which a scan should start.
     fn next_slot(&self, index: &Index, last: Option<&[u8]>, before: u32) -> Result<u32, u32>
         requires led { IsLedBy self.now index.now }
-        requires distinct { IsDistinct (entries_in self.now) }
-        ensures { IfOk result (λ k. any_name_in self.now k ≡ next_name (option_copied last.entry) (in_order (entries_in self.now))) }
+        requires distinct { IsDistinct (directory_entries self.now) }
+        ensures { IfOk result (λ k. any_name_in self.now k ≡ next_name (option_copied last.entry) (in_order (directory_entries self.now))) }
     {
         match self.slot_past(index, last, before) {
             Some(slot) if index.ascends(self.directory) => Ok(slot),
@@ -117,8 +117,8 @@ impl<'a> Dir<'a> {
     /// `last`; otherwise a scan finds it.
     pub(crate) fn next_name(&self, index: &Index, last: Option<&[u8]>) -> Option<Name>
         requires led { IsLedBy self.now index.now }
-        requires distinct { IsDistinct (entries_in self.now) }
-        ensures { result ≡ next_name (option_copied last.entry) (in_order (entries_in self.now)) }
+        requires distinct { IsDistinct (directory_entries self.now) }
+        ensures { result ≡ next_name (option_copied last.entry) (in_order (directory_entries self.now)) }
     {
         match self.next_slot(index, last, 0) {
             Ok(slot) => self.name_at(slot),
@@ -135,9 +135,9 @@ impl<'a> Dir<'a> {
         before: u32,
     ) -> Option<(Name, u16)>
         requires led { IsLedBy self.now index.now }
-        requires distinct { IsDistinct (entries_in self.now) }
-        ensures value { option_map (λ e. e.0) result ≡ next_name (option_copied last.entry) (in_order (entries_in self.now)) }
-        ensures node { IfSome result (λ e. find (slice_cmp nat_cmp) e.0 (entries_in self.now) ≡ Some e.1) }
+        requires distinct { IsDistinct (directory_entries self.now) }
+        ensures value { option_map (λ e. e.0) result ≡ next_name (option_copied last.entry) (in_order (directory_entries self.now)) }
+        ensures node { IfSome result (λ e. find (slice_cmp nat_cmp) e.0 (directory_entries self.now) ≡ Some e.1) }
     {
         match self.next_slot(index, last, before) {
             Ok(slot) => {

@@ -6,7 +6,7 @@ ghost use Rattle.std.specs.Ordering.{nat_cmp};
 ghost use Rattle.std.specs.declared.cmp.Ordering.TheVariants.{Less};
 ghost use Rattle.pv_model.specs.declared.version.Version.TheVariants.{V2};
 ghost use Rattle.pv_model.specs.Machine.{greatest_entries};
-ghost use Rattle.pv_dirs.specs.Dirs.{slots_in, name_in, entries_in, IsRunIn, AscendIn, IsLedBy};
+ghost use Rattle.pv_dirs.specs.Dirs.{slots_in, name_in, directory_entries, StartsAtSlotIn, AscendIn, IsLedBy};
 
 use crate::dir::{Dir, rest_of};
 use crate::index::{Bucket, Index};
@@ -27,7 +27,7 @@ impl<'a> Dir<'a> {
     fn has_name(&self, k: u32, run: &[u8], name: &[u8]) -> bool
         requires within { k < slots_in self.now }
         requires few { k ≤ greatest_entries V2 }
-        requires run { IsRunIn self.now k run.now }
+        requires run { StartsAtSlotIn self.now k run.now }
         ensures { IsTrue result ↔ (name_in self.now k ≡ name.now) }
     {
         let length = self.inodes.version().layout().slot_length;
@@ -39,7 +39,7 @@ impl<'a> Dir<'a> {
 
     /// Returns the first slot with the name, by a linear search.
     fn search(&self, name: &[u8]) -> Option<u32>
-        ensures absent { IfNone result (find (slice_cmp nat_cmp) name.now (entries_in self.now) ≡ None) }
+        ensures absent { IfNone result (find (slice_cmp nat_cmp) name.now (directory_entries self.now) ≡ None) }
         ensures within { IfSome result (λ k. k < slots_in self.now) }
         ensures few { IfSome result (λ k. k ≤ greatest_entries V2) }
         ensures named { IfSome result (λ k. name_in self.now k ≡ name.now) }
@@ -98,7 +98,7 @@ impl<'a> Dir<'a> {
     /// Returns the slot with the name, by a binary search. The names must ascend.
     fn binary_search(&self, name: &[u8]) -> Option<u32>
         requires ascend { AscendIn self.now (slots_in self.now) }
-        ensures absent { IfNone result (find (slice_cmp nat_cmp) name.now (entries_in self.now) ≡ None) }
+        ensures absent { IfNone result (find (slice_cmp nat_cmp) name.now (directory_entries self.now) ≡ None) }
         ensures within { IfSome result (λ k. k < slots_in self.now) }
         ensures few { IfSome result (λ k. k ≤ greatest_entries V2) }
         ensures named { IfSome result (λ k. name_in self.now k ≡ name.now) }
@@ -109,7 +109,7 @@ impl<'a> Dir<'a> {
     /// Returns the slot with the name. It uses the index.
     pub(crate) fn find(&self, index: &Index, name: &[u8]) -> Option<u32>
         requires led { IsLedBy self.now index.now }
-        ensures absent { IfNone result (find (slice_cmp nat_cmp) name.now (entries_in self.now) ≡ None) }
+        ensures absent { IfNone result (find (slice_cmp nat_cmp) name.now (directory_entries self.now) ≡ None) }
         ensures within { IfSome result (λ k. k < slots_in self.now) }
         ensures few { IfSome result (λ k. k ≤ greatest_entries V2) }
         ensures named { IfSome result (λ k. name_in self.now k ≡ name.now) }

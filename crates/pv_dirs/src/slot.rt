@@ -2,7 +2,7 @@
 ghost use Rattle.std.specs.Prelude.{◌≡◌, ◌≤◌, length, drop, slice_index};
 ghost use Rattle.pv_model.specs.declared.limits.TheConstants.{NAME_V2};
 ghost use Rattle.pv_model.specs.Machine.{entry_length, greatest_name};
-ghost use Rattle.pv_dirs.specs.Slots.{slot_name, slot_number};
+ghost use Rattle.pv_dirs.specs.Slots.{name_in_slot, inode_in_slot};
 
 use byteorder::{ByteOrder, LittleEndian};
 use pv_model::Version;
@@ -44,10 +44,10 @@ pub(crate) fn room_in(slot: &[u8]) -> &[u8]
 
 /// Returns the name in a slot.
 #[inline]
-#[tactic(auto, unfolding(crate::specs::Slots::slot_name))]
+#[tactic(auto, unfolding(crate::specs::Slots::name_in_slot))]
 pub(crate) fn name_in(slot: &[u8]) -> &[u8]
     requires { 4 ≤ length slot.now }
-    ensures value { result.now ≡ slot_name slot.now }
+    ensures value { result.now ≡ name_in_slot slot.now }
     ensures short { length result.now ≤ NAME_V2 }
 {
     let end = (NAME_AT + slot[NAME_LENGTH_AT] as usize).min(slot.len());
@@ -55,11 +55,11 @@ pub(crate) fn name_in(slot: &[u8]) -> &[u8]
 }
 
 // Returns the encoding of an entry, padded with zeros.
-#[tactic(auto, unfolding(crate::specs::Slots::slot_name, crate::specs::Slots::slot_number))]
+#[tactic(auto, unfolding(crate::specs::Slots::name_in_slot, crate::specs::Slots::inode_in_slot))]
 fn encoded(name: &[u8], inode: u16) -> [u8; LONGEST]
     requires { length name.now ≤ NAME_V2 }
-    ensures name { slot_name result ≡ name.now }
-    ensures number { slot_number result ≡ inode }
+    ensures name { name_in_slot result ≡ name.now }
+    ensures number { inode_in_slot result ≡ inode }
     ensures measured { slice_index result 2 ≡ length name.now }
     ensures whole { length result ≡ 260 }
 {
@@ -74,8 +74,8 @@ impl Slot {
     /// Creates the slot of an entry. The space that the name does not use is zero.
     pub(crate) fn new(version: Version, name: &[u8], inode: u16) -> Slot
         requires { length name.now ≤ greatest_name version }
-        ensures name { slot_name result ≡ name.now }
-        ensures number { slot_number result ≡ inode }
+        ensures name { name_in_slot result ≡ name.now }
+        ensures number { inode_in_slot result ≡ inode }
         ensures measured { slice_index result 2 ≡ length name.now }
         ensures whole { length result ≡ entry_length version }
     {
@@ -94,9 +94,9 @@ impl Slot {
     }
 
     /// Returns the name of the entry.
-    #[tactic(auto, unfolding(crate::specs::Slots::slot_name))]
+    #[tactic(auto, unfolding(crate::specs::Slots::name_in_slot))]
     pub(crate) fn name(&self) -> &[u8]
-        ensures value { result.now ≡ slot_name self.now }
+        ensures value { result.now ≡ name_in_slot self.now }
         ensures short { length result.now ≤ NAME_V2 }
     {
         name_in(self.as_bytes())

@@ -10,9 +10,9 @@ use Rattle.pv_model.specs.declared.outcome.Outcome.{Outcome}
 use Rattle.pv_model.specs.declared.outcome.Outcome.TheVariants.{Value, Text, Failed, Killed, Exited, Blocked, Gone}
 use Rattle.pv_model.specs.Machine.{Answered, answer, answer_line, Bytes, call_of, descriptor_at, directory_of_file, open_file, open_file_of, start_directory, program_of, Numbered, at_number, Descriptor, OpenFile, Process, State, process_at, Tree, is_directory_at, is_absolute, Walk, walks_of}
 use Rattle.pv_laws_states.specs.Calls.{IsUnharmed}
-use Rattle.pv_laws_states.proofs.Outcomes.{refused-unharmed}
+use Rattle.pv_laws_states.proofs.CallOutcomes.{refused-unharmed}
 use Rattle.pv_step_lines.specs.declared.making.MadeCall.{MadeCall}
-use Rattle.pv_explain.specs.Errors.{PrefixEnd, Reason, opened, one_path, two_paths, argument_reason, arrives, descriptor_reason, descriptor_used, error_line, error_lines, error_lines_by, error_lines_next, error_lines_of, file_reason, is_of_path, misfits, path_reason, plain_error, prefix_end, reason_of, reason_text, start_of, walk_prefix, walks_reason, words_reason}
+use Rattle.pv_explain.specs.Errors.{PrefixEnd, Reason, open_descriptor, one_path, two_paths, argument_reason, arrives, descriptor_reason, descriptor_used, error_line, error_lines, error_lines_by, error_lines_next, error_lines_of, file_reason, is_of_path, misfits, path_reason, plain_error, prefix_end, error_reason, reason_text, start_of, walk_prefix, walks_reason, words_reason}
 use Rattle.pv_step_lines.specs.Made.{IsMadeCall}
 use Rattle.pv_explain.specs.Made.{error_after}
 
@@ -23,12 +23,12 @@ module _ (s s' : State) (p p' : Process) (tree : s'.tree ≡ s.tree) (files : s'
   descriptor-same (pos d) = ap (λ (ds : Numbered Descriptor). at_number ds d) descriptors
   descriptor-same (negsuc d) = refl
 
-  opened-same : (o : Option Descriptor) → open_file_of s' o ≡ open_file_of s o
-  opened-same None = refl
-  opened-same (Some x) = ap (λ (fs : Numbered OpenFile). option_map (λ f. (x.file, f)) (at_number fs x.file)) files
+  open_descriptor-same : (o : Option Descriptor) → open_file_of s' o ≡ open_file_of s o
+  open_descriptor-same None = refl
+  open_descriptor-same (Some x) = ap (λ (fs : Numbered OpenFile). option_map (λ f. (x.file, f)) (at_number fs x.file)) files
 
   open-same : (d : ℤ) → open_file s' p' d ≡ open_file s p d
-  open-same d = ap (open_file_of s') (descriptor-same d) ∙ opened-same (descriptor_at p d)
+  open-same d = ap (open_file_of s') (descriptor-same d) ∙ open_descriptor-same (descriptor_at p d)
 
   directory-same : (o : Option (ℕ × OpenFile)) → directory_of_file p' o ≡ directory_of_file p o
   directory-same None = directory
@@ -60,14 +60,14 @@ module _ (s s' : State) (p p' : Process) (tree : s'.tree ≡ s.tree) (files : s'
     file-same : (d : ℤ) (o : Option (ℕ × OpenFile)) → file_reason s' p' call e d o ≡ file_reason s p call e d o
     file-same d None = refl
     file-same d (Some (k, file)) =
-        ap₂ (λ (t : Tree) (r : Reason). if misfits t call e file.node file.mode then opened d file.node file.mode else r) tree path-same
+        ap₂ (λ (t : Tree) (r : Reason). if misfits t call e file.node file.mode then open_descriptor d file.node file.mode else r) tree path-same
 
     used-same : (o : Option ℤ) → descriptor_reason s' p' call e o ≡ descriptor_reason s p call e o
     used-same None = path-same
     used-same (Some d) = ap (file_reason s' p' call e d) (open-same d) ∙ file-same d (open_file s p d)
 
-    reason-same : reason_of s' p' call e ≡ reason_of s p call e
-    unfolding reason_of
+    reason-same : error_reason s' p' call e ≡ error_reason s p call e
+    unfolding error_reason
     reason-same = ap (unwrap_or (argument_reason call e)) (used-same (descriptor_used call e))
 
 -- ---- a call

@@ -1,4 +1,4 @@
--- What the lines of execves and of allowed walks say is so.
+-- The statements of the lines of execves and of allowed walks are true.
 use Rattle.std.proofs.Common.{◌≡◌, ◌≢◌, ◌∙◌, ℕ, ◌&&◌, Bool, true, false, cond, List, [], ◌∷◌, Option, None, Some, Result, refl, ap, sym}
 use Rattle.std.specs.Prelude.{codes, find, is_some, option_and_then, option_map}
 use Rattle.pv_model.specs.declared.call.Call.{Call}
@@ -14,7 +14,7 @@ use Rattle.pv_model.specs.Answers.Levels.{Level, levels}
 use Rattle.pv_model.specs.Machine.{Answered, answer, answer_line, is_allowed, program_of, next, Process, Promises, process_at, Stepped, step, step_by, place_found, Tree, Table, covers, governing_entry, judgement, permissions_at}
 use Rattle.pv_model.specs.Unveil.{judge_entry}
 use Rattle.pv_laws_access.specs.Growth.{HasExecuted}
-use Rattle.pv_laws_access.proofs.Ends.{step-is}
+use Rattle.pv_laws_access.proofs.ProcessesAfterEnds.{step-is}
 use Rattle.pv_laws_access.proofs.ProgramImages.{execve-leaves}
 use Rattle.pv_laws_answers.specs.Levels.{LevelsLeadTo}
 use Rattle.pv_laws_answers.proofs.PlaceLevels.{levels-lead}

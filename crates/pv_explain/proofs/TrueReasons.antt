@@ -17,9 +17,9 @@ use Rattle.pv_model.specs.Machine.{Bytes, directory_of_file, end_of, open_file, 
 use Rattle.pv_model.specs.Perms.{permission_of}
 use Rattle.pv_model.specs.Promises.{keywords, promise_of}
 use Rattle.pv_explain.proofs.ProcessOrigins.{is-none}
-use Rattle.pv_explain.specs.Errors.{Holds, IsPrefixEnd, PrefixEnd, Reason, no_descriptor, opened, unknown_keyword, unknown_permission, one_path, two_paths, in_words, argument_reason, arrives, condition, descriptor_reason, descriptor_used, end_after, file_reason, is_of_path, is_path_errno, is_valid_link, misfits, path_reason, prefix_end, reason_of, start_of, stop, unknown_byte, unknown_in, walk_prefix, walks_reason, words_reason}
+use Rattle.pv_explain.specs.Errors.{ReasonHolds, IsPrefixEnd, PrefixEnd, Reason, no_descriptor, open_descriptor, unknown_keyword, unknown_permission, one_path, two_paths, in_words, argument_reason, arrives, condition, descriptor_reason, descriptor_used, end_after, file_reason, is_of_path, is_path_errno, is_valid_link, misfits, path_reason, prefix_end, error_reason, start_of, stop, unknown_byte, unknown_in, walk_prefix, walks_reason, words_reason}
 
--- what a search finds is in the list, and passes the test
+-- the result of a search is in the list, and passes the test
 find-holds : {X : Type 0} (f : X → Bool) (xs : List X) (x : X) → find f xs ≡ Some x → Contains xs x × (f x ≡ true)
 find-holds f [] x is = let bad : None ≡ Some x = is in cc bad
 find-holds f (y ∷ ys) x is = by (f y) refl (find-holds f ys x)
@@ -156,33 +156,33 @@ module _ (s : State) (p : Process) where
   -- ---- reasons
 
   module _ (call : Call) (e : Errno) where
-    walks-hold : (ws : List Walk) → walks_of call ≡ ws → AllBegin ws → Holds s p call e (walks_reason s p call e ws)
+    walks-hold : (ws : List Walk) → walks_of call ≡ ws → AllBegin ws → ReasonHolds s p call e (walks_reason s p call e ws)
     walks-hold [] is begin = refl
     walks-hold (w ∷ []) is begin = (w, subst (λ (xs : List Walk). Contains xs w) (sym is) (0, omega arith, refl), prefix-holds w begin.0)
     walks-hold (w ∷ v ∷ ws) is begin = by (arrives w.path (walk_prefix s p w)) refl
       where
-        by : (b : Bool) → arrives w.path (walk_prefix s p w) ≡ b → Holds s p call e (if b then two_paths (walk_prefix s p w) (walk_prefix s p v) else one_path (walk_prefix s p w))
+        by : (b : Bool) → arrives w.path (walk_prefix s p w) ≡ b → ReasonHolds s p call e (if b then two_paths (walk_prefix s p w) (walk_prefix s p v) else one_path (walk_prefix s p w))
         by true there = (w, v, ws, is, prefix-holds w begin.0, arrived w (walk_prefix s p w) (prefix-holds w begin.0) there, prefix-holds v begin.1.0)
         by false nowhere = (w, subst (λ (xs : List Walk). Contains xs w) (sym is) (0, omega arith, refl), prefix-holds w begin.0)
 
-    path-holds : (is_of_path call e ≡ true → AllBegin (walks_of call)) → Holds s p call e (path_reason s p call e)
+    path-holds : (is_of_path call e ≡ true → AllBegin (walks_of call)) → ReasonHolds s p call e (path_reason s p call e)
     path-holds begin = by (is_of_path call e) refl
       where
-        by : (b : Bool) → is_of_path call e ≡ b → Holds s p call e (if b then walks_reason s p call e (walks_of call) else words_reason call e)
+        by : (b : Bool) → is_of_path call e ≡ b → ReasonHolds s p call e (if b then walks_reason s p call e (walks_of call) else words_reason call e)
         by true of_path = walks-hold (walks_of call) refl (begin of_path)
         by false other = refl
 
-    file-holds : (d : ℤ) (o : Option (ℕ × OpenFile)) → descriptor_used call e ≡ Some d → open_file s p d ≡ o → Holds s p call e (file_reason s p call e d o)
+    file-holds : (d : ℤ) (o : Option (ℕ × OpenFile)) → descriptor_used call e ≡ Some d → open_file s p d ≡ o → ReasonHolds s p call e (file_reason s p call e d o)
     file-holds d None used none = (used, none)
     file-holds d (Some (k, file)) used at = by (misfits s.tree call e file.node file.mode) refl
       where
-        by : (b : Bool) → misfits s.tree call e file.node file.mode ≡ b → Holds s p call e (if b then opened d file.node file.mode else path_reason s p call e)
+        by : (b : Bool) → misfits s.tree call e file.node file.mode ≡ b → ReasonHolds s p call e (if b then open_descriptor d file.node file.mode else path_reason s p call e)
         by true misfit = (k, file, used, at, refl, refl, misfit)
         by false fits = path-holds (λ of_path. all-begin call (λ start path f same.
             used-begins e start path f d k file (sym (ap (λ (c : Call). descriptor_used c e) same) ∙ used) at
             (sym (ap (λ (c : Call). misfits s.tree c e file.node file.mode) same) ∙ fits)))
 
-    used-holds : (o : Option ℤ) → descriptor_used call e ≡ o → Holds s p call e (descriptor_reason s p call e o)
+    used-holds : (o : Option ℤ) → descriptor_used call e ≡ o → ReasonHolds s p call e (descriptor_reason s p call e o)
     used-holds None unused = path-holds (λ of_path. all-begin call (λ start path f same.
         unused-begins e start path f (sym (ap (λ (c : Call). descriptor_used c e) same) ∙ unused) (sym (ap (λ (c : Call). is_of_path c e) same) ∙ of_path)))
     used-holds (Some d) used = file-holds d (open_file s p d) used refl
@@ -203,36 +203,36 @@ module _ (s : State) (p : Process) where
       record { text = text; argument = refl; among = found.0; unknown = is-none (promise_of word) found.1 }
 
   module _ (e : Errno) (r : Reason) where
-    keyword-holds : (a b o q : Option Bytes) → unknown_in a ≡ o → unknown_in b ≡ q → option_map unknown_keyword (option_or o q) ≡ Some r → Holds s p (Pledge a b) e r
+    keyword-holds : (a b o q : Option Bytes) → unknown_in a ≡ o → unknown_in b ≡ q → option_map unknown_keyword (option_or o q) ≡ Some r → ReasonHolds s p (Pledge a b) e r
     keyword-holds a b (Some word) q i j is =
         let k : IsUnknownIn a word = keyword-of a word i in
-        let same : unknown_keyword word ≡ r = cc is in subst (Holds s p (Pledge a b) e) same (k.text, inl k.argument, k.among, k.unknown)
+        let same : unknown_keyword word ≡ r = cc is in subst (ReasonHolds s p (Pledge a b) e) same (k.text, inl k.argument, k.among, k.unknown)
     keyword-holds a b None (Some word) i j is =
         let k : IsUnknownIn b word = keyword-of b word j in
-        let same : unknown_keyword word ≡ r = cc is in subst (Holds s p (Pledge a b) e) same (k.text, inr k.argument, k.among, k.unknown)
+        let same : unknown_keyword word ≡ r = cc is in subst (ReasonHolds s p (Pledge a b) e) same (k.text, inr k.argument, k.among, k.unknown)
     keyword-holds a b None None i j is = let bad : None ≡ Some r = is in cc bad
 
-    permission-holds : (path text : Bytes) (o : Option ℕ) → unknown_byte text ≡ o → option_map unknown_permission o ≡ Some r → Holds s p (Unveil (Some path) (Some text)) e r
+    permission-holds : (path text : Bytes) (o : Option ℕ) → unknown_byte text ≡ o → option_map unknown_permission o ≡ Some r → ReasonHolds s p (Unveil (Some path) (Some text)) e r
     permission-holds path text (Some b) i is =
         let found = find-holds (λ x. is_none (permission_of x)) text b i in
         let same : unknown_permission b ≡ r = cc is in
-        subst (Holds s p (Unveil (Some path) (Some text)) e) same (path, text, refl, found.0, is-none (permission_of b) found.1)
+        subst (ReasonHolds s p (Unveil (Some path) (Some text)) e) same (path, text, refl, found.0, is-none (permission_of b) found.1)
     permission-holds path text None i is = let bad : None ≡ Some r = is in cc bad
 
-    link-holds : (text path : Bytes) (b : Bool) → (if b then None else Some (words_reason (Symlink text path) e)) ≡ Some r → Holds s p (Symlink text path) e r
+    link-holds : (text path : Bytes) (b : Bool) → (if b then None else Some (words_reason (Symlink text path) e)) ≡ Some r → ReasonHolds s p (Symlink text path) e r
     link-holds text path true is = cc is
-    link-holds text path false is = let same : words_reason (Symlink text path) e ≡ r = cc is in subst (Holds s p (Symlink text path) e) same refl
+    link-holds text path false is = let same : words_reason (Symlink text path) e ≡ r = cc is in subst (ReasonHolds s p (Symlink text path) e) same refl
 
-    argument-holds : (c : Call) → argument_reason c e ≡ Some r → Holds s p c e r
+    argument-holds : (c : Call) → argument_reason c e ≡ Some r → ReasonHolds s p c e r
     argument-holds (Pledge a b) is = keyword-holds a b (unknown_in a) (unknown_in b) refl refl is
     argument-holds (Unveil (Some path) (Some text)) is = permission-holds path text (unknown_byte text) refl is
     argument-holds (Symlink text path) is = link-holds text path (is_valid_link text) is
     argument-holds c is = cc is
 
-pub reasons-hold : (s : State) (p : Process) (call : Call) (e : Errno) → Holds s p call e (reason_of s p call e)
-unfolding reason_of
+pub reasons-hold : (s : State) (p : Process) (call : Call) (e : Errno) → ReasonHolds s p call e (error_reason s p call e)
+unfolding error_reason
 reasons-hold s p call e = by (argument_reason call e) refl
   where
-    by : (o : Option Reason) → argument_reason call e ≡ o → Holds s p call e (unwrap_or o (descriptor_reason s p call e (descriptor_used call e)))
+    by : (o : Option Reason) → argument_reason call e ≡ o → ReasonHolds s p call e (unwrap_or o (descriptor_reason s p call e (descriptor_used call e)))
     by (Some r) is = argument-holds s p e r call is
     by None none = used-holds s p call e (descriptor_used call e) refl

@@ -1,4 +1,4 @@
--- What the lines of execves and of allowed walks say is so.
+-- The statements of the lines of execves and of allowed walks are true.
 use Rattle.std.specs.Prelude.{◌≡◌, ◌≢◌, ℕ, true, ◌&&◌, [], ◌∷◌, codes, Option, None, Some, Ok, is_some}
 use Rattle.pv_model.specs.declared.call.Call.TheVariants.{Execve}
 use Rattle.pv_model.specs.declared.judgement.Judgement.TheVariants.{Allowed as AllowedByTable}
@@ -18,7 +18,7 @@ restraints_left p = record {
   is_locked = is_some p.execpromises && p.locked;
 }
 
--- an execve that starts a program has one line, which says what its rule says
+-- an execve that starts a program has one line, which states its rule
 abbrev pub ExecveLinesHold : Type 0
 ExecveLinesHold =
     (s : State) (pid n : ℕ) (p : Process) (path : Bytes) → process_at s pid ≡ Some p → next p ≡ calls_for (Execve path)

@@ -7,14 +7,14 @@ use Rattle.pv_model.specs.Machine.{Bytes}
 use Rattle.pv_explain.specs.declared.errors.ErrorReason.{ErrorReason}
 use Rattle.pv_explain.specs.declared.errors.ErrorReason.TheVariants.{NoDescriptor, Opened, Keyword, Permission, OnePath, TwoPaths, Words}
 use Rattle.pv_explain.specs.declared.errors.PathPrefix.{PathPrefix}
-use Rattle.pv_explain.specs.Errors.{PrefixEnd, Reason, no_descriptor, opened, unknown_keyword, unknown_permission, one_path, two_paths, in_words}
+use Rattle.pv_explain.specs.Errors.{PrefixEnd, Reason, no_descriptor, open_descriptor, unknown_keyword, unknown_permission, one_path, two_paths, in_words}
 
 abbrev pub prefix_in : PathPrefix → PrefixEnd
 prefix_in x = record { path = x.path.now; end = x.end }
 
 abbrev pub reason_in : ErrorReason → Reason
 reason_in (NoDescriptor d) = no_descriptor d
-reason_in (Opened d node mode) = opened d node mode
+reason_in (Opened d node mode) = open_descriptor d node mode
 reason_in (Keyword word) = unknown_keyword word.now
 reason_in (Permission byte) = unknown_permission byte
 reason_in (OnePath first) = one_path (prefix_in first)

@@ -1,4 +1,5 @@
--- Why a call failed that neither a promise nor an unveil table refused: what is so in the state before the call.
+-- Why a call failed that neither a promise nor an unveil table refused: the facts behind the error, in the state before
+-- the call.
 use Rattle.std.specs.Prelude.{◌≡◌, ℕ, zero, suc, ◌+◌, ◌-◌, ◌==◌, nat_lt, nat_le, ℤ, ◌⊎◌, Bool, true, false, not, ◌&&◌, ◌||◌, if◌then◌else◌, List, [], ◌∷◌, ◌++◌, codes, find, length, take, slice_index, Contains, Option, None, Some, is_none, option_map, unwrap_or, Result, Ok, Err}
 use Rattle.std.specs.Fmt.{decimal, signed_decimal}
 use Rattle.std.specs.Option.{option_or}
@@ -34,7 +35,7 @@ pub record PrefixEnd : Type 0 where
 -- unknown; the ends of walks; or the condition of the error, as its manual page states it
 pub data Reason : Type 0 where
   no_descriptor : (d : ℤ) → Reason
-  opened : (d : ℤ) (node : ℕ) (mode : Mode) → Reason
+  open_descriptor : (d : ℤ) (node : ℕ) (mode : Mode) → Reason
   unknown_keyword : (word : Bytes) → Reason
   unknown_permission : (byte : ℕ) → Reason
   one_path : (first : PrefixEnd) → Reason
@@ -119,7 +120,7 @@ condition call ENOSPC = codes "the image has too few blocks or inodes"
 condition call EAGAIN = codes "there are 32 processes, or the number of the new process would exceed 99999"
 condition call e = codes "the call failed"
 
--- whether the error depends on what the paths of the call lead to
+-- whether the error depends on the nodes at the ends of the call's paths
 abbrev pub is_path_errno : Errno → Bool
 is_path_errno EPERM = true
 is_path_errno ENOENT = true
@@ -210,15 +211,15 @@ module _ (s : State) (p : Process) where
 
     abbrev pub file_reason : ℤ → Option (ℕ × OpenFile) → Reason
     file_reason d None = no_descriptor d
-    file_reason d (Some (k, file)) = if misfits s.tree call e file.node file.mode then opened d file.node file.mode else path_reason
+    file_reason d (Some (k, file)) = if misfits s.tree call e file.node file.mode then open_descriptor d file.node file.mode else path_reason
 
     abbrev pub descriptor_reason : Option ℤ → Reason
     descriptor_reason None = path_reason
     descriptor_reason (Some d) = file_reason d (open_file s p d)
 
     -- the reason of an error of the call
-    unfoldable pub reason_of : Reason
-    reason_of = unwrap_or (argument_reason call e) (descriptor_reason (descriptor_used call e))
+    unfoldable pub error_reason : Reason
+    error_reason = unwrap_or (argument_reason call e) (descriptor_reason (descriptor_used call e))
 
 -- ---- the text
 
@@ -240,12 +241,12 @@ failure_text ELOOP = codes " leads to a 33rd link"
 failure_text ENAMETOOLONG = codes " is too long, or leads to a name or a path that is"
 failure_text e = codes " leads nowhere"
 
-abbrev pub entry_text : Tree → Option ℕ → Bytes
-entry_text t None = codes " does not exist"
-entry_text t (Some n) = node_facts n (node_at t n)
+abbrev pub node_or_absence_text : Tree → Option ℕ → Bytes
+node_or_absence_text t None = codes " does not exist"
+node_or_absence_text t (Some n) = node_facts n (node_at t n)
 
 abbrev pub end_text : Tree → Result Place Errno → Bytes
-end_text t (Ok (At d name n)) = entry_text t n
+end_text t (Ok (At d name n)) = node_or_absence_text t n
 end_text t (Ok (Unnamed n)) = node_facts n (node_at t n) ++ codes ", without a name"
 end_text t (Err e) = failure_text e
 
@@ -254,7 +255,7 @@ prefix_text t x = quote x.path ++ end_text t x.end
 
 abbrev pub reason_text : Tree → Reason → Bytes
 reason_text t (no_descriptor d) = codes "no descriptor " ++ signed_decimal d
-reason_text t (opened d n mode) = codes "descriptor " ++ signed_decimal d ++ node_facts n (node_at t n) ++ codes ", open " ++ mode_text mode
+reason_text t (open_descriptor d n mode) = codes "descriptor " ++ signed_decimal d ++ node_facts n (node_at t n) ++ codes ", open " ++ mode_text mode
 reason_text t (unknown_keyword word) = codes "unknown keyword " ++ quote word
 reason_text t (unknown_permission b) = codes "unknown permission " ++ quote (b ∷ [])
 reason_text t (one_path x) = prefix_text t x
@@ -271,7 +272,7 @@ plain_error outcome = None
 -- the line of the reason of an error
 abbrev pub error_line : ℕ → State → Process → Call → Option Errno → List AnswerLine
 error_line pid s p call None = []
-error_line pid s p call (Some e) = answer_line pid (codes "WHY") (reason_text s.tree (reason_of s p call e)) ∷ []
+error_line pid s p call (Some e) = answer_line pid (codes "WHY") (reason_text s.tree (error_reason s p call e)) ∷ []
 
 abbrev pub error_lines_by : ℕ → State → Process → Call → Outcome → List AnswerLine
 error_lines_by pid s p call outcome = error_line pid s p call (plain_error outcome)
@@ -288,7 +289,7 @@ error_lines_of s pid (Some p) = error_lines_next s pid p (next p)
 unfoldable pub error_lines : State → ℕ → List AnswerLine
 error_lines s pid = error_lines_of s pid (process_at s pid)
 
--- the lines added to a step: what allowed its walks, the reason of its error, and what it did if it is an execve
+-- the lines added to a step: why its walks were allowed, the reason of its error, and the effect of an execve
 abbrev pub added_by : Extra → Added
 added_by extra source s pid =
     (if extra.allowed then allowed_lines source s pid else []) ++ (if extra.errors then error_lines s pid ++ execve_lines s pid else [])
@@ -304,7 +305,7 @@ no_lines source s pid = []
 abbrev pub brief : Extra
 brief = record { errors = false; allowed = false }
 
--- without added lines these are the lines of the model; so are those of a brief explanation
+-- without added lines, and in a brief explanation, these are the lines of the model
 abbrev pub AddsNothingElse : Type 0
 AddsNothingElse =
     (pids : List ℕ) (s : State)
@@ -326,18 +327,18 @@ IsPromisesText (Pledge promises execpromises) text = (promises ≡ Some text) �
 IsPromisesText call text = ⊥
 
 module _ (s : State) (p : Process) (call : Call) (e : Errno) where
-  -- what a reason says is so in the state before the call
-  abbrev pub Holds : Reason → Type 0
-  Holds (no_descriptor d) = (descriptor_used call e ≡ Some d) × (open_file s p d ≡ None)
-  Holds (opened d node mode) =
+  -- the statement of a reason is true in the state before the call
+  abbrev pub ReasonHolds : Reason → Type 0
+  ReasonHolds (no_descriptor d) = (descriptor_used call e ≡ Some d) × (open_file s p d ≡ None)
+  ReasonHolds (open_descriptor d node mode) =
       (k : ℕ) × (file : OpenFile) × (descriptor_used call e ≡ Some d) × (open_file s p d ≡ Some (k, file)) × (file.node ≡ node) × (file.mode ≡ mode)
       × (misfits s.tree call e node mode ≡ true)
-  Holds (unknown_keyword word) = (text : Bytes) × IsPromisesText call text × Contains (keywords text) word × (promise_of word ≡ None)
-  Holds (unknown_permission b) = (path text : Bytes) × (call ≡ Unveil (Some path) (Some text)) × Contains text b × (permission_of b ≡ None)
-  Holds (one_path x) = (w : Walk) × Contains (walks_of call) w × IsPrefixEnd s p w x
-  Holds (two_paths x y) = (w v : Walk) × (ws : List Walk) × (walks_of call ≡ w ∷ v ∷ ws) × IsPrefixEnd s p w x × (x.end ≡ end_of s p w) × IsPrefixEnd s p v y
-  Holds (in_words words) = words ≡ condition call e
+  ReasonHolds (unknown_keyword word) = (text : Bytes) × IsPromisesText call text × Contains (keywords text) word × (promise_of word ≡ None)
+  ReasonHolds (unknown_permission b) = (path text : Bytes) × (call ≡ Unveil (Some path) (Some text)) × Contains text b × (permission_of b ≡ None)
+  ReasonHolds (one_path x) = (w : Walk) × Contains (walks_of call) w × IsPrefixEnd s p w x
+  ReasonHolds (two_paths x y) = (w v : Walk) × (ws : List Walk) × (walks_of call ≡ w ∷ v ∷ ws) × IsPrefixEnd s p w x × (x.end ≡ end_of s p w) × IsPrefixEnd s p v y
+  ReasonHolds (in_words words) = words ≡ condition call e
 
 -- the reason of an error is true in the state before the call
 abbrev pub ReasonsHold : Type 0
-ReasonsHold = (s : State) (p : Process) (call : Call) (e : Errno) → Holds s p call e (reason_of s p call e)
+ReasonsHold = (s : State) (p : Process) (call : Call) (e : Errno) → ReasonHolds s p call e (error_reason s p call e)

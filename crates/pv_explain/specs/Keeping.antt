@@ -39,9 +39,9 @@ Agree s all others = (pid : ℕ) → IsLive s pid → settings_of all pid ≡ se
 
 -- ---- the records after a call, given the entry whose permissions an unveil(2) set
 
-abbrev pub entry_at : Option Target → Option Process → Option ℕ
-entry_at (Some target) (Some after) = entry_for (entries_of_table after.table) target
-entry_at _ _ = None
+abbrev pub entry_for_target : Option Target → Option Process → Option ℕ
+entry_for_target (Some target) (Some after) = entry_for (entries_of_table after.table) target
+entry_for_target _ _ = None
 
 abbrev pub set_now : ℕ → Option ℕ → List Setting → List Setting
 set_now line None mine = mine

@@ -20,13 +20,13 @@ step_text number line = decimal number ++ location_text line
 
 module _ (extra : Extra) where
   -- the lines of a step, with the lines added to it
-  abbrev pub step_lines : ℕ → Settings → State → ℕ → List AnswerLine
-  step_lines k all s pid = step_adding (added_by extra) k all s pid
+  abbrev pub explained_step_lines : ℕ → Settings → State → ℕ → List AnswerLine
+  explained_step_lines k all s pid = step_adding (added_by extra) k all s pid
 
   -- the lines of steps whose numbers start at k
   abbrev pub steps_lines : ℕ → Settings → List ℕ → State → List AnswerLine
   steps_lines k all [] s = []
-  steps_lines k all (pid ∷ pids) s = step_lines k all s pid ++ steps_lines (k + 1) (settings_next program_of s pid all) pids (step program_of s pid).after
+  steps_lines k all (pid ∷ pids) s = explained_step_lines k all s pid ++ steps_lines (k + 1) (settings_next program_of s pid all) pids (step program_of s pid).after
 
 -- the origins of entries after steps
 abbrev pub settings_through : Settings → List ℕ → State → Settings

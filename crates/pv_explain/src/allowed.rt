@@ -1,11 +1,11 @@
-//! What allowed the walks of a call.
+//! The reasons why the walks of a call were allowed.
 ghost use Rattle.std.specs.Prelude.{◌≡◌, if◌then◌else◌, option_map, IsSome, IsTrue, None, Some};
-ghost use Rattle.pv_explain.specs.Added.{allowed_in, no_pair, pair_before, pair_in, walk_before};
+ghost use Rattle.pv_explain.specs.Added.{allowed_in, no_pair, pair_before, allowed_pair_in, walk_before};
 ghost use Rattle.pv_laws_states.specs.States.{IsValid};
 ghost use Rattle.pv_model.specs.Machine.{call_of, is_directory_at, process_at, walk_of, Process};
 ghost use Rattle.pv_model_questions.specs.ExplainMore.{allowed_at, allowed_by, is_of_directory, known_by, named_target};
 ghost use Rattle.pv_model.specs.Unveil.{target_of};
-ghost use Rattle.pv_unveil.specs.Up.{directory_of};
+ghost use Rattle.pv_unveil.specs.Up.{directory_of_place};
 
 use crate::levels::governing_level;
 use pv_model::{CallRef, Judgement, Perms, Place, Target, Walk, Walks};
@@ -110,7 +110,7 @@ fn known_by(place: Place, target: Target) -> Target
 
 // Returns a walk to a place that an entry allowed, or a walk without a table.
 fn allowed_by(tree: &Tree, table: &Table, asked: Perms, place: Place) -> Option<AllowedWalk>
-    requires { IsTrue (is_directory_at tree.now.tree (directory_of place)) }
+    requires { IsTrue (is_directory_at tree.now.tree (directory_of_place place)) }
     ensures { option_map allowed_in result ≡ allowed_by tree.now.tree table.now.table asked place }
 {
     if table.is_empty() {
@@ -136,7 +136,7 @@ fn allowed_by(tree: &Tree, table: &Table, asked: Perms, place: Place) -> Option<
 
 // Returns a walk to a place, if the table allows it.
 fn allowed_at(tree: &Tree, table: &Table, asked: Perms, place: Place) -> Option<AllowedWalk>
-    requires { IsTrue (is_directory_at tree.now.tree (directory_of place)) }
+    requires { IsTrue (is_directory_at tree.now.tree (directory_of_place place)) }
     ensures { option_map allowed_in result ≡ allowed_at tree.now.tree table.now.table asked place }
 {
     match table.judge(tree, &PlaceRef::of(&place), asked) {
@@ -159,7 +159,7 @@ fn allowed_walk(parts: &Parts, pid: u32, walk: Walk<'_>) -> Option<AllowedWalk>
 impl AllowedWalks {
     // Returns no walks.
     fn none() -> AllowedWalks
-        ensures { pair_in result ≡ no_pair }
+        ensures { allowed_pair_in result ≡ no_pair }
     {
         AllowedWalks {
             first: None,
@@ -171,7 +171,7 @@ impl AllowedWalks {
     fn of_call(parts: &Parts, pid: u32, call: CallRef<'_>) -> AllowedWalks
         requires whole { IsValid parts.now }
         requires live { IsSome (process_at parts.now pid) }
-        ensures { (me : Process) → process_at parts.now pid ≡ Some me → pair_in result ≡ pair_before parts.now pid me (call_of call.entry) }
+        ensures { (me : Process) → process_at parts.now pid ≡ Some me → allowed_pair_in result ≡ pair_before parts.now pid me (call_of call.entry) }
     {
         if is_unveil(call) {
             return AllowedWalks::none();
@@ -189,8 +189,8 @@ impl AllowedWalks {
         }
     }
 
-    /// Returns the allowed walks of a live process's call, in the state before it, or no walks unless they are to be
-    /// written. The walk of an unveil(2) is not checked.
+    /// Returns the allowed walks of a live process's call, in the state before it, or no walks unless they are
+    /// requested. The walk of an unveil(2) is not checked.
     pub(crate) fn before(
         parts: &Parts,
         pid: u32,
@@ -199,7 +199,7 @@ impl AllowedWalks {
     ) -> AllowedWalks
         requires whole { IsValid parts.now }
         requires live { IsSome (process_at parts.now pid) }
-        ensures { (me : Process) → process_at parts.now pid ≡ Some me → pair_in result ≡ (if are_written then pair_before parts.now pid me (call_of call.entry) else no_pair) }
+        ensures { (me : Process) → process_at parts.now pid ≡ Some me → allowed_pair_in result ≡ (if are_written then pair_before parts.now pid me (call_of call.entry) else no_pair) }
     {
         if are_written {
             AllowedWalks::of_call(parts, pid, call)

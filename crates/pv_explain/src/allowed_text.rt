@@ -1,6 +1,6 @@
 //! The lines of walks that were allowed.
 ghost use Rattle.std.specs.Prelude.{◌≡◌, [], map, if◌then◌else◌, option_map, option_to_list};
-ghost use Rattle.pv_explain.specs.Added.{allowed_in, first_ones, line_of, pair_in};
+ghost use Rattle.pv_explain.specs.Added.{allowed_in, first_allowed, allowed_line_of, allowed_pair_in};
 ghost use Rattle.pv_model.specs.Machine.{answer_bytes, answer_line_bytes};
 ghost use Rattle.pv_model_questions.specs.ExplainMore.{sort_text};
 ghost use Rattle.pv_step_lines.specs.Origin.{settings_in};
@@ -24,9 +24,9 @@ struct OriginText<'a> {
 
 impl<'a> Fragment for OriginText<'a> {
     ghost use Rattle.pv_step_lines.specs.Origin.{settings_in};
-    ghost use Rattle.pv_step_lines.specs.Parts.{source_of};
+    ghost use Rattle.pv_step_lines.specs.Parts.{origin_text};
 
-    ghost text = { λ p. source_of (settings_in p.origins.now) p.entry };
+    ghost text = { λ p. origin_text (settings_in p.origins.now) p.entry };
 
     fn write<W: Sink>(&self, out: &mut W) -> Result<(), Failed> {
         let Some(origin) = self.origins.get(self.entry as usize) else {
@@ -51,10 +51,10 @@ struct EntryText<'a> {
 }
 
 impl<'a> Fragment for EntryText<'a> {
-    ghost use Rattle.pv_explain.specs.Added.{entry_by};
+    ghost use Rattle.pv_explain.specs.Added.{allowing_entry_text};
     ghost use Rattle.pv_step_lines.specs.Origin.{settings_in};
 
-    ghost text = { λ p. entry_by (settings_in p.origins.now) p.asked p.entry };
+    ghost text = { λ p. allowing_entry_text (settings_in p.origins.now) p.asked p.entry };
 
     fn write<W: Sink>(&self, out: &mut W) -> Result<(), Failed> {
         let Some(entry) = self.entry else {
@@ -134,7 +134,7 @@ pub(crate) struct Context<'a> {
 // Writes the line of a walk.
 #[tactic(auto, unfolding(pv_model::specs::Trace::text_line))]
 fn write_walk<W: Sink>(out: &mut W, context: &Context<'_>, walk: &AllowedWalk) -> Result<(), Failed>
-    ensures { Writes W.Sink (answer_line_bytes (line_of context.now (allowed_in walk.now))) out.old out.new result }
+    ensures { Writes W.Sink (answer_line_bytes (allowed_line_of context.now (allowed_in walk.now))) out.old out.new result }
 {
     let target = TargetText {
         tree: context.tree,
@@ -161,7 +161,7 @@ fn write_begun<W: Sink>(
     is_begun: bool,
     walk: &Option<AllowedWalk>,
 ) -> Result<(), Failed>
-    ensures { Writes W.Sink (answer_bytes (map (line_of context.now) (if is_begun then option_to_list (option_map allowed_in walk.now) else []))) out.old out.new result }
+    ensures { Writes W.Sink (answer_bytes (map (allowed_line_of context.now) (if is_begun then option_to_list (option_map allowed_in walk.now) else []))) out.old out.new result }
 {
     if !is_begun {
         return Ok(());
@@ -183,7 +183,7 @@ pub(crate) fn write_allowed<W: Sink>(
     walks: &AllowedWalks,
     count: u8,
 ) -> Result<(), Failed>
-    ensures { Writes W.Sink (answer_bytes (map (line_of context.now) (first_ones (pair_in walks.now) count))) out.old out.new result }
+    ensures { Writes W.Sink (answer_bytes (map (allowed_line_of context.now) (first_allowed (allowed_pair_in walks.now) count))) out.old out.new result }
 {
     write_begun(out, context, count >= 1, &walks.first)?;
     let second = write_begun(out, context, count >= 2, &walks.second);

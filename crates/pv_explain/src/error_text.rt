@@ -2,7 +2,7 @@
 ghost use Rattle.std.specs.Prelude.{◌≡◌, ◌++◌, [], ◌∷◌, codes};
 ghost use Rattle.std.specs.Fmt.{signed_decimal};
 ghost use Rattle.pv_explain.specs.ErrorParts.{reason_in, words_of_kind};
-ghost use Rattle.pv_explain.specs.Errors.{entry_text, failure_text, node_facts, plain_error, reason_text};
+ghost use Rattle.pv_explain.specs.Errors.{node_or_absence_text, failure_text, node_facts, plain_error, reason_text};
 ghost use Rattle.pv_explain.specs.Made.{error_after};
 ghost use Rattle.pv_laws_states.specs.States.{IsValid};
 ghost use Rattle.pv_model.specs.Machine.{answer_bytes, answer_line, answer_line_bytes, call_of, process_at, mode_text, quote, node_at};
@@ -89,7 +89,7 @@ fn write_unnamed<W: Sink>(out: &mut W, tree: &Tree, node: u16) -> Result<(), Fai
 
 // Writes the facts of the node of an entry, or that it does not exist.
 fn write_entry<W: Sink>(out: &mut W, tree: &Tree, node: Option<u16>) -> Result<(), Failed>
-    ensures { Writes W.Sink (entry_text tree.now.tree node) out.old out.new result }
+    ensures { Writes W.Sink (node_or_absence_text tree.now.tree node) out.old out.new result }
 {
     match node {
         Some(node) => NodeFacts { tree, node }.write(out),

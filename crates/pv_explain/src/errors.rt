@@ -2,7 +2,7 @@
 ghost use Rattle.std.specs.Prelude.{◌≡◌, ◌≤◌, ◌<◌, bytes_eq, find, is_none, length, option_copied, option_map, IfOk, IsSome, IsTrue, Some};
 ghost use Rattle.std.specs.Option.{option_or};
 ghost use Rattle.pv_explain.specs.ErrorParts.{prefix_in, reason_in};
-ghost use Rattle.pv_explain.specs.Errors.{ReasonsHold, argument_reason, arrives, condition, descriptor_reason, descriptor_used, end_after, ends_component, file_reason, invalid_argument, is_EISDIR, is_of_path, is_path_errno, is_valid_link, leads_to_directory, misfits, path_reason, prefix_end, reason_of, start_descriptor, start_of, start_used, stop, stops_at, two_walks, unknown_byte, unknown_in, unknown_keyword, unknown_permission, walk_prefix, words_reason};
+ghost use Rattle.pv_explain.specs.Errors.{ReasonsHold, argument_reason, arrives, condition, descriptor_reason, descriptor_used, end_after, ends_component, file_reason, invalid_argument, is_EISDIR, is_of_path, is_path_errno, is_valid_link, leads_to_directory, misfits, path_reason, prefix_end, error_reason, start_descriptor, start_of, start_used, stop, stops_at, two_walks, unknown_byte, unknown_in, unknown_keyword, unknown_permission, walk_prefix, words_reason};
 ghost use Rattle.pv_laws_states.specs.States.{IsValid};
 ghost use Rattle.pv_model.specs.Machine.{call_of, walk_of, open_file, start_directory, promise_name, Process, process_at, reads, is_directory_at};
 ghost use Rattle.pv_model.specs.Perms.{permission_of};
@@ -37,9 +37,9 @@ pub enum ErrorReason<'a> {
     Keyword(&'a [u8]),
     /// An argument of unveil(2) has this unknown permission.
     Permission(u8),
-    /// What the walk along a path leads to.
+    /// The end of the walk along a path.
     OnePath(PathPrefix<'a>),
-    /// What the walks along both paths of a call lead to.
+    /// The ends of the walks along both paths of a call.
     TwoPaths(PathPrefix<'a>, PathPrefix<'a>),
     /// The condition of the error.
     Words(&'static [u8]),
@@ -152,7 +152,7 @@ fn start_of(parts: &Parts, pid: u32, walk: Walk<'_>) -> u16
     }
 }
 
-// Returns what a walk of a live process leads to.
+// Returns the end of a walk of a live process.
 fn walk_prefix<'a>(parts: &Parts, pid: u32, walk: Walk<'a>) -> PathPrefix<'a>
     requires whole { IsValid parts.now }
     requires live { IsSome (process_at parts.now pid) }
@@ -181,7 +181,7 @@ fn find_by_name(promises: &[Promise], word: &[u8]) -> Option<Promise>
         .find(|promise| promise.name().as_bytes() == word)
 }
 
-// Returns whether a word is no keyword of pledge(2).
+// Returns whether a word is not a keyword of pledge(2).
 fn is_unknown_keyword(word: &[u8]) -> bool
     ensures { result ≡ is_none (promise_of word.now) }
 {
@@ -210,7 +210,7 @@ fn unknown_in(text: Option<&Text>) -> Option<&[u8]>
     }
 }
 
-// Returns whether a byte is no permission of unveil(2).
+// Returns whether a byte is not a permission of unveil(2).
 fn is_unknown_permission(byte: u8) -> bool
     ensures { result ≡ is_none (permission_of byte) }
 {
@@ -259,7 +259,7 @@ fn permission_reason(text: &Text) -> Option<ErrorReason<'static>>
     }
 }
 
-// Returns what an invalid argument of a call has to be, as the condition of EINVAL.
+// Returns the requirement on an invalid argument of a call, as the condition of EINVAL.
 fn invalid_argument(call: CallRef<'_>) -> &'static [u8]
     ensures { result.now ≡ invalid_argument (call_of call.entry) }
 {
@@ -321,7 +321,7 @@ fn argument_reason<'a>(call: CallRef<'a>, errno: Errno) -> Option<ErrorReason<'a
 
 // ---- the reason
 
-// Returns whether an error depends on what the paths of a call lead to.
+// Returns whether an error depends on the nodes at the ends of a call's paths.
 fn is_path_errno(errno: Errno) -> bool
     ensures { result ≡ is_path_errno errno }
 {
@@ -341,7 +341,7 @@ fn is_path_errno(errno: Errno) -> bool
     )
 }
 
-// Returns whether an error of this call depends on what its paths lead to.
+// Returns whether an error of this call depends on the nodes at the ends of its paths.
 fn is_of_path(call: CallRef<'_>, errno: Errno) -> bool
     ensures { result ≡ is_of_path (call_of call.entry) errno }
 {
@@ -380,7 +380,7 @@ fn misfits(tree: &Tree, call: CallRef<'_>, errno: Errno, node: u16, mode: Mode) 
     }
 }
 
-// Returns what the paths of a call lead to, or the condition of the error if it does not depend on them.
+// Returns the ends of the paths of a call, or the condition of the error if it does not depend on them.
 fn path_reason<'a>(parts: &Parts, pid: u32, call: CallRef<'a>, errno: Errno) -> ErrorReason<'a>
     requires whole { IsValid parts.now }
     requires live { IsSome (process_at parts.now pid) }
@@ -396,7 +396,7 @@ fn path_reason<'a>(parts: &Parts, pid: u32, call: CallRef<'a>, errno: Errno) -> 
     }
 }
 
-// Returns what the two paths of a call lead to, or the first if it leads nowhere.
+// Returns the ends of the two paths of a call, or of the first alone if it leads nowhere.
 fn two_walks<'a>(parts: &Parts, pid: u32, first: Walk<'a>, second: Walk<'a>) -> ErrorReason<'a>
     requires whole { IsValid parts.now }
     requires live { IsSome (process_at parts.now pid) }
@@ -411,7 +411,7 @@ fn two_walks<'a>(parts: &Parts, pid: u32, first: Walk<'a>, second: Walk<'a>) -> 
     }
 }
 
-// Returns what the descriptor of a call is, or, if the call did not fail because of it, the reason by its paths.
+// Returns the state of the descriptor of a call, or, if the call did not fail because of it, the reason by its paths.
 fn file_reason<'a>(
     parts: &Parts,
     pid: u32,
@@ -517,7 +517,7 @@ pub(crate) fn reason_of<'a>(
 ) -> ErrorReason<'a>
     requires whole { IsValid parts.now }
     requires live { IsSome (process_at parts.now pid) }
-    ensures { (me : Process) → process_at parts.now pid ≡ Some me → reason_in result ≡ reason_of parts.now me (call_of call.entry) errno }
+    ensures { (me : Process) → process_at parts.now pid ≡ Some me → reason_in result ≡ error_reason parts.now me (call_of call.entry) errno }
 {
     match argument_reason(call, errno) {
         Some(reason) => reason,
@@ -525,8 +525,8 @@ pub(crate) fn reason_of<'a>(
     }
 }
 
-/// States that the reason of an error is true in the state before the call: what a reason says of a descriptor, of an
-/// argument or of the end of a walk is so in that state.
+/// States that the reason of an error is true in the state before the call: its statement about a descriptor, an
+/// argument or the end of a walk is true in that state.
 pub fn reasons_hold()
     ensures { ReasonsHold }
 {}

@@ -1,14 +1,14 @@
 //! Explained runs of schedules, step by step.
 ghost use Rattle.std.specs.Prelude.{◌≡◌, ◌+◌, ◌≤◌, ◌<◌, ◌^◌, [], ◌∷◌, length, replicate, IfErr, IfOk, IfSome, IsTrue, OnOk, option_copied};
 ghost use Rattle.pv_explain.specs.Errors.{explained_lines};
-ghost use Rattle.pv_explain.specs.Keeping.{Agree, entry_at};
+ghost use Rattle.pv_explain.specs.Keeping.{Agree, entry_for_target};
 ghost use Rattle.pv_explain.specs.Made.{settings_called};
-ghost use Rattle.pv_explain.specs.Steps.{StopsExplained, settings_through, step_lines, steps_lines};
+ghost use Rattle.pv_explain.specs.Steps.{StopsExplained, settings_through, explained_step_lines, steps_lines};
 ghost use Rattle.pv_model.specs.declared.limits.TheConstants.{SCHEDULE_LINES, UNVEILS};
 ghost use Rattle.pv_laws_states.specs.States.{is_call};
 ghost use Rattle.pv_model.specs.Machine.{settings_next, answer_bytes, call_of, program_of, process_at, steps_of};
 ghost use Rattle.pv_procs.specs.Turns.{CallsNext};
-ghost use Rattle.pv_step_lines.specs.OfSession.Running.{FailsBy, run_of, stepped, turn};
+ghost use Rattle.pv_step_lines.specs.OfSession.Running.{FailsBy, run_of, stepped, run_of_turn};
 ghost use Rattle.pv_streams.specs.Sinks.{WritesOr};
 
 use crate::explained::{write_call_and_added, write_step_line};
@@ -29,7 +29,7 @@ use std::marker::Model;
 
 // Returns the entry for a target in the table of a process, if there is one.
 fn entry_for(parts: &Parts, pid: u32, target: Option<&Target>) -> Option<u8>
-    ensures value { result ≡ entry_at (option_copied target.entry) (process_at parts.now pid) }
+    ensures value { result ≡ entry_for_target (option_copied target.entry) (process_at parts.now pid) }
     ensures few { IfSome result (λ k. k < UNVEILS) }
 {
     let target = target?;
@@ -77,7 +77,7 @@ fn explain_call<W: Sink>(
     requires next { CallsNext call (process_at session.old step.pid) }
     requires callable { IsTrue (is_call (call_of call)) }
     ensures after { OnOk result (session.new ≡ (stepped session.old step.pid).after) }
-    ensures written { WritesOr W.Sink FailsBy (answer_bytes (step_lines extra step.number origins.old session.old step.pid)) out.old out.new result }
+    ensures written { WritesOr W.Sink FailsBy (answer_bytes (explained_step_lines extra step.number origins.old session.old step.pid)) out.old out.new result }
     ensures stopped { IfErr result (λ stop. StopsExplained extra stop step.number origins.old (step.pid ∷ []) session.old session.new (W.written out.old) (W.written out.new)) }
     ensures keeps { OnOk result (Agree session.new origins.new (settings_next program_of session.old step.pid origins.old)) }
 {
@@ -152,7 +152,7 @@ impl Explainer {
         out: &mut W,
     ) -> Result<(), Stop>
         ensures after { OnOk result (session.new ≡ (stepped session.old pid).after) }
-        ensures written { WritesOr W.Sink FailsBy (answer_bytes (step_lines extra number self.old session.old pid)) out.old out.new result }
+        ensures written { WritesOr W.Sink FailsBy (answer_bytes (explained_step_lines extra number self.old session.old pid)) out.old out.new result }
         ensures stopped { IfErr result (λ stop. StopsExplained extra stop number self.old (pid ∷ []) session.old session.new (W.written out.old) (W.written out.new)) }
 
         // The explainer knows the origins of the entries of live processes.
@@ -195,7 +195,7 @@ fn explain_turn<W: Sink>(
     out: &mut W,
 ) -> Result<(), Stop>
     requires { number + count < 2 ^ 64 }
-    ensures after { OnOk result (session.new ≡ (turn session.old pid count).final) }
+    ensures after { OnOk result (session.new ≡ (run_of_turn session.old pid count).final) }
     ensures written { WritesOr W.Sink FailsBy (answer_bytes (steps_lines extra number explainer.old (replicate count pid) session.old)) out.old out.new result }
     ensures stopped { IfErr result (λ stop. StopsExplained extra stop number explainer.old (replicate count pid) session.old session.new (W.written out.old) (W.written out.new)) }
     ensures keeps { OnOk result (Agree session.new explainer.new (settings_through explainer.old (replicate count pid) session.old)) }

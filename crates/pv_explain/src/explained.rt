@@ -20,7 +20,7 @@ use pv_step_lines::{MadeCall, Origin, write_call};
 use pv_streams::{Failed, Sink, write_whole};
 use pv_trace::LineBuffer;
 
-// Writes why a call that was just made failed, or what it did to the restraints of its process.
+// Writes why a call that was just made failed, or its effect on the restraints of its process.
 fn write_reasons<W: Sink>(
     out: &mut W,
     parts: &Parts,
@@ -63,8 +63,8 @@ fn write_added<W: Sink>(
 }
 
 /// Writes the explained lines of a call that was just made, the walks of `prior` that were begun, and, if `errors`, why
-/// the call failed, unless a promise or a table refused it, or what it did to the restraints of its process, if it started
-/// a program.
+/// the call failed, unless a promise or a table refused it, or its effect on the restraints of its process, if it
+/// started a program.
 ///
 /// # Errors
 ///

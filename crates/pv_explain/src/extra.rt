@@ -3,9 +3,9 @@
 /// The lines that are added to those of a brief explanation.
 #[derive(Clone, Copy)]
 pub struct Extra {
-    /// Why a call failed that neither a promise nor a table refused, and what an execve(2) did to the restraints of its
-    /// process.
+    /// Why a call failed that neither a promise nor a table refused, and the effect of an execve(2) on the restraints
+    /// of its process.
     pub errors: bool,
-    /// What allowed each walk that was checked.
+    /// The reason why each checked walk was allowed.
     pub allowed: bool,
 }

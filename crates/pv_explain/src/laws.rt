@@ -8,7 +8,7 @@ pub fn adds_nothing_else()
     ensures { AddsNothingElse }
 {}
 
-/// An execve that starts a program has one line, which says what its rule says: the execpromises become the promises and
+/// An execve that starts a program has one line, which states its rule: the execpromises become the promises and
 /// stay, and the table and the lock stay if there are execpromises.
 pub fn execve_lines_hold()
     ensures { ExecveLinesHold }

@@ -4,7 +4,7 @@ ghost use Rattle.pv_explain.specs.Added.{level_in};
 ghost use Rattle.pv_model.specs.Answers.Levels.{directory_levels, name_levels};
 ghost use Rattle.pv_model.specs.Machine.{entries_of_table, is_directory_at};
 ghost use Rattle.pv_model_questions.specs.ExplainMore.{governing_level, has_entry};
-ghost use Rattle.pv_unveil.specs.Up.{directory_of};
+ghost use Rattle.pv_unveil.specs.Up.{directory_of_place};
 
 use pv_model::{Name, Place, Target};
 use pv_step_lines::answers::unveil::{Table, above};
@@ -58,7 +58,7 @@ fn name_level(tree: &Tree, table: &Table, directory: u16, name: &Name) -> Option
 /// Returns the level whose entry governs a place, if an entry governs it.
 #[tactic(auto, unfolding(pv_model::specs::Answers::Levels::levels))]
 pub(crate) fn governing_level(tree: &Tree, table: &Table, place: &Place) -> Option<GoverningLevel>
-    requires { IsTrue (is_directory_at tree.now.tree (directory_of place.now)) }
+    requires { IsTrue (is_directory_at tree.now.tree (directory_of_place place.now)) }
     ensures value { option_map level_in result ≡ governing_level tree.now.tree (entries_of_table table.now.table) place.now }
     ensures in_table { IfSome result (λ level. level.entry < length (entries_of_table table.now.table)) }
 {

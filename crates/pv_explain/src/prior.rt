@@ -15,7 +15,7 @@ use pv_step_lines::calls_state::Parts;
 pub(crate) struct Prior {
     /// The restraints of the process.
     pub(crate) restraints: Restraints,
-    /// The walks of the call that are allowed, if they are to be written.
+    /// The walks of the call that are allowed, if they are requested.
     pub(crate) walks: AllowedWalks,
 }
 

@@ -1,4 +1,4 @@
-//! What an execve(2) did to the restraints of its process.
+//! The effect of an execve(2) on the restraints of its process.
 ghost use Rattle.std.specs.Prelude.{◌≡◌, codes};
 ghost use Rattle.pv_explain.specs.Added.{restraints_in};
 ghost use Rattle.pv_model.specs.Answers.Needs.{begins_program};
@@ -58,7 +58,7 @@ impl Fragment for ExecpromisesText {
     }
 }
 
-// A table or a lock that a process had or had not, and has or has not.
+// Whether a process had a table or a lock, and whether it has one.
 #[derive(Clone, Copy)]
 struct KeptText {
     what: &'static [u8],
@@ -146,7 +146,7 @@ fn begins_program(call: CallRef<'_>, outcome: Outcome) -> bool
     }
 }
 
-// Writes what an execve(2) did to the restraints of its process, which has started a program.
+// Writes the effect of an execve(2) on the restraints of its process, which has started a program.
 fn write_started<W: Sink>(
     out: &mut W,
     parts: &Parts,
@@ -161,8 +161,8 @@ fn write_started<W: Sink>(
     write_change(out, pid, old, &Restraints::of(process))
 }
 
-/// Writes what a call did to the restraints of its process, if it started a program. `old` are the restraints before the
-/// call.
+/// Writes the effect of a call on the restraints of its process, if it started a program. `old` are the restraints
+/// before the call.
 ///
 /// # Errors
 ///

@@ -6,51 +6,51 @@ use Rattle.std.proofs.lemmas.List.{length-map}
 use Rattle.std.proofs.lemmas.Bool.Decides.{nat_tests}
 use Rattle.pv_explore.specs.declared.states.Visit.{Visit}
 use Rattle.pv_explore.specs.declared.states.Visit.TheVariants.{Known, Full, New}
-use Rattle.pv_explore.proofs.LiveOnes.{ended-numbers}
+use Rattle.pv_explore.proofs.LiveNumbers.{ended-numbers}
 use Rattle.std.specs.List.{AllByRecursion, list_any, position_or_len}
 use Rattle.std.proofs.lemmas.List.{length-append, map-append}
 use Rattle.std.proofs.lemmas.Option.{slice_get-get_or, slice_get-map, slice_get_within}
 use Rattle.pv_explore.specs.Plan.{state_key}
 use Rattle.pv_explore.specs.Rows.{Grew, state_row, state_bytes, IsGroupVisited, AreVisited, IsRow}
-use Rattle.pv_explore.specs.VisitedStates.{number_of, AreCachedBoth, AreCellsIn, AreCellsOf, AreCellsAt, AreCachedSteps, AreEncoded, AreReleased, ArePlaced, ArePushed, IsFine, IsFoundBy, IsFoundIn, IsMade, IsRecalled, HasNumber, MayKeep, cells_row}
-use Rattle.pv_explore.proofs.Rows.{all-next, any-row, position-row, visited-grew, numbers-grew, rows-grew, states-added, states-grew, rows-added, same-rows, state-back, taken-more}
+use Rattle.pv_explore.specs.VisitedStates.{group_number, AreCachedBoth, AreCellsIn, AreCellsOf, AreCellsAt, AreCachedSteps, AreEncoded, AreReleased, ArePlaced, ArePushed, IsFine, IsFoundBy, IsFoundIn, IsObservedStep, IsRecalled, HasNumber, MayKeep, cells_row}
+use Rattle.pv_explore.proofs.StateRows.{all-next, any-row, position-row, visited-grew, numbers-grew, rows-grew, states-added, states-grew, rows-added, same-rows, state-back, taken-more}
 use Rattle.pv_step_cache.specs.declared.cells.Cell.{Cell}
 use Rattle.pv_step_cache.specs.declared.steps.CachedStep.{CachedStep}
 use Rattle.pv_step_cache.specs.Edits.{cell_of, number_of_cell, owners}
 use Rattle.pv_step_cache.specs.Cached.{AreApart, DependsOnSeen, IsCachedBoth, KeepsMore}
-use Rattle.pv_step_cache.proofs.Again.{IsAgain, cells-more, cells-same, cached-more}
+use Rattle.pv_step_cache.proofs.RepeatedSteps.{IsAgain, cells-more, cells-same, cached-more}
 use Rattle.pv_step_cache.proofs.KeyLists.{number-none}
 use Rattle.pv_step_cache.proofs.Keys.{groups-encoded}
 use Rattle.pv_step_cache.proofs.LiveOwners.{owners-are}
-use Rattle.pv_step_cache.proofs.Recalling.{recalled-again, steps-added, steps-more}
+use Rattle.pv_step_cache.proofs.CacheLookups.{recalled-again, steps-added, steps-more}
 use Rattle.pv_laws_states.specs.States.{IsValid}
 use Rattle.pv_model.specs.Machine.{has_ended, Observer, Bytes, is_empty, State}
 use Rattle.pv_step_cache.proofs.OfLawsAnswers.StateDecoding.{same-state_numbers}
 use Rattle.pv_step_lines.specs.OfSession.Running.{stepped}
 use Rattle.pv_step_cache.specs.OfStateEncoding.Groups.{state_groups}
 use Rattle.pv_step_cache.specs.OfStateEncoding.Packed.{packed_all}
-use Rattle.pv_step_cache.specs.OfStateEncoding.Encoded.{Encoded, plain, encoded}
-use Rattle.pv_step_cache.proofs.OfStateEncoding.Apart.{packed-apart}
-use Rattle.pv_step_cache.proofs.OfStateEncoding.Grouping.{state-joined}
+use Rattle.pv_step_cache.specs.OfStateEncoding.Encoded.{OwnedGroup, plain, encoded}
+use Rattle.pv_step_cache.proofs.OfStateEncoding.InjectiveEncoding.{packed-apart}
+use Rattle.pv_step_cache.proofs.OfStateEncoding.StateGroups.{state-concatenated_groups}
 
 same-keys : (s t : State) → state_key s ≡ state_key t → s ≡ t
 same-keys s t same = same-state_numbers s t (packed-apart _ _ same)
 
 module _ (parts groups : List Bytes) where
-  pub apart : AreApart (number_of parts groups) (IsGroupVisited parts groups)
+  pub apart : AreApart (group_number parts groups) (IsGroupVisited parts groups)
   apart g h visited same = let all : g ∷ [] ≡ h ∷ [] = same-rows parts groups (g ∷ []) (h ∷ []) (visited, tt) (ap (λ n. packed_all (n ∷ [])) same) in cc
 
   -- ---- rows of cells
 
-  numbers-cells : (cs : List Encoded) → map number_of_cell (map (cell_of (number_of parts groups)) cs) ≡ map (number_of parts groups) (map (λ c. c.group) cs)
+  numbers-cells : (cs : List OwnedGroup) → map number_of_cell (map (cell_of (group_number parts groups)) cs) ≡ map (group_number parts groups) (map (λ c. c.group) cs)
   numbers-cells [] = refl
-  numbers-cells (c ∷ cs) = ap (λ ns. number_of parts groups c.group ∷ ns) (numbers-cells cs)
+  numbers-cells (c ∷ cs) = ap (λ ns. group_number parts groups c.group ∷ ns) (numbers-cells cs)
 
   pub row-of_cells : (t : State) (cells : List Cell) → AreCellsOf parts groups t cells → cells_row cells ≡ state_row parts groups (state_groups t)
   row-of_cells t cells there =
-      ap cells_row there.are ∙ ap packed_all (numbers-cells (encoded t) ∙ ap (map (number_of parts groups)) (groups-encoded t))
+      ap cells_row there.are ∙ ap packed_all (numbers-cells (encoded t) ∙ ap (map (group_number parts groups)) (groups-encoded t))
 
-  groups-visited : (cs : List Encoded) → AreCachedBoth parts groups cs → AreVisited parts groups (map (λ c. c.group) cs)
+  groups-visited : (cs : List OwnedGroup) → AreCachedBoth parts groups cs → AreVisited parts groups (map (λ c. c.group) cs)
   groups-visited [] visited = tt
   groups-visited (c ∷ cs) visited = (visited.0.0, groups-visited cs visited.1)
 
@@ -72,28 +72,28 @@ module _ (parts groups : List Bytes) where
         same : {row : Bytes} → AreCellsAt parts groups row cs.items → state_bytes parts groups row ≡ state_key t → AreCellsOf parts groups t cs.items
         same {row} it bytes =
             let keys : state_key it.state ≡ state_key t =
-            sym (state-joined it.state) ∙ sym (state-back parts groups (state_groups it.state) (state-visited it.state it.cells_are.cached)) ∙ ap (state_bytes parts groups) (sym it.row_is) ∙ bytes in
+            sym (state-concatenated_groups it.state) ∙ sym (state-back parts groups (state_groups it.state) (state-visited it.state it.cells_are.cached)) ∙ ap (state_bytes parts groups) (sym it.row_is) ∙ bytes in
             subst (λ (s : State). AreCellsOf parts groups s cs.items) (same-keys it.state t keys) it.cells_are
 
     -- a result from the cache is that of the step
     pub recalled-at : DependsOnSeen observe → (number pid : ℕ) (texts : List Bytes) (after : List Cell) → IsRecalled cells steps number pid texts after → (t : State) → IsValid t → HasNumber (map (state_bytes parts groups) rows) number t
-        → IsAgain (number_of parts groups) (IsGroupVisited parts groups) apart observe pid t texts after
+        → IsAgain (group_number parts groups) (IsGroupVisited parts groups) apart observe pid t texts after
     recalled-at depends number pid texts after it t whole there =
-        recalled-again (number_of parts groups) (IsGroupVisited parts groups) observe apart depends steps fine.steps_are t pid it.before.items texts after whole (cells-at number it.before t there it.at it.there) it.was
+        recalled-again (group_number parts groups) (IsGroupVisited parts groups) observe apart depends steps fine.steps_are t pid it.before.items texts after whole (cells-at number it.before t there it.at it.there) it.was
 
-    -- a row of cells is stored exactly if its state was visited
+    -- a row of cells is stored if and only if its state was visited
     pub known-row : (u : State) (after : List Cell) → AreCellsOf parts groups u after
         → list_any (bytes_eq (cells_row after)) rows ≡ list_any (bytes_eq (state_key u)) (map (state_bytes parts groups) rows)
     known-row u after there =
         ap (λ (r : Bytes). list_any (bytes_eq r) rows) (row-of_cells u after there) ∙ any-row parts groups u rows fine.rows_are
-        ∙ ap (λ (k : Bytes). list_any (bytes_eq k) (map (state_bytes parts groups) rows)) (state-joined u)
+        ∙ ap (λ (k : Bytes). list_any (bytes_eq k) (map (state_bytes parts groups) rows)) (state-concatenated_groups u)
 
     -- and it has the number of that state
     pub number-row : (u : State) (after : List Cell) → AreCellsOf parts groups u after
         → position (bytes_eq (cells_row after)) rows ≡ position (bytes_eq (state_key u)) (map (state_bytes parts groups) rows)
     number-row u after there =
         ap (λ (r : Bytes). position (bytes_eq r) rows) (row-of_cells u after there) ∙ position-row parts groups u rows fine.rows_are
-        ∙ ap (λ (k : Bytes). position (bytes_eq k) (map (state_bytes parts groups) rows)) (state-joined u)
+        ∙ ap (λ (k : Bytes). position (bytes_eq k) (map (state_bytes parts groups) rows)) (state-concatenated_groups u)
 
 -- ---- byte strings that are not in a table
 
@@ -137,52 +137,52 @@ live-cell : (number : List Bytes → ℕ) (n m : ℕ) (g : List Bytes) (pid : �
 live-cell number n m g pid o is out = λ i. record { number = is i; owner = pid; outside = out i }
 
 module _ (parts groups : List Bytes) where
-  pub plain-cells : (n : ℕ) (g : List Bytes) → n ≡ number_of parts groups g → IsGroupVisited parts groups g → AreCellsIn parts groups (plain g ∷ []) (record { number = n; owner = 0; outside = n } ∷ [])
-  plain-cells n g is visited = record { are = ap (λ (c : Cell). c ∷ []) (plain-cell (number_of parts groups) n g is); cached = ((visited, visited), tt) }
+  pub plain-cells : (n : ℕ) (g : List Bytes) → n ≡ group_number parts groups g → IsGroupVisited parts groups g → AreCellsIn parts groups (plain g ∷ []) (record { number = n; owner = 0; outside = n } ∷ [])
+  plain-cells n g is visited = record { are = ap (λ (c : Cell). c ∷ []) (plain-cell (group_number parts groups) n g is); cached = ((visited, visited), tt) }
 
-  pub live-cells : (n m : ℕ) (g : List Bytes) (pid : ℕ) (o : List Bytes) → n ≡ number_of parts groups g → m ≡ number_of parts groups o → IsGroupVisited parts groups g → IsGroupVisited parts groups o
+  pub live-cells : (n m : ℕ) (g : List Bytes) (pid : ℕ) (o : List Bytes) → n ≡ group_number parts groups g → m ≡ group_number parts groups o → IsGroupVisited parts groups g → IsGroupVisited parts groups o
       → AreCellsIn parts groups (record { group = g; owner = pid; outside = o } ∷ []) (record { number = n; owner = pid; outside = m } ∷ [])
-  live-cells n m g pid o is out visited visited_out = record { are = ap (λ (c : Cell). c ∷ []) (live-cell (number_of parts groups) n m g pid o is out); cached = ((visited, visited_out), tt) }
+  live-cells n m g pid o is out visited visited_out = record { are = ap (λ (c : Cell). c ∷ []) (live-cell (group_number parts groups) n m g pid o is out); cached = ((visited, visited_out), tt) }
 
 -- cells of groups that are those of a state
-pub cells-of_groups : (parts groups : List Bytes) (s : State) (cs : List Encoded) (cells : List Cell) → AreCellsIn parts groups cs cells → cs ≡ encoded s → AreCellsOf parts groups s cells
-cells-of_groups parts groups s cs cells it is = record { are = it.are ∙ ap (map (cell_of (number_of parts groups))) is; cached = subst (AreCachedBoth parts groups) is it.cached }
+pub cells-of_groups : (parts groups : List Bytes) (s : State) (cs : List OwnedGroup) (cells : List Cell) → AreCellsIn parts groups cs cells → cs ≡ encoded s → AreCellsOf parts groups s cells
+cells-of_groups parts groups s cs cells it is = record { are = it.are ∙ ap (map (cell_of (group_number parts groups))) is; cached = subst (AreCachedBoth parts groups) is it.cached }
 
 -- ---- when more is stored
 
 module _ (parts groups parts_now groups_now : List Bytes) (parts_grew : Grew parts parts_now) (groups_grew : Grew groups groups_now) where
-  pub keeps-more : KeepsMore (number_of parts groups) (IsGroupVisited parts groups) (number_of parts_now groups_now) (IsGroupVisited parts_now groups_now)
+  pub keeps-more : KeepsMore (group_number parts groups) (IsGroupVisited parts groups) (group_number parts_now groups_now) (IsGroupVisited parts_now groups_now)
   keeps-more = record {
     same = λ g visited.
-        let all : number_of parts_now groups_now g ∷ [] ≡ number_of parts groups g ∷ [] = numbers-grew parts groups parts_now groups_now parts_grew groups_grew (g ∷ []) (visited, tt) in
+        let all : group_number parts_now groups_now g ∷ [] ≡ group_number parts groups g ∷ [] = numbers-grew parts groups parts_now groups_now parts_grew groups_grew (g ∷ []) (visited, tt) in
         cc;
     cached = λ g visited. (visited-grew parts groups parts_now groups_now parts_grew groups_grew (g ∷ []) (visited, tt)).0;
   }
 
-  pub both-grew : (cs : List Encoded) → AreCachedBoth parts groups cs → AreCachedBoth parts_now groups_now cs
-  both-grew cs visited = cached-more (number_of parts groups) (IsGroupVisited parts groups) (number_of parts_now groups_now) (IsGroupVisited parts_now groups_now) keeps-more cs visited
+  pub both-grew : (cs : List OwnedGroup) → AreCachedBoth parts groups cs → AreCachedBoth parts_now groups_now cs
+  both-grew cs visited = cached-more (group_number parts groups) (IsGroupVisited parts groups) (group_number parts_now groups_now) (IsGroupVisited parts_now groups_now) keeps-more cs visited
 
-  pub cells-in_grew : (cs : List Encoded) (cells : List Cell) → AreCellsIn parts groups cs cells → AreCellsIn parts_now groups_now cs cells
+  pub cells-in_grew : (cs : List OwnedGroup) (cells : List Cell) → AreCellsIn parts groups cs cells → AreCellsIn parts_now groups_now cs cells
   cells-in_grew cs cells it = record {
-    are = it.are ∙ sym (cells-same (number_of parts groups) (IsGroupVisited parts groups) (number_of parts_now groups_now) (IsGroupVisited parts_now groups_now) keeps-more cs it.cached);
+    are = it.are ∙ sym (cells-same (group_number parts groups) (IsGroupVisited parts groups) (group_number parts_now groups_now) (IsGroupVisited parts_now groups_now) keeps-more cs it.cached);
     cached = both-grew cs it.cached;
   }
 
   -- one more cell
-  pub cells-next : {X : Type 0} (h : X → Encoded) (xs : List X) (i : ℕ) (d : X) (cell : Cell) (old new : List Cell) → i < length xs → AreCellsIn parts groups (take i (map h xs)) old → AreCellsIn parts_now groups_now (h (get_or xs i d) ∷ []) (cell ∷ [])
+  pub cells-next : {X : Type 0} (h : X → OwnedGroup) (xs : List X) (i : ℕ) (d : X) (cell : Cell) (old new : List Cell) → i < length xs → AreCellsIn parts groups (take i (map h xs)) old → AreCellsIn parts_now groups_now (h (get_or xs i d) ∷ []) (cell ∷ [])
       → new ≡ old ++ cell ∷ [] → AreCellsIn parts_now groups_now (take (i + 1) (map h xs)) new
   cells-next h xs i d cell old new within so_far one is =
-      let number = cell_of (number_of parts_now groups_now) in
+      let number = cell_of (group_number parts_now groups_now) in
       let before = cells-in_grew (take i (map h xs)) old so_far in
       record {
         are =
             is ∙ ap₂ (λ (a b : List Cell). a ++ b) before.are one.are ∙ sym (map-append number (take i (map h xs)) (h (get_or xs i d) ∷ []))
-            ∙ ap (map (cell_of (number_of parts_now groups_now))) (sym (taken-more h xs i d within));
-        cached = all-next h xs i d (IsCachedBoth (number_of parts_now groups_now) (IsGroupVisited parts_now groups_now)) within before.cached one.cached.0;
+            ∙ ap (map (cell_of (group_number parts_now groups_now))) (sym (taken-more h xs i d within));
+        cached = all-next h xs i d (IsCachedBoth (group_number parts_now groups_now) (IsGroupVisited parts_now groups_now)) within before.cached one.cached.0;
       }
 
   pub cells-grew : (s : State) (cells : List Cell) → AreCellsOf parts groups s cells → AreCellsOf parts_now groups_now s cells
-  cells-grew s cells there = cells-more (number_of parts groups) (IsGroupVisited parts groups) (number_of parts_now groups_now) (IsGroupVisited parts_now groups_now) keeps-more s cells there
+  cells-grew s cells there = cells-more (group_number parts groups) (IsGroupVisited parts groups) (group_number parts_now groups_now) (IsGroupVisited parts_now groups_now) keeps-more s cells there
 
   cells-at-grew : (row : Bytes) (cells : List Cell) → AreCellsAt parts groups row cells → AreCellsAt parts_now groups_now row cells
   cells-at-grew row cells it = record {
@@ -192,7 +192,7 @@ module _ (parts groups parts_now groups_now : List Bytes) (parts_grew : Grew par
   }
 
   pub steps-grew : (observe : Observer Bytes) (steps : List CachedStep) → AreCachedSteps observe parts groups steps → AreCachedSteps observe parts_now groups_now steps
-  steps-grew observe steps all = steps-more (number_of parts groups) (IsGroupVisited parts groups) (number_of parts_now groups_now) (IsGroupVisited parts_now groups_now) keeps-more observe steps all
+  steps-grew observe steps all = steps-more (group_number parts groups) (IsGroupVisited parts groups) (group_number parts_now groups_now) (IsGroupVisited parts_now groups_now) keeps-more observe steps all
 
   pub fine-grew : {observe : Observer Bytes} (rows : List Bytes) (cells : List (Vec Cell)) (steps : List CachedStep) → IsFine observe parts groups rows cells steps → IsFine observe parts_now groups_now rows cells steps
   fine-grew {observe} rows cells steps fine = record {
@@ -267,7 +267,7 @@ module _ {observe : Observer Bytes} (parts groups rows : List Bytes) (cells : Li
     few = fine.few;
     cells_are = fine.cells_are;
     steps_are =
-        steps-added (number_of parts groups) (IsGroupVisited parts groups) observe (apart parts groups) t pid it.before.items after texts steps new whole
+        steps-added (group_number parts groups) (IsGroupVisited parts groups) observe (apart parts groups) t pid it.before.items after texts steps new whole
         (cells-at parts groups rows cells steps fine number it.before t there it.at it.there) left observed fine.steps_are it.adds;
   }
 
@@ -307,14 +307,14 @@ module _ {observe : Observer Bytes} (parts groups rows : List Bytes) (cells : Li
     found-bytes limit rows_now New it = (
       sym known-is ∙ it.0,
       (let room = it.1 in omega (arith, room, long)),
-      states-added parts groups rows fine.rows_are (state_groups u) u refl visited-of rows_now (it.2 ∙ ap (λ (r : Bytes). rows ++ r ∷ []) row-of) ∙ ap (λ (k : Bytes). map (state_bytes parts groups) rows ++ k ∷ []) (state-joined u),
+      states-added parts groups rows fine.rows_are (state_groups u) u refl visited-of rows_now (it.2 ∙ ap (λ (r : Bytes). rows ++ r ∷ []) row-of) ∙ ap (λ (k : Bytes). map (state_bytes parts groups) rows ++ k ∷ []) (state-concatenated_groups u),
     )
 
 -- ---- after a step
 
 -- the parts of groups were stored, and the state of these groups is visited
 module _ {observe : Observer Bytes} (parts groups rows : List Bytes) (cells : List (Vec Cell)) (steps : List CachedStep) (fine : IsFine observe parts groups rows cells steps) (keys : List Bytes) (keys_are : map (state_bytes parts groups) rows ≡ keys)
-    (parts_now groups_now : List Bytes) (parts_grew : Grew parts parts_now) (groups_grew : Grew groups groups_now) (after : List Encoded) (cs : Vec Cell) (learnt : AreCellsIn parts_now groups_now after cs.items) where
+    (parts_now groups_now : List Bytes) (parts_grew : Grew parts parts_now) (groups_grew : Grew groups groups_now) (after : List OwnedGroup) (cs : Vec Cell) (learnt : AreCellsIn parts_now groups_now after cs.items) where
   keys-now : map (state_bytes parts_now groups_now) rows ≡ keys
   keys-now = states-grew parts groups parts_now groups_now parts_grew groups_grew rows fine.rows_are ∙ keys_are
 
@@ -341,7 +341,7 @@ module _ {observe : Observer Bytes} (parts groups rows : List Bytes) (cells : Li
       subst (λ (all : List Bytes). IsFoundIn limit all (map (state_bytes parts_now groups_now) rows_now) (state_key after) found) keys-after
       (found-bytes parts_now groups_now rows cells steps fine-now after cs learnt limit rows_now found it)
 
-  module _ (number pid : ℕ) (texts : List Bytes) (inside : Bool) (made : IsMade observe keys number pid texts inside after) (steps_now : List CachedStep) (may : MayKeep cells number pid cs.items texts steps steps_now) where
+  module _ (number pid : ℕ) (texts : List Bytes) (inside : Bool) (made : IsObservedStep observe keys number pid texts inside after) (steps_now : List CachedStep) (may : MayKeep cells number pid cs.items texts steps steps_now) where
     left-are : AreCellsOf parts_now groups_now (stepped made.state pid).after cs.items
     left-are = subst (λ (s : State). AreCellsOf parts_now groups_now s cs.items) made.after_is learnt
 
@@ -361,7 +361,7 @@ some-there (x ∷ xs) some = refl
 
 -- some process is live if a cell has an owner
 pub some-live : (parts groups : List Bytes) (u : State) (cells : List Cell) → AreCellsOf parts groups u cells → IsValid u → owners cells ≢ [] → has_ended u ≡ false
-some-live parts groups u cells are whole some = sym (ended-numbers u (owners cells) (ap owners are.are ∙ owners-are (number_of parts groups) u whole)) ∙ some-there (owners cells) some
+some-live parts groups u cells are whole some = sym (ended-numbers u (owners cells) (ap owners are.are ∙ owners-are (group_number parts groups) u whole)) ∙ some-there (owners cells) some
 
 pub either : {T E : Type 0} {P Q R : Type 0} (r : Result T E) → OnOk r P → OnErr r Q → (P → R) → (Q → R) → R
 either (Ok x) ok err f g = f ok

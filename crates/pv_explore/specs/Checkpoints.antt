@@ -3,7 +3,7 @@ use Rattle.std.specs.Prelude.{◌≡◌, ◌⊎◌, ℕ, zero, suc, ◌*◌, ◌
 use Rattle.pv_explore.specs.Plan.{state_at}
 use Rattle.pv_model.specs.Machine.{program_of, State}
 
--- the states after `stride` steps of a schedule, after twice as many, and so on
+-- the states after `stride` steps of a schedule, after 2 * `stride` steps, and so on
 abbrev pub states_along : State → List ℕ → ℕ → ℕ → List State
 states_along s pids stride zero = []
 states_along s pids stride (suc n) = states_along s pids stride n ++ state_at program_of s (take (suc n * stride) pids) ∷ []
@@ -17,13 +17,13 @@ pub record AreAlong (s : State) (pids : List ℕ) (stride : ℕ) (machines : Lis
 abbrev pub last_or : State → List State → State
 last_or s machines = get_or (s ∷ machines) (length machines) s
 
--- all machines are removed, or all that are not within the first `shared` steps
+-- all machines are removed, or all those after the first `shared` steps
 pub record AreRetained (stride now shared : ℕ) (machines retained : List State) : Type 0 where
   pub are : (retained ≡ []) ⊎ ((now ≡ stride) × (retained ≡ take (shared / stride) machines))
   pub within : length retained * now ≤ shared
 
 -- a machine is in the state of the last checkpoint, and the rest of the schedule is left
-pub record IsAt (s : State) (pids : List ℕ) (stride : ℕ) (machines : List State) (rest : List ℕ) (machine : State) : Type 0 where
+pub record IsAtCheckpoint (s : State) (pids : List ℕ) (stride : ℕ) (machines : List State) (rest : List ℕ) (machine : State) : Type 0 where
   pub along : AreAlong s pids stride machines
   pub within : length machines * stride ≤ length pids
   pub rest_is : rest ≡ drop (length machines * stride) pids

@@ -14,8 +14,8 @@ first_on (Ok t) = state_or t (booted t)
 first_on (Err fault) = first_state (record { nodes = []; blocks = 0; inodes = 0; version = V1 }) []
 
 -- the first state on an image; the program is empty if there is none
-unfoldable pub first_of : Bytes → State
-first_of image = first_on (mounted image)
+unfoldable pub first_state_of : Bytes → State
+first_state_of image = first_on (mounted image)
 
 -- the last process number given is `last`, or the next number was given to a live process
 abbrev pub GaveNumber : State → ℕ → Type 0

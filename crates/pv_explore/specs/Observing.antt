@@ -4,14 +4,14 @@ use Rattle.std.specs.Prelude.{◌≡◌, ℕ, Bool, false, not, ◌==◌, if◌t
 use Rattle.std.proofs.Common.{sym, ap, refl}
 use Rattle.pv_model.specs.Machine.{endings, is_complete, states_found, answer_line_bytes, Observation, Observer, first_observations, observations, Bytes, program_of, next, Process, State, trace_bytes}
 use Rattle.pv_model.specs.Answers.Explore.{by_line}
-use Rattle.pv_step_cache.specs.OfLawsSteps.Commuting.{is_inward}
-use Rattle.pv_laws_steps.proofs.SeenSteps.{steps-by_seen}
+use Rattle.pv_step_cache.specs.OfLawsSteps.Commuting.{changes_own_inside}
+use Rattle.pv_laws_steps.proofs.DependentSteps.{steps-by_seen}
 use Rattle.pv_step_cache.specs.Cached.{DependsOnSeen}
 
 -- whether the next step of a process changes at most the inside of that process, unless it kills the process
 abbrev pub stays_inside : Option Process → Bool
 stays_inside None = false
-stays_inside (Some p) = is_inward (next p)
+stays_inside (Some p) = changes_own_inside (next p)
 
 -- a text is written unless it is empty or a note, which begins with byte 0
 abbrev pub is_shown : Bytes → Bool
@@ -30,7 +30,7 @@ module _ (observe : Observer Bytes) (limit : ℕ) (s : State) where
   abbrev pub recorded_texts : List Bytes
   recorded_texts = map (λ o. o.item) first_texts
 
-  -- what a search writes
+  -- the output of a search
   unfoldable pub observed_bytes : Bytes
   observed_bytes = flat_map observation_bytes first_texts
 

@@ -97,8 +97,8 @@ module _ (observe : Observer Bytes) (limit : ℕ) (program_of : Bytes → Option
   texts_at witness pid = observe (state_at program_of s witness) pid (move_at program_of s witness pid).stepped
 
   -- the bytes that the step writes, and the data after it
-  abbrev pub bytes_at : List ℕ → ℕ → Visited → Bytes
-  bytes_at witness pid visited = reported_bytes visited.reported pid (witness ++ pid ∷ []) (texts_at witness pid)
+  abbrev pub step_bytes_at : List ℕ → ℕ → Visited → Bytes
+  step_bytes_at witness pid visited = reported_bytes visited.reported pid (witness ++ pid ∷ []) (texts_at witness pid)
 
   abbrev pub visited_at : List ℕ → ℕ → Visited → Visited
   visited_at witness pid visited = visited_after limit visited (move_at program_of s witness pid) (texts_at witness pid)
@@ -106,7 +106,7 @@ module _ (observe : Observer Bytes) (limit : ℕ) (program_of : Bytes → Option
   -- the steps of processes in that state, in sequence: the bytes that they write, and the data after them
   abbrev pub reported_steps : List ℕ → List ℕ → Visited → Bytes
   reported_steps witness [] visited = []
-  reported_steps witness (pid ∷ pids) visited = bytes_at witness pid visited ++ reported_steps witness pids (visited_at witness pid visited)
+  reported_steps witness (pid ∷ pids) visited = step_bytes_at witness pid visited ++ reported_steps witness pids (visited_at witness pid visited)
 
   abbrev pub visited_after_steps : List ℕ → List ℕ → Visited → Visited
   visited_after_steps witness [] visited = visited

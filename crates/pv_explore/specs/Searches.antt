@@ -3,7 +3,7 @@ use Rattle.std.specs.Prelude.{◌≡◌, ℕ, false, List, [], ◌∷◌, ◌++�
 use Rattle.pv_explore.specs.declared.search.Search.{Search}
 use Rattle.pv_explore.specs.declared.states.Visit.{Visit}
 use Rattle.pv_explore.specs.declared.states.Visit.TheVariants.{Known, Full, New}
-use Rattle.pv_explore.specs.Plan.{Visited, bytes_at, endings_after, first_visited, live_at, reported_bytes, reported_from, reported_steps, state_at, state_key, visited_after, visited_after_steps, visited_at, visited_from}
+use Rattle.pv_explore.specs.Plan.{Visited, step_bytes_at, endings_after, first_visited, live_at, reported_bytes, reported_from, reported_steps, state_at, state_key, visited_after, visited_after_steps, visited_at, visited_from}
 use Rattle.pv_explore.specs.VisitedStates.{HasNumber}
 use Rattle.pv_explore.specs.Witnesses.{longer}
 use Rattle.pv_model.specs.Machine.{Move, Observer, Bytes, program_of, State}
@@ -40,15 +40,15 @@ with_witness New witness visited = record visited { witnesses = visited.witnesse
 
 module _ {O : Type 0} where
   -- the state at the end of the witness of state `number`
-  abbrev pub state_of : State → Search O → ℕ → State
-  state_of s search number = state_at program_of s (witness_at (visited_of search) number)
+  abbrev pub state_of_number : State → Search O → ℕ → State
+  state_of_number s search number = state_at program_of s (witness_at (visited_of search) number)
 
   abbrev pub live_of : State → Search O → ℕ → List ℕ
   live_of s search number = live_at program_of s (witness_at (visited_of search) number)
 
   -- the search knows this state by its number
   abbrev pub IsAt : State → Search O → ℕ → Type 0
-  IsAt s search number = HasNumber search.states number (state_of s search number)
+  IsAt s search number = HasNumber search.states number (state_of_number s search number)
 
   module _ (observe : Observer Bytes) where
     -- the bytes that a step of a process from state `number` writes; a machine is in that state
@@ -66,7 +66,7 @@ module _ {O : Type 0} where
         HasMoved number pid old new = visited_of new ≡ visited_at observe limit program_of s (witness_at (visited_of old) number) pid (visited_of old)
 
         abbrev pub text_of_move : ℕ → ℕ → Search O → Bytes
-        text_of_move number pid search = bytes_at observe limit program_of s (witness_at (visited_of search) number) pid (visited_of search)
+        text_of_move number pid search = step_bytes_at observe limit program_of s (witness_at (visited_of search) number) pid (visited_of search)
 
         -- the search made a step of each live process from state `number`, and the bytes that these steps write
         abbrev pub HasMovedAll : ℕ → Search O → Search O → Type 0

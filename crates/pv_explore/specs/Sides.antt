@@ -12,10 +12,10 @@ pub record SideStates : Type 0 where
   pub keys : List Bytes
 
 -- the number of a visited state, given the number of states before the visit
-abbrev pub number_of : Visit → ℕ → Option ℕ
-number_of (Known number) before = Some number
-number_of Full before = None
-number_of New before = Some before
+abbrev pub visit_number : Visit → ℕ → Option ℕ
+visit_number (Known number) before = Some number
+visit_number Full before = None
+visit_number New before = Some before
 
 -- a state that is new was added, and there were fewer than `limit` states
 abbrev pub IsAddedTo : ℕ → List Bytes → List Bytes → Bytes → Type 0

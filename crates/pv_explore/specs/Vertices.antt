@@ -13,14 +13,14 @@ listed_bytes lines = answer_bytes (map (answer_line 0 (codes "LS")) lines)
 
 module _ (keys : List Bytes) where
   -- a step in a state: the number of the state after it, and its explained lines
-  abbrev pub step_of : State → ℕ → List AnswerLine
-  step_of t pid =
+  abbrev pub vertex_step : State → ℕ → List AnswerLine
+  vertex_step t pid =
       answer_line pid (codes "STEP") (leads_to_text (position (bytes_eq (state_key (stepped t pid).after)) keys)) ∷ explained_step program_of unreported t pid
 
   module _ (s : State) where
     -- the steps at the end of a witness
     abbrev pub steps_at : List ℕ → List ℕ → List AnswerLine
-    steps_at witness pids = flat_map (step_of (state_at program_of s witness)) pids
+    steps_at witness pids = flat_map (vertex_step (state_at program_of s witness)) pids
 
     abbrev pub all_steps_at : List ℕ → List AnswerLine
     all_steps_at witness = steps_at witness (live_at program_of s witness)

@@ -17,24 +17,24 @@ use Rattle.pv_laws_states.specs.States.{IsValid}
 use Rattle.pv_model.specs.Machine.{has_ended, Observer, Bytes, live_processes, State, process_at}
 use Rattle.pv_step_lines.specs.OfSession.Running.{stepped}
 use Rattle.pv_step_cache.specs.OfStateEncoding.Groups.{state_groups}
-use Rattle.pv_step_cache.specs.OfStateEncoding.Encoded.{Encoded, encoded}
+use Rattle.pv_step_cache.specs.OfStateEncoding.Encoded.{OwnedGroup, encoded}
 use Rattle.pv_step_cache.specs.OfStateEncoding.Packed.{packed_all}
 
 -- ---- in tables
 
 module _ (parts groups : List Bytes) where
-  abbrev pub number_of : List Bytes → ℕ
-  number_of g = number_in groups (group_row parts g)
+  abbrev pub group_number : List Bytes → ℕ
+  group_number g = number_in groups (group_row parts g)
 
-  abbrev pub AreCachedBoth : List Encoded → Type 0
-  AreCachedBoth cs = AllByRecursion (IsCachedBoth number_of (IsGroupVisited parts groups)) cs
+  abbrev pub AreCachedBoth : List OwnedGroup → Type 0
+  AreCachedBoth cs = AllByRecursion (IsCachedBoth group_number (IsGroupVisited parts groups)) cs
 
   abbrev pub AreCellsOf : State → List Cell → Type 0
-  AreCellsOf s cells = AreCells number_of (IsGroupVisited parts groups) s cells
+  AreCellsOf s cells = AreCells group_number (IsGroupVisited parts groups) s cells
 
   -- the cells are those of groups that are stored
-  pub record AreCellsIn (cs : List Encoded) (cells : List Cell) : Type 0 where
-    pub are : cells ≡ map (cell_of number_of) cs
+  pub record AreCellsIn (cs : List OwnedGroup) (cells : List Cell) : Type 0 where
+    pub are : cells ≡ map (cell_of group_number) cs
     pub cached : AreCachedBoth cs
 
   -- the cells are those of the state of a row
@@ -45,7 +45,7 @@ module _ (parts groups : List Bytes) where
 
 module _ (observe : Observer Bytes) (parts groups : List Bytes) where
   abbrev pub IsCachedStepOf : CachedStep → Type 0
-  IsCachedStepOf k = IsStep (number_of parts groups) (IsGroupVisited parts groups) observe k.key.items (texts_of k) k.edits.items
+  IsCachedStepOf k = IsStep (group_number parts groups) (IsGroupVisited parts groups) observe k.key.items (texts_of k) k.edits.items
 
   abbrev pub AreCachedSteps : List CachedStep → Type 0
   AreCachedSteps steps = AllByRecursion IsCachedStepOf steps
@@ -101,7 +101,7 @@ MayKeep cells number pid after texts old new = (new ≡ old) ⊎ IsCachedBy cell
 -- ---- by the encodings of states
 
 -- the groups are those of a state
-abbrev pub AreEncoded : List Encoded → Type 0
+abbrev pub AreEncoded : List OwnedGroup → Type 0
 AreEncoded cs = (s : State) × (cs ≡ encoded s)
 
 -- the state has this number
@@ -119,7 +119,7 @@ IsFoundIn limit old new key Full = (list_any (bytes_eq key) old ≡ false) × (l
 IsFoundIn limit old new key New = (list_any (bytes_eq key) old ≡ false) × (length old < limit) × (new ≡ old ++ key ∷ [])
 
 -- a state with these groups was visited
-abbrev pub IsFoundBy : ℕ → List Bytes → List Bytes → List Encoded → Visit → Type 0
+abbrev pub IsFoundBy : ℕ → List Bytes → List Bytes → List OwnedGroup → Visit → Type 0
 IsFoundBy limit old new cs found = (t : State) → cs ≡ encoded t → IsFoundIn limit old new (state_key t) found
 
 -- a step was taken from the cache: its texts, and the visit of the state after it, in which some process is live
@@ -130,7 +130,7 @@ pub record IsFollowed (observe : Observer Bytes) (limit : ℕ) (old new : List B
 
 -- a process made a step in state `number`, with these texts and this state after it; `inside` is whether the step
 -- changes at most the inside of its process, unless it kills the process
-pub record IsMade (observe : Observer Bytes) (keys : List Bytes) (number pid : ℕ) (texts : List Bytes) (inside : Bool) (after : State) : Type 0 where
+pub record IsObservedStep (observe : Observer Bytes) (keys : List Bytes) (number pid : ℕ) (texts : List Bytes) (inside : Bool) (after : State) : Type 0 where
   pub state : State
   pub whole : IsValid state
   pub number_is : HasNumber keys number state

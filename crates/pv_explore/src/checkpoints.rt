@@ -31,7 +31,7 @@ pub struct Checkpoints<'a> {
     schedule: Vec<u32>,
     // The number of steps from a checkpoint to the next.
     stride: usize,
-    // The machines after `stride` steps of the schedule, after twice as many, and so on.
+    // The machines after `stride` steps of the schedule, after 2 * `stride` steps, and so on.
     along: Vec<Position>,
     // Machines that are reused.
     free: Vec<Position>,

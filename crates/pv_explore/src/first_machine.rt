@@ -26,13 +26,13 @@ impl Model for FirstMachine {
     ghost use Rattle.std.specs.Prelude.{◌≡◌};
     ghost use Rattle.pv_laws_trees.specs.Mounts.{Boots};
     ghost use Rattle.pv_model.specs.State.{State};
-    ghost use Rattle.pv_explore.specs.FirstMachines.{first_of};
+    ghost use Rattle.pv_explore.specs.FirstMachines.{first_state_of};
 
     ghost Value = { State };
 
     ghost view = { λ b. b.machine };
 
-    ghost invariant = { λ b. Boots b.image.items × (b.machine ≡ first_of b.image.items) };
+    ghost invariant = { λ b. Boots b.image.items × (b.machine ≡ first_state_of b.image.items) };
 }
 
 // Returns the store of the tree in an image.

@@ -5,7 +5,7 @@
 //! `states` stores each as a row of indices into tables of its parts, and `witnesses` stores the schedule that leads to
 //! each. A step whose transition is in the cache is not made. Any other step is made on a copy of a checkpoint.
 //!
-//! `observer` has the trait of what is observed of the steps, and `searched` the search with an observer: each text
+//! `observer` has the trait of the observations of steps, and `searched` the search with an observer: each text
 //! observed is written with a witness. `explore` observes the trace lines of each step, and `graph` writes each state
 //! with its transitions. `visited` gives the visited states one at a time, and `side` the states of one machine for a
 //! search of pairs. `witness` writes a schedule, `numbers` sorts numbers, `unheard` is a sink that discards, and

@@ -5,7 +5,7 @@ ghost use Rattle.pv_step_lines.specs.OfProcs.ProcessTable.{number_after, process
 ghost use Rattle.std.specs.FinMap.Entries.{find};
 ghost use Rattle.std.specs.Ordering.{nat_cmp};
 ghost use Rattle.pv_explore.specs.Plan.{state_at, tree_key};
-ghost use Rattle.pv_explore.specs.Vertices.{step_of};
+ghost use Rattle.pv_explore.specs.Vertices.{vertex_step};
 ghost use Rattle.pv_model.specs.Answers.Graph.{leads_to_text};
 ghost use Rattle.pv_model.specs.Machine.{answer_bytes, answer_line, answer_line_bytes, has_ended, program_of, live_processes, named_tree, call_of, process_at};
 ghost use Rattle.pv_laws_states.specs.States.{IsValid};
@@ -13,7 +13,7 @@ ghost use Rattle.pv_step_lines.specs.OfSession.Running.{FailsBy, stepped};
 ghost use Rattle.pv_step_cache.specs.OfStateEncoding.Groups.{groups_of, state_groups};
 ghost use Rattle.pv_step_cache.specs.OfStateEncoding.Encoded.{counts_group, encoded, encoded_all, encoded_of, numbered_encoded, plain, tree_groups};
 ghost use Rattle.pv_explore.specs.Observing.{stays_inside};
-ghost use Rattle.pv_step_cache.specs.OfLawsSteps.Commuting.{only_asks};
+ghost use Rattle.pv_step_cache.specs.OfLawsSteps.Commuting.{only_queries};
 ghost use Rattle.pv_step_cache.specs.Steps.{texts_in};
 ghost use Rattle.pv_streams.specs.Sinks.{Writes, WritesOr};
 ghost use Rattle.pv_image.specs.OfTree.Sizes.{HaveSameSizes};
@@ -69,7 +69,7 @@ pub struct ObservedStep {
 
 // Returns whether a call changes at most the registers, the buffer and the promises of its process.
 fn only_asks(call: CallRef<'_>) -> bool
-    ensures { result ≡ only_asks (call_of call.entry) }
+    ensures { result ≡ only_queries (call_of call.entry) }
 {
     match call {
         CallRef::GetPid
@@ -396,7 +396,7 @@ impl Position {
         line_buffer: &mut LineBuffer,
         out: &mut W,
     ) -> Result<(), Stop>
-        ensures { WritesOr W.Sink FailsBy (answer_bytes (step_of states.now self.old pid)) out.old out.new result }
+        ensures { WritesOr W.Sink FailsBy (answer_bytes (vertex_step states.now self.old pid)) out.old out.new result }
     {
         let _ = self.session.parts();
         let mut texts = CallTexts::new();

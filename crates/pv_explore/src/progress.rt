@@ -6,7 +6,7 @@ pub trait Progress {
     /// Shows that `found` states were visited, and that the steps of `left` of them are still to be made.
     fn show(&mut self, found: usize, left: usize);
 
-    /// Ends the report of a search, and erases what was shown.
+    /// Ends the report of a search, and erases the shown text.
     fn end(&mut self);
 }
 

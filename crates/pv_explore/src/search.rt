@@ -3,8 +3,8 @@ ghost use Rattle.std.specs.Prelude.{◌≡◌, ◌<◌, ◌++◌, ◌∷◌, [],
 ghost use Rattle.std.specs.List.{list_any};
 ghost use Rattle.pv_explore.specs.Observing.{is_shown};
 ghost use Rattle.pv_explore.specs.Plan.{added_to, endings_after, first_visited, move_bytes, new_bytes, reported_after, reported_bytes, reported_from, shown_bytes, state_key, visited_from, with_found_at};
-ghost use Rattle.pv_explore.specs.VisitedStates.{HasNumber, IsMade};
-ghost use Rattle.pv_explore.specs.Searches.{AreAt, endings_found, HasMoved, HasMovedAll, HasMovedFrom, IsAt, live_of, state_of, text_from, text_of_move, text_of_moves, visited_of, with_witness};
+ghost use Rattle.pv_explore.specs.VisitedStates.{HasNumber, IsObservedStep};
+ghost use Rattle.pv_explore.specs.Searches.{AreAt, endings_found, HasMoved, HasMovedAll, HasMovedFrom, IsAt, live_of, state_of_number, text_from, text_of_move, text_of_moves, visited_of, with_witness};
 ghost use Rattle.pv_explore.specs.Witnesses.{longer, witness_of};
 ghost use Rattle.pv_laws_states.specs.States.{IsValid};
 ghost use Rattle.pv_model.specs.Machine.{program_of};
@@ -320,7 +320,7 @@ impl<O: Observer + Drop> Search<O> {
         inside: bool,
         position: &Position,
     ) -> Result<(), StepFault>
-        requires made { IsMade O.observe self.old.states number pid (texts_in texts.items) inside position.now }
+        requires made { IsObservedStep O.observe self.old.states number pid (texts_in texts.items) inside position.now }
         requires found { number < length (visited_of self.old).witnesses }
         ensures { OnOk result (visited_of self.new ≡ with_found_at limit (visited_of self.old) (longer (visited_of self.old).witnesses number pid) position.now) }
     {
@@ -381,7 +381,7 @@ impl<O: Observer + Drop> Search<O> {
     ) -> Result<Position, StepFault>
         requires { number < length (visited_of self.now).witnesses }
         ensures unchanged { checkpoints.new ≡ checkpoints.old }
-        ensures at { IfOk result (λ position. position ≡ state_of checkpoints.old self.now number) }
+        ensures at { IfOk result (λ position. position ≡ state_of_number checkpoints.old self.now number) }
     {
         let witness = self.witnesses.at(alloc, number)?;
         checkpoints.position(alloc, &witness)

@@ -1,8 +1,8 @@
 //! One side of a search of pairs: a machine and its visited states.
 ghost use Rattle.std.specs.Prelude.{◌≡◌, ◌∷◌, [], IfOk, OnOk, length};
 ghost use Rattle.pv_explore.specs.Plan.{live_at, state_at, state_key};
-ghost use Rattle.pv_explore.specs.Sides.{IsNumbered, number_of};
-ghost use Rattle.pv_explore.specs.VisitedStates.{HasNumber, IsMade};
+ghost use Rattle.pv_explore.specs.Sides.{IsNumbered, visit_number};
+ghost use Rattle.pv_explore.specs.VisitedStates.{HasNumber, IsObservedStep};
 ghost use Rattle.pv_laws_states.specs.States.{IsValid};
 ghost use Rattle.pv_model.specs.Machine.{program_of};
 ghost use Rattle.pv_step_lines.specs.OfSession.Running.{stepped};
@@ -50,7 +50,7 @@ pub struct SideStep {
 
 // Returns the number of a visited state, given the number of states before the visit.
 fn number_of(found: Visit, before: usize) -> Option<usize>
-    ensures { result ≡ number_of found before }
+    ensures { result ≡ visit_number found before }
 {
     match found {
         Visit::Known(number) => Some(number),

@@ -2,13 +2,13 @@
 ghost use Rattle.std.specs.Prelude.{◌≡◌, ◌++◌, ◌∷◌, [], length, position, bytes_eq, IfOk, IfSome, OnErr, OnOk};
 ghost use Rattle.std.specs.List.{AllByRecursion};
 ghost use Rattle.pv_explore.specs.Rows.{AreOfState, Grew, IsAmong, IsGroupVisited, group_row, number_in, parts_in, state_row};
-ghost use Rattle.pv_explore.specs.VisitedStates.{AreCellsIn, AreReleased, AreLiveAt, ArePlaced, ArePushed, AreStoredAt, AreEncoded, IsFoundBy, IsFoundIn, IsMade, IsRecalled, IsValidAt, MayFollow, MayKeep, cells_row, number_of};
+ghost use Rattle.pv_explore.specs.VisitedStates.{AreCellsIn, AreReleased, AreLiveAt, ArePlaced, ArePushed, AreStoredAt, AreEncoded, IsFoundBy, IsFoundIn, IsObservedStep, IsRecalled, IsValidAt, MayFollow, MayKeep, cells_row, group_number};
 ghost use Rattle.pv_explore.specs.Observing.{stays_inside};
 ghost use Rattle.pv_explore.specs.Plan.{state_key};
 ghost use Rattle.pv_model.specs.Machine.{process_at};
 ghost use Rattle.pv_step_lines.specs.OfSession.Running.{stepped};
 ghost use Rattle.pv_step_cache.specs.Steps.{texts_in};
-ghost use Rattle.pv_step_cache.specs.OfStateEncoding.Groups.{groups_of, joined};
+ghost use Rattle.pv_step_cache.specs.OfStateEncoding.Groups.{groups_of, concatenated_groups};
 ghost use Rattle.pv_step_cache.specs.OfStateEncoding.Encoded.{encoded_all, encoded_of};
 
 use crate::after::cells_after;
@@ -146,7 +146,7 @@ fn learn_group(
     ensures parts_grew { Grew parts.old parts.new }
     ensures groups_grew { Grew groups.old groups.new }
     ensures visited { OnOk result (IsGroupVisited parts.new groups.new (parts_in group.now)) }
-    ensures number { IfOk result (λ number. number ≡ number_of parts.new groups.new (parts_in group.now)) }
+    ensures number { IfOk result (λ number. number ≡ group_number parts.new groups.new (parts_in group.now)) }
 {
     let row = learn_row(alloc, parts, group)?;
     groups.number(alloc, &row)
@@ -371,7 +371,7 @@ impl<O: Observer + Drop> States<O> {
         encoded: &[Vec<Vec<u8>>],
     ) -> Result<Option<usize>, StepFault>
         requires { AreOfState (groups_of encoded.now) }
-        ensures { IfOk result (λ number. number ≡ position (bytes_eq (joined (groups_of encoded.now))) self.now) }
+        ensures { IfOk result (λ number. number ≡ position (bytes_eq (concatenated_groups (groups_of encoded.now))) self.now) }
     {
         let row = row_of_state(alloc, &self.parts, &self.groups, encoded)?;
         Ok(self.rows.find(&row))
@@ -432,7 +432,7 @@ impl<O: Observer + Drop> States<O> {
         inside: bool,
         position: &Position,
     ) -> Result<Visit, StepFault>
-        requires { IsMade O.observe self.old number pid (texts_in texts.items) inside position.now }
+        requires { IsObservedStep O.observe self.old number pid (texts_in texts.items) inside position.now }
         ensures { IfOk result (IsFoundIn limit self.old self.new (state_key position.now)) }
     {
         let before = cells_at(&self.cells, number);

@@ -1,7 +1,7 @@
 -- The reasons that the code finds for a process that is not fixed to a file are those of the definition.
 use Rattle.std.specs.Prelude.{IsTrue, ◌↔◌}
 use Rattle.std.proofs.Common.{◌≡◌, ◌∙◌, sym, ap, ℕ, Bool, true, false, not, ◌&&◌, ◌||◌, if◌then◌else◌, ◌==◌, List, [], ◌∷◌, ◌++◌, map, filter, Option, None, Some, refl, append_assoc, append-nil}
-use Rattle.pv_audit.proofs.LeastOnes.{least-fold}
+use Rattle.pv_audit.proofs.LeastNumbers.{least-fold}
 use Rattle.pv_audit.specs.Findings.{least}
 use Rattle.pv_audit.specs.Reasons.{descriptors_for, is_on, present_reasons}
 use Rattle.pv_model.specs.declared.open_flags.Mode.{Mode}
@@ -172,7 +172,7 @@ at-above [] true = refl
 at-above [] false = refl
 at-above (k ∷ ks) b = sym (least-fold k ks)
 
--- a process that can link or move something is not pledged without what opens a file
+-- a process that can link or move something is not pledged without the promises that open a file
 not-without : (o : Option Promises) → Sealed.has_none_of (Cpath ∷ ExecPromise ∷ []) o ≡ false → Sealed.has_none_of (Rpath ∷ ExecPromise ∷ Cpath ∷ []) o ≡ false
 not-without None is = refl
 not-without (Some held) is = by (not (contains held Rpath)) (not (contains held ExecPromise)) (not (contains held Cpath)) is

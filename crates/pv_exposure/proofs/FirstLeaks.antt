@@ -1,4 +1,4 @@
--- The first process that is not closed to a file, process by process, and what it says of each process.
+-- The first process that is not closed to a file, process by process, and its consequence for each process.
 use Rattle.std.proofs.Common.{◌≡◌, ◌∙◌, sym, ap, ℕ, true, List, [], ◌∷◌, Option, None, Some, inl, inr, refl}
 use Rattle.std.specs.Prelude.{option_and_then}
 use Rattle.std.specs.FinMap.Entries.{is_sorted}
@@ -42,7 +42,7 @@ module _ (s : State) (f : ℕ) where
   leak-next pid (live p) rs = either pid (leaks s p f) (first_among rs)
   leak-next pid (ended_record parent status) rs = refl
 
-  -- ---- what the first one says of each process
+  -- ---- the consequence of the first one for each process
 
   none-all : (ps : List Living) (pid : ℕ) (p : Process) → first_leak s f ps ≡ None → Among (pid, p) ps → first_of (leaks s p f) ≡ None
   none-all [] pid p none within = absurd within

@@ -1,18 +1,18 @@
--- Lemmas about exposure: Firsts (elements with new keys), Records (the records of programs are their groups), RecordedFindings (the
--- lines of findings of which only the first of each line and file text is stored), Written (the lines of a search), Adding
--- (one more file, process and state).
-pub mod Firsts
-pub mod Records
+-- Lemmas about exposure: FirstKeys (elements with new keys), ProgramRecords (the records of programs are their groups),
+-- RecordedFindings (the lines of findings of which only the first of each line and file text is stored), SearchText
+-- (the lines of a search), FindingAddition (one more file, process and state).
+pub mod FirstKeys
+pub mod ProgramRecords
 pub mod RecordedFindings
-pub mod Written
-pub mod Adding
-pub mod Runs
-pub mod Texts
-pub mod Listing
-pub mod Visits
+pub mod SearchText
+pub mod FindingAddition
+pub mod RangeTexts
+pub mod ListTexts
+pub mod UnnamedFiles
+pub mod VisitRecords
 pub mod EditReasons
-pub mod GivingNames
+pub mod EditingEntries
 pub mod FirstLeaks
-pub mod DescribedFiles
-pub mod ReadFiles
+pub mod FileDescriptions
+pub mod FilesOfReads
 pub mod ProgramFiles

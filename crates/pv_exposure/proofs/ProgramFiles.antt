@@ -1,16 +1,17 @@
 -- The record of a program, file by file.
 use Rattle.std.proofs.Common.{◌≡◌, ◌∙◌, sym, ap, ℕ, Bool, List, [], ◌∷◌, ◌++◌, drop, flat_map, filter, map, refl}
 use Rattle.std.proofs.lemmas.List.Elements.{filter_agree}
-use Rattle.pv_model.specs.Machine.{Located, Tree, files_of_tree}
+use Rattle.pv_model.specs.Machine.{Bytes, Located, Tree}
 use Rattle.pv_model_questions.specs.declared.finding_kind.FindingKind.{FindingKind}
 use Rattle.pv_model_questions.specs.declared.finding_kind.FindingKind.TheVariants.{Leak, Peer, Edit, Read}
 use Rattle.pv_model_questions.specs.Exposure.{is_safe_in}
+use Rattle.pv_model_questions.specs.ExposureAbout.{kept_files_of}
 use Rattle.pv_exposure.specs.Collected.{Exposed, Recorded, exposed_more, recorded_at, with_all}
-use Rattle.pv_exposure.specs.Stored.{recorded_by_file, with_file, with_files}
-use Rattle.pv_exposure.proofs.Adding.{all-files}
-use Rattle.pv_exposure.proofs.Records.{with-both}
+use Rattle.pv_exposure.specs.Stored.{recorded_by_file, exposed_with_file, exposed_with_files}
+use Rattle.pv_exposure.proofs.FindingAddition.{all-files}
+use Rattle.pv_exposure.proofs.ProgramRecords.{with-both}
 
-module _ (first : Tree) (l : Located) where
+module _ (files : List Bytes) (first : Tree) (l : Located) where
   -- each list of the record after files
   abbrev pub with_lists : Exposed → List ℕ → Exposed
   with_lists e fs = record {
@@ -22,10 +23,10 @@ module _ (first : Tree) (l : Located) where
     safe = e.safe;
   }
 
-  files-lists : (e : Exposed) (fs : List ℕ) → with_files first l e fs ≡ with_lists e fs
+  files-lists : (e : Exposed) (fs : List ℕ) → exposed_with_files first l e fs ≡ with_lists e fs
   files-lists e [] = refl
   files-lists e (f ∷ fs) =
-      files-lists (with_file first l e f) fs
+      files-lists (exposed_with_file first l e f) fs
       ∙ sym (λ i. record {
         program = e.program;
         leaks = with-both e.leaks (recorded_by_file first Leak l f) (flat_map (recorded_by_file first Leak l) fs) i;
@@ -35,20 +36,20 @@ module _ (first : Tree) (l : Located) where
         safe = e.safe;
       })
 
-  -- the record after all files of the state, and the files that every process is closed to
+  -- the record after all files of the state, and the files to which every process is closed
   pub files-more : (e : Exposed) (safe : List ℕ) → safe ≡ filter (λ f. is_safe_in f l) e.safe
-      → record (with_files first l e (files_of_tree l.found.state.tree)) { safe = safe } ≡ exposed_more first e l
+      → record (exposed_with_files first l e (kept_files_of files first l.found.state.tree)) { safe = safe } ≡ exposed_more files first e l
   files-more e safe is =
-      ap (λ (x : Exposed). record x { safe = safe }) (files-lists e (files_of_tree l.found.state.tree))
+      ap (λ (x : Exposed). record x { safe = safe }) (files-lists e (kept_files_of files first l.found.state.tree))
       ∙ (λ i. record {
         program = e.program;
-        leaks = with_all e.leaks (sym (all-files first Leak l) i);
-        peers = with_all e.peers (sym (all-files first Peer l) i);
-        edits = with_all e.edits (sym (all-files first Edit l) i);
-        reads = with_all e.reads (sym (all-files first Read l) i);
+        leaks = with_all e.leaks (sym (all-files files first Leak l) i);
+        peers = with_all e.peers (sym (all-files files first Peer l) i);
+        edits = with_all e.edits (sym (all-files files first Edit l) i);
+        reads = with_all e.reads (sym (all-files files first Read l) i);
         safe = is i;
       })
 
   -- the safe files stay those that they were
-  pub files-safe : (e : Exposed) (fs : List ℕ) → (with_files first l e fs).safe ≡ e.safe
+  pub files-safe : (e : Exposed) (fs : List ℕ) → (exposed_with_files first l e fs).safe ≡ e.safe
   files-safe e fs = ap (λ (x : Exposed). x.safe) (files-lists e fs)

@@ -9,16 +9,17 @@ use Rattle.std.proofs.lemmas.List.Elements.{filter-append, filter_agree}
 use Rattle.std.proofs.lemmas.List.Folds.{flat_map-map, list_any-append}
 use Rattle.std.proofs.lemmas.List.Sums.{fold-append}
 use Rattle.std.proofs.lemmas.Simd.{map-map}
-use Rattle.pv_model.specs.Machine.{new_ones, Located, in_ranges, first_of, Numbers, groups, Bytes, among, program_of, Tree}
+use Rattle.pv_model.specs.Machine.{elements_with_new_keys, Located, in_ranges, first_of, Numbers, groups, Bytes, among, program_of, Tree}
 use Rattle.pv_model.specs.Answers.Exposure.{range_text}
-use Rattle.pv_model.specs.Answers.Observed.{with_alike}
+use Rattle.pv_model.specs.Answers.Observed.{with_equal_key}
 use Rattle.pv_model_questions.specs.declared.finding_kind.FindingKind.{FindingKind}
-use Rattle.pv_model_questions.specs.Exposure.{Finding, greatest_line, last_finding, finding_lines, finding_lines_by, findings_at, line_of, lines_found, lines_of_findings}
-use Rattle.pv_laws_trees.proofs.Entries.{bytes_eq-same, bytes_eq-itself}
-use Rattle.pv_laws_trees.proofs.Generic.{flat-same}
-use Rattle.pv_reduced.proofs.OfExplore.Ranges.{among-most}
-use Rattle.pv_exposure.specs.Collected.{Recorded, all_recorded_lines, greatest, has_key, recorded_at, recorded_lines, recorded_lines_by, recorded_of, key_of, last_recorded, ranges_recorded, with_all}
-use Rattle.pv_exposure.proofs.Firsts.{keyed}
+use Rattle.pv_model_questions.specs.Exposure.{Finding, greatest_finding_line, last_finding, finding_lines, finding_lines_by, finding_line, lines_found, lines_of_findings}
+use Rattle.pv_laws_trees.proofs.DirectoryEntries.{bytes_eq-same, bytes_eq-itself}
+use Rattle.pv_laws_trees.proofs.ListTests.{flat-same}
+use Rattle.pv_reduced.proofs.OfExplore.NumberRanges.{among-most}
+use Rattle.pv_model_questions.specs.ExposureAbout.{findings_about}
+use Rattle.pv_exposure.specs.Collected.{Recorded, all_recorded_lines, greatest, has_key, recorded_at, recorded_finding_lines, recorded_lines_by, recorded_of, key_of_recorded, last_recorded, ranges_recorded, with_all}
+use Rattle.pv_exposure.proofs.FirstKeys.{keyed}
 
 -- ---- lists
 
@@ -35,20 +36,20 @@ first-map : {X Y : Type 0} (f : X → Y) (xs : List X) → first_of (map f xs) �
 first-map f [] = refl
 first-map f (x ∷ xs) = refl
 
-new-map : {X Y : Type 0} (f : X → Y) (key : Y → Numbers) (had : List Numbers) (xs : List X) → new_ones key had (map f xs) ≡ map f (new_ones (λ x. key (f x)) had xs)
+new-map : {X Y : Type 0} (f : X → Y) (key : Y → Numbers) (had : List Numbers) (xs : List X) → elements_with_new_keys key had (map f xs) ≡ map f (elements_with_new_keys (λ x. key (f x)) had xs)
 new-map f key had [] = refl
 new-map {Y = Y} f key had (x ∷ xs) = by (list_any (bytes_eq (key (f x))) had) (new-map f key had xs) (new-map f key (key (f x) ∷ had) xs)
   where
-    by : (b : Bool) → new_ones key had (map f xs) ≡ map f (new_ones (λ z. key (f z)) had xs) → new_ones key (key (f x) ∷ had) (map f xs) ≡ map f (new_ones (λ z. key (f z)) (key (f x) ∷ had) xs)
-        → (if b then new_ones key had (map f xs) else f x ∷ new_ones key (key (f x) ∷ had) (map f xs))
-        ≡ map f (if b then new_ones (λ z. key (f z)) had xs else x ∷ new_ones (λ z. key (f z)) (key (f x) ∷ had) xs)
+    by : (b : Bool) → elements_with_new_keys key had (map f xs) ≡ map f (elements_with_new_keys (λ z. key (f z)) had xs) → elements_with_new_keys key (key (f x) ∷ had) (map f xs) ≡ map f (elements_with_new_keys (λ z. key (f z)) (key (f x) ∷ had) xs)
+        → (if b then elements_with_new_keys key had (map f xs) else f x ∷ elements_with_new_keys key (key (f x) ∷ had) (map f xs))
+        ≡ map f (if b then elements_with_new_keys (λ z. key (f z)) had xs else x ∷ elements_with_new_keys (λ z. key (f z)) (key (f x) ∷ had) xs)
     by true was now = was
     by false was now = ap (λ (ys : List Y). f x ∷ ys) now
 
 -- an element whose key an earlier one has is not new
 new-again : {X : Type 0} (key : X → Numbers) (x : X) (ys : List X) (had : List Numbers) (xs : List X) → (list_any (bytes_eq (key x)) had || keyed key (key x) xs) ≡ true
-    → new_ones key had (xs ++ x ∷ ys) ≡ new_ones key had (xs ++ ys)
-new-again key x ys had [] known = ap (λ b. if b then new_ones key had ys else x ∷ new_ones key (key x ∷ had) ys) (sym (or-false (list_any (bytes_eq (key x)) had)) ∙ known)
+    → elements_with_new_keys key had (xs ++ x ∷ ys) ≡ elements_with_new_keys key had (xs ++ ys)
+new-again key x ys had [] known = ap (λ b. if b then elements_with_new_keys key had ys else x ∷ elements_with_new_keys key (key x ∷ had) ys) (sym (or-false (list_any (bytes_eq (key x)) had)) ∙ known)
   where
     or-false : (b : Bool) → (b || false) ≡ b
     or-false true = refl
@@ -68,10 +69,10 @@ new-again {X = X} key x ys had (z ∷ xs) known =
     earlier false false c same is = is
 
     by : (b : Bool) → list_any (bytes_eq (key z)) had ≡ b
-        → ((list_any (bytes_eq (key x)) had || keyed key (key x) xs) ≡ true → new_ones key had (xs ++ x ∷ ys) ≡ new_ones key had (xs ++ ys))
-        → ((list_any (bytes_eq (key x)) (key z ∷ had) || keyed key (key x) xs) ≡ true → new_ones key (key z ∷ had) (xs ++ x ∷ ys) ≡ new_ones key (key z ∷ had) (xs ++ ys))
-        → (if b then new_ones key had (xs ++ x ∷ ys) else z ∷ new_ones key (key z ∷ had) (xs ++ x ∷ ys))
-        ≡ (if b then new_ones key had (xs ++ ys) else z ∷ new_ones key (key z ∷ had) (xs ++ ys))
+        → ((list_any (bytes_eq (key x)) had || keyed key (key x) xs) ≡ true → elements_with_new_keys key had (xs ++ x ∷ ys) ≡ elements_with_new_keys key had (xs ++ ys))
+        → ((list_any (bytes_eq (key x)) (key z ∷ had) || keyed key (key x) xs) ≡ true → elements_with_new_keys key (key z ∷ had) (xs ++ x ∷ ys) ≡ elements_with_new_keys key (key z ∷ had) (xs ++ ys))
+        → (if b then elements_with_new_keys key had (xs ++ x ∷ ys) else z ∷ elements_with_new_keys key (key z ∷ had) (xs ++ x ∷ ys))
+        ≡ (if b then elements_with_new_keys key had (xs ++ ys) else z ∷ elements_with_new_keys key (key z ∷ had) (xs ++ ys))
     by true is was now =
         was (earlier (list_any (bytes_eq (key x)) had) (bytes_eq (key x) (key z)) (keyed key (key x) xs)
         (λ same. ap (λ k. list_any (bytes_eq k) had) (bytes_eq-same (key x) (key z) same) ∙ is) known)
@@ -156,14 +157,14 @@ module _ (x : Recorded) (A B : List Recorded) (known : among (map line_in A) x.l
 same-line : (a b : ℕ) → a / 256 ≡ b / 256 → a % 256 ≡ b % 256 → a ≡ b
 same-line a b high low = omega (arith, high, low)
 
-module _ (x : Recorded) (P X : List Recorded) (known : has_key P (key_of x) ≡ true) where
+module _ (x : Recorded) (P X : List Recorded) (known : has_key P (key_of_recorded x) ≡ true) where
   abbrev alike : Recorded → Recorded → Bool
   alike f k = bytes_eq k.file f.file
 
   -- an earlier finding has the file text and the line
-  key-same : (k : Recorded) → bytes_eq (key_of x) (key_of k) ≡ true → (x.file ≡ k.file) × (x.line ≡ k.line)
+  key-same : (k : Recorded) → bytes_eq (key_of_recorded x) (key_of_recorded k) ≡ true → (x.file ≡ k.file) × (x.line ≡ k.line)
   key-same k is =
-      let same = bytes_eq-same (key_of x) (key_of k) is in
+      let same = bytes_eq-same (key_of_recorded x) (key_of_recorded k) is in
       (tail-of same, same-line x.line k.line (ap first-number same) (ap second-number same))
     where
       first-number : Bytes → ℕ
@@ -177,14 +178,14 @@ module _ (x : Recorded) (P X : List Recorded) (known : has_key P (key_of x) ≡ 
       second-number : Bytes → ℕ
       second-number bs = first-number (rest bs)
 
-      tail-of : key_of x ≡ key_of k → x.file ≡ k.file
+      tail-of : key_of_recorded x ≡ key_of_recorded k → x.file ≡ k.file
       tail-of same = ap (λ bs. rest (rest bs)) same
 
-  file-known : (ks : List Recorded) → has_key ks (key_of x) ≡ true → keyed file_in x.file ks ≡ true
+  file-known : (ks : List Recorded) → has_key ks (key_of_recorded x) ≡ true → keyed file_in x.file ks ≡ true
   file-known [] is = is
-  file-known (k ∷ ks) is = by (bytes_eq (key_of x) (key_of k)) refl is (file-known ks)
+  file-known (k ∷ ks) is = by (bytes_eq (key_of_recorded x) (key_of_recorded k)) refl is (file-known ks)
     where
-      by : (b : Bool) → bytes_eq (key_of x) (key_of k) ≡ b → (b || has_key ks (key_of x)) ≡ true → (has_key ks (key_of x) ≡ true → keyed file_in x.file ks ≡ true)
+      by : (b : Bool) → bytes_eq (key_of_recorded x) (key_of_recorded k) ≡ b → (b || has_key ks (key_of_recorded x)) ≡ true → (has_key ks (key_of_recorded x) ≡ true → keyed file_in x.file ks ≡ true)
           → (bytes_eq x.file k.file || keyed file_in x.file ks) ≡ true
       by true same is rest = ap (λ b. b || keyed file_in x.file ks) (ap (λ bs. bytes_eq bs k.file) (key-same k same).0 ∙ bytes_eq-itself k.file)
       by false other is rest = either (bytes_eq x.file k.file) (keyed file_in x.file ks) (rest is)
@@ -193,9 +194,9 @@ module _ (x : Recorded) (P X : List Recorded) (known : has_key P (key_of x) ≡ 
           either true b is = refl
           either false b is = is
 
-  line-known : (f : Recorded) → bytes_eq x.file f.file ≡ true → (ks : List Recorded) → has_key ks (key_of x) ≡ true → among (map line_in (filter (alike f) ks)) x.line ≡ true
+  line-known : (f : Recorded) → bytes_eq x.file f.file ≡ true → (ks : List Recorded) → has_key ks (key_of_recorded x) ≡ true → among (map line_in (filter (alike f) ks)) x.line ≡ true
   line-known f same [] is = is
-  line-known f same (k ∷ ks) is = by (bytes_eq (key_of x) (key_of k)) refl is (line-known f same ks)
+  line-known f same (k ∷ ks) is = by (bytes_eq (key_of_recorded x) (key_of_recorded k)) refl is (line-known f same ks)
     where
       onto : (b : Bool) → among (map line_in (filter (alike f) ks)) x.line ≡ true → among (map line_in (cond b (k ∷ filter (alike f) ks) (filter (alike f) ks))) x.line ≡ true
       onto true is = either (k.line == x.line) (among (map line_in (filter (alike f) ks)) x.line) is
@@ -205,7 +206,7 @@ module _ (x : Recorded) (P X : List Recorded) (known : has_key P (key_of x) ≡ 
           either false b is = is
       onto false is = is
 
-      by : (b : Bool) → bytes_eq (key_of x) (key_of k) ≡ b → (b || has_key ks (key_of x)) ≡ true → (has_key ks (key_of x) ≡ true → among (map line_in (filter (alike f) ks)) x.line ≡ true)
+      by : (b : Bool) → bytes_eq (key_of_recorded x) (key_of_recorded k) ≡ b → (b || has_key ks (key_of_recorded x)) ≡ true → (has_key ks (key_of_recorded x) ≡ true → among (map line_in (filter (alike f) ks)) x.line ≡ true)
           → among (map line_in (cond (alike f k) (k ∷ filter (alike f) ks) (filter (alike f) ks))) x.line ≡ true
       by true here is rest =
           let both = key-same k here in
@@ -215,22 +216,22 @@ module _ (x : Recorded) (P X : List Recorded) (known : has_key P (key_of x) ≡ 
           ∙ ap (λ b. b || among (map line_in (filter (alike f) ks)) x.line) equal
       by false other is rest = onto (alike f k) (rest is)
 
-  group-again : (kind : FindingKind) (f : Recorded) → recorded_lines kind (f, filter (alike f) (P ++ x ∷ X)) ≡ recorded_lines kind (f, filter (alike f) (P ++ X))
+  group-again : (kind : FindingKind) (f : Recorded) → recorded_finding_lines kind (f, filter (alike f) (P ++ x ∷ X)) ≡ recorded_finding_lines kind (f, filter (alike f) (P ++ X))
   group-again kind f =
-      ap (λ (ks : List Recorded). recorded_lines kind (f, ks)) (filter-append (alike f) P (x ∷ X)) ∙ by (alike f x) refl
-      ∙ ap (λ (ks : List Recorded). recorded_lines kind (f, ks)) (sym (filter-append (alike f) P X))
+      ap (λ (ks : List Recorded). recorded_finding_lines kind (f, ks)) (filter-append (alike f) P (x ∷ X)) ∙ by (alike f x) refl
+      ∙ ap (λ (ks : List Recorded). recorded_finding_lines kind (f, ks)) (sym (filter-append (alike f) P X))
     where
       by : (b : Bool) → alike f x ≡ b
-          → recorded_lines kind (f, filter (alike f) P ++ cond b (x ∷ filter (alike f) X) (filter (alike f) X)) ≡ recorded_lines kind (f, filter (alike f) P ++ filter (alike f) X)
+          → recorded_finding_lines kind (f, filter (alike f) P ++ cond b (x ∷ filter (alike f) X) (filter (alike f) X)) ≡ recorded_finding_lines kind (f, filter (alike f) P ++ filter (alike f) X)
       by true is = lines-again x (filter (alike f) P) (filter (alike f) X) (line-known f is P known) kind
       by false is = refl
 
   all-again : (kind : FindingKind) → all_recorded_lines kind (P ++ x ∷ X) ≡ all_recorded_lines kind (P ++ X)
   all-again kind =
-      flat_map-map (recorded_lines kind) (with_alike file_in (P ++ x ∷ X)) (new_ones file_in [] (P ++ x ∷ X))
-      ∙ ap (flat_map (λ f. recorded_lines kind (with_alike file_in (P ++ x ∷ X) f))) (new-again file_in x X [] P (file-known P known))
-      ∙ flat-same (λ f. recorded_lines kind (with_alike file_in (P ++ x ∷ X) f)) (λ f. recorded_lines kind (with_alike file_in (P ++ X) f)) (group-again kind) (new_ones file_in [] (P ++ X))
-      ∙ sym (flat_map-map (recorded_lines kind) (with_alike file_in (P ++ X)) (new_ones file_in [] (P ++ X)))
+      flat_map-map (recorded_finding_lines kind) (with_equal_key file_in (P ++ x ∷ X)) (elements_with_new_keys file_in [] (P ++ x ∷ X))
+      ∙ ap (flat_map (λ f. recorded_finding_lines kind (with_equal_key file_in (P ++ x ∷ X) f))) (new-again file_in x X [] P (file-known P known))
+      ∙ flat-same (λ f. recorded_finding_lines kind (with_equal_key file_in (P ++ x ∷ X) f)) (λ f. recorded_finding_lines kind (with_equal_key file_in (P ++ X) f)) (group-again kind) (elements_with_new_keys file_in [] (P ++ X))
+      ∙ sym (flat_map-map (recorded_finding_lines kind) (with_equal_key file_in (P ++ X)) (elements_with_new_keys file_in [] (P ++ X)))
 
 -- the findings that are stored have the lines of all
 lines-stored : (kind : FindingKind) (P X : List Recorded) → all_recorded_lines kind (with_all P X) ≡ all_recorded_lines kind (P ++ X)
@@ -239,25 +240,25 @@ lines-stored kind P [] = ap (all_recorded_lines kind) (sym (nothing P))
     nothing : (ks : List Recorded) → ks ++ [] ≡ ks
     nothing [] = refl
     nothing (k ∷ ks) = ap (λ (zs : List Recorded). k ∷ zs) (nothing ks)
-lines-stored kind P (x ∷ X) = by (has_key P (key_of x)) refl (lines-stored kind P X) (lines-stored kind (P ++ x ∷ []) X)
+lines-stored kind P (x ∷ X) = by (has_key P (key_of_recorded x)) refl (lines-stored kind P X) (lines-stored kind (P ++ x ∷ []) X)
   where
-    by : (b : Bool) → has_key P (key_of x) ≡ b → all_recorded_lines kind (with_all P X) ≡ all_recorded_lines kind (P ++ X) → all_recorded_lines kind (with_all (P ++ x ∷ []) X) ≡ all_recorded_lines kind ((P ++ x ∷ []) ++ X)
+    by : (b : Bool) → has_key P (key_of_recorded x) ≡ b → all_recorded_lines kind (with_all P X) ≡ all_recorded_lines kind (P ++ X) → all_recorded_lines kind (with_all (P ++ x ∷ []) X) ≡ all_recorded_lines kind ((P ++ x ∷ []) ++ X)
         → all_recorded_lines kind (with_all (if b then P else P ++ x ∷ []) X) ≡ all_recorded_lines kind (P ++ x ∷ X)
     by true known was now = was ∙ sym (all-again x P X known kind)
     by false new was now = now ∙ ap (all_recorded_lines kind) (append_assoc P (x ∷ []) X)
 
 -- ---- the definition's lines
 
-lines-are : (xs : List Finding) → map line_in (map recorded_of xs) ≡ map line_of xs
+lines-are : (xs : List Finding) → map line_in (map recorded_of xs) ≡ map finding_line xs
 lines-are xs = map-map line_in recorded_of xs
 
 module _ (kind : FindingKind) where
-  group-lines : (first : Finding) (xs : List Finding) → recorded_lines kind (recorded_of first, map recorded_of xs) ≡ finding_lines kind (first, xs)
+  group-lines : (first : Finding) (xs : List Finding) → recorded_finding_lines kind (recorded_of first, map recorded_of xs) ≡ finding_lines kind (first, xs)
   group-lines first xs =
       ap₂ (recorded_lines_by kind)
       (ap (λ ns. join_by range_text (codes ", ") (in_ranges (filter (among ns) (range_with_len 1 (fold max 0 ns))))) (lines-are xs))
       (ap (λ ns. first_of (filter (λ k. k.line == fold max 0 ns) (map recorded_of xs))) (lines-are xs)
-      ∙ ap first_of (filter-map recorded_of (λ k. k.line == greatest_line xs) xs) ∙ first-map recorded_of (filter (λ x. line_of x == greatest_line xs) xs))
+      ∙ ap first_of (filter-map recorded_of (λ k. k.line == greatest_finding_line xs) xs) ∙ first-map recorded_of (filter (λ x. finding_line x == greatest_finding_line xs) xs))
       ∙ by (last_finding xs)
     where
       by : (o : Option Finding) → recorded_lines_by kind (join_by range_text (codes ", ") (in_ranges (lines_found xs))) (option_map recorded_of o) ≡ finding_lines_by kind xs o
@@ -269,23 +270,23 @@ module _ (kind : FindingKind) where
 
   groups-are : (xs : List Finding) → all_recorded_lines kind (map recorded_of xs) ≡ lines_of_findings kind xs
   groups-are xs =
-      flat_map-map (recorded_lines kind) (with_alike file_in (map recorded_of xs)) (new_ones file_in [] (map recorded_of xs))
-      ∙ ap (flat_map (λ f. recorded_lines kind (with_alike file_in (map recorded_of xs) f))) (new-map recorded_of file_in [] xs)
-      ∙ flat_map-map (λ f. recorded_lines kind (with_alike file_in (map recorded_of xs) f)) recorded_of (new_ones finding_file [] xs)
-      ∙ flat-same (λ f. recorded_lines kind (with_alike file_in (map recorded_of xs) (recorded_of f))) (λ f. finding_lines kind (with_alike finding_file xs f))
-      (λ f. ap (λ (ks : List Recorded). recorded_lines kind (recorded_of f, ks)) (filter-map recorded_of (λ k. bytes_eq k.file f.file) xs) ∙ group-lines f (filter (λ x. bytes_eq x.file f.file) xs))
-      (new_ones finding_file [] xs)
-      ∙ sym (flat_map-map (finding_lines kind) (with_alike finding_file xs) (new_ones finding_file [] xs))
+      flat_map-map (recorded_finding_lines kind) (with_equal_key file_in (map recorded_of xs)) (elements_with_new_keys file_in [] (map recorded_of xs))
+      ∙ ap (flat_map (λ f. recorded_finding_lines kind (with_equal_key file_in (map recorded_of xs) f))) (new-map recorded_of file_in [] xs)
+      ∙ flat_map-map (λ f. recorded_finding_lines kind (with_equal_key file_in (map recorded_of xs) f)) recorded_of (elements_with_new_keys finding_file [] xs)
+      ∙ flat-same (λ f. recorded_finding_lines kind (with_equal_key file_in (map recorded_of xs) (recorded_of f))) (λ f. finding_lines kind (with_equal_key finding_file xs f))
+      (λ f. ap (λ (ks : List Recorded). recorded_finding_lines kind (recorded_of f, ks)) (filter-map recorded_of (λ k. bytes_eq k.file f.file) xs) ∙ group-lines f (filter (λ x. bytes_eq x.file f.file) xs))
+      (elements_with_new_keys finding_file [] xs)
+      ∙ sym (flat_map-map (finding_lines kind) (with_equal_key finding_file xs) (elements_with_new_keys finding_file [] xs))
 
-  module _ (first : Tree) where
-    findings-mapped : (ls : List Located) → flat_map (recorded_at first kind) ls ≡ map recorded_of (flat_map (findings_at program_of first kind) ls)
+  module _ (files : List Bytes) (first : Tree) where
+    findings-mapped : (ls : List Located) → flat_map (recorded_at files first kind) ls ≡ map recorded_of (flat_map (findings_about files program_of first kind) ls)
     findings-mapped [] = refl
     findings-mapped (l ∷ ls) =
-        ap (λ (ks : List Recorded). recorded_at first kind l ++ ks) (findings-mapped ls)
-        ∙ sym (map-append recorded_of (findings_at program_of first kind l) (flat_map (findings_at program_of first kind) ls))
+        ap (λ (ks : List Recorded). recorded_at files first kind l ++ ks) (findings-mapped ls)
+        ∙ sym (map-append recorded_of (findings_about files program_of first kind l) (flat_map (findings_about files program_of first kind) ls))
 
     -- the lines of the stored findings are those of all findings
-    pub findings-written : (ls : List Located) → all_recorded_lines kind (with_all [] (flat_map (recorded_at first kind) ls)) ≡ lines_of_findings kind (flat_map (findings_at program_of first kind) ls)
+    pub findings-written : (ls : List Located) → all_recorded_lines kind (with_all [] (flat_map (recorded_at files first kind) ls)) ≡ lines_of_findings kind (flat_map (findings_about files program_of first kind) ls)
     findings-written ls =
-        lines-stored kind [] (flat_map (recorded_at first kind) ls) ∙ ap (all_recorded_lines kind) (findings-mapped ls)
-        ∙ groups-are (flat_map (findings_at program_of first kind) ls)
+        lines-stored kind [] (flat_map (recorded_at files first kind) ls) ∙ ap (all_recorded_lines kind) (findings-mapped ls)
+        ∙ groups-are (flat_map (findings_about files program_of first kind) ls)

@@ -6,7 +6,9 @@ use Rattle.pv_model.specs.Answers.Exposure.{located_at, range_text}
 use Rattle.pv_model.specs.Answers.ProgramNames.{program_line}
 use Rattle.pv_model_questions.specs.declared.finding_kind.FindingKind.{FindingKind}
 use Rattle.pv_model_questions.specs.declared.finding_kind.FindingKind.TheVariants.{Leak, Peer, Edit, Read}
-use Rattle.pv_model_questions.specs.Exposure.{Finding, findings_at, is_safe_in, kind_word, kinds, line_of, safe_line}
+use Rattle.pv_model_questions.specs.Accesses.{kept_files}
+use Rattle.pv_model_questions.specs.Exposure.{Finding, is_safe_in, kind_word, kinds, finding_line, safe_line}
+use Rattle.pv_model_questions.specs.ExposureAbout.{findings_about}
 
 -- ---- findings
 
@@ -19,24 +21,25 @@ pub record Recorded : Type 0 where
   pub reason : Bytes
 
 abbrev pub recorded_of : Finding → Recorded
-recorded_of x = record { witness = x.witness; pid = x.at.pid; line = line_of x; file = x.file; reason = x.reason }
+recorded_of x = record { witness = x.witness; pid = x.at.pid; line = finding_line x; file = x.file; reason = x.reason }
 
-abbrev pub recorded_at : Tree → FindingKind → Located → List Recorded
-recorded_at first kind l = map recorded_of (findings_at program_of first kind l)
+-- those about given files, given the first tree
+abbrev pub recorded_at : List Bytes → Tree → FindingKind → Located → List Recorded
+recorded_at files first kind l = map recorded_of (findings_about files program_of first kind l)
 
 -- the key of a line and a file text
 abbrev pub record_key : ℕ → Bytes → Bytes
 record_key line file = line / 256 ∷ line % 256 ∷ file
 
-abbrev pub key_of : Recorded → Bytes
-key_of k = record_key k.line k.file
+abbrev pub key_of_recorded : Recorded → Bytes
+key_of_recorded k = record_key k.line k.file
 
 abbrev pub has_key : List Recorded → Bytes → Bool
-has_key ks key = list_any (λ k. bytes_eq key (key_of k)) ks
+has_key ks key = list_any (λ k. bytes_eq key (key_of_recorded k)) ks
 
 -- the findings with one more, unless one at the same line has the same file text
 abbrev pub with_one : List Recorded → Recorded → List Recorded
-with_one ks k = if has_key ks (key_of k) then ks else ks ++ k ∷ []
+with_one ks k = if has_key ks (key_of_recorded k) then ks else ks ++ k ∷ []
 
 abbrev pub with_all : List Recorded → List Recorded → List Recorded
 with_all ks [] = ks
@@ -44,7 +47,8 @@ with_all ks (x ∷ xs) = with_all (with_one ks x) xs
 
 -- ---- programs
 
--- a program, its findings, and the files of the first tree that every process was closed to in the states of its processes
+-- a program, its findings, and the files of the first tree to which every process was closed in the states of its
+-- processes
 pub record Exposed : Type 0 where
   pub program : Program
   pub leaks : List Recorded
@@ -66,15 +70,15 @@ exposed_none named program = record { program = program; leaks = []; peers = [];
 abbrev pub is_of : Numbers → Exposed → Bool
 is_of ns e = bytes_eq ns (program_numbers e.program)
 
-module _ (first : Tree) where
+module _ (files : List Bytes) (first : Tree) where
   -- the record after another process of the program
   abbrev pub exposed_more : Exposed → Located → Exposed
   exposed_more e l = record {
     program = e.program;
-    leaks = with_all e.leaks (recorded_at first Leak l);
-    peers = with_all e.peers (recorded_at first Peer l);
-    edits = with_all e.edits (recorded_at first Edit l);
-    reads = with_all e.reads (recorded_at first Read l);
+    leaks = with_all e.leaks (recorded_at files first Leak l);
+    peers = with_all e.peers (recorded_at files first Peer l);
+    edits = with_all e.edits (recorded_at files first Edit l);
+    reads = with_all e.reads (recorded_at files first Read l);
     safe = filter (λ f. is_safe_in f l) e.safe;
   }
 
@@ -119,12 +123,12 @@ module _ (kind : FindingKind) where
       answer_line k.pid (codes "BY") (witness_text k.witness) ∷ answer_line k.pid (kind_word kind) (recorded_text k ranges) ∷ []
 
   -- the lines of the findings of a file text
-  abbrev pub recorded_lines : Recorded × List Recorded → List AnswerLine
-  recorded_lines (first, ks) = recorded_lines_by (ranges_recorded ks) (last_recorded ks)
+  abbrev pub recorded_finding_lines : Recorded × List Recorded → List AnswerLine
+  recorded_finding_lines (first, ks) = recorded_lines_by (ranges_recorded ks) (last_recorded ks)
 
   -- the lines of the findings of all file texts
   abbrev pub all_recorded_lines : List Recorded → List AnswerLine
-  all_recorded_lines ks = flat_map recorded_lines (groups (λ k. k.file) ks)
+  all_recorded_lines ks = flat_map recorded_finding_lines (groups (λ k. k.file) ks)
 
   abbrev pub lines_recorded_of : Exposed → List AnswerLine
   lines_recorded_of e = all_recorded_lines (findings_of kind e)
@@ -132,8 +136,8 @@ module _ (kind : FindingKind) where
 abbrev pub all_lines_recorded_of : Exposed → List AnswerLine
 all_lines_recorded_of e = flat_map (λ kind. lines_recorded_of kind e) kinds
 
-module _ (t : Tree) where
+module _ (files : List Bytes) (t : Tree) where
   -- the lines of a program, given whether the search is complete
   abbrev pub lines_of_exposed : Bool → ℕ × Exposed → List AnswerLine
   lines_of_exposed complete (k, e) =
-      program_line program_of t k e.program ∷ all_lines_recorded_of e ++ (if complete then map (safe_line t) e.safe else [])
+      program_line program_of t k e.program ∷ all_lines_recorded_of e ++ (if complete then map (safe_line t) (kept_files files t e.safe) else [])

@@ -2,9 +2,10 @@
 use Rattle.std.specs.Prelude.{◌≡◌, ℕ, Bool, true, not, ◌||◌, if◌then◌else◌, length, List, map, Option, None, Some, option_and_then}
 use Rattle.std.specs.List.{range_with_len}
 use Rattle.pv_model.specs.declared.verdict.Why.{Why}
-use Rattle.pv_model.specs.Machine.{Bytes, files_of_tree, first_of, is_file_at, leaks, Process, State, process_at, Tree}
+use Rattle.pv_model.specs.Machine.{Bytes, first_of, is_file_at, leaks, Process, State, process_at, Tree}
 use Rattle.pv_model_questions.specs.Briefs.{brief_since}
 use Rattle.pv_model_questions.specs.Exposure.{are_all_closed, first_leak_of}
+use Rattle.pv_model_questions.specs.ExposureAbout.{kept_files_of}
 use Rattle.pv_exposure.specs.declared.files.StateFile.{StateFile}
 use Rattle.pv_exposure.specs.declared.files.StateFiles.{StateFiles}
 
@@ -31,6 +32,7 @@ pub record IsFileOf (first : Tree) (s : State) (file : StateFile) : Type 0 where
   pub is : is_file_at s.tree file.node ≡ true
   pub text : file.text.items ≡ brief_since first s.tree file.node
 
-pub record AreFilesOf (first : Tree) (s : State) (files : StateFiles) : Type 0 where
-  pub described : map described files.files.items ≡ map (described_file first s.tree) (files_of_tree s.tree)
+-- the files of a state about which findings are kept
+pub record AreFilesOf (given : List Bytes) (first : Tree) (s : State) (files : StateFiles) : Type 0 where
+  pub described : map described files.files.items ≡ map (described_file first s.tree) (kept_files_of given first s.tree)
   pub leaks : files.leaks.items ≡ map (first_leak_at s) (range_with_len 0 (length s.tree.nodes))

@@ -3,7 +3,8 @@ use Rattle.std.specs.Prelude.{◌≡◌, ◌==◌, ℕ, List, [], ◌∷◌, map
 use Rattle.pv_model.specs.Machine.{Found, Located, first_of, Bytes, Process, process_at, program_of, Tree}
 use Rattle.pv_model_questions.specs.declared.finding_kind.FindingKind.{FindingKind}
 use Rattle.pv_model_questions.specs.declared.finding_kind.FindingKind.TheVariants.{Leak, Peer, Edit, Read}
-use Rattle.pv_model_questions.specs.Exposure.{files_read, finding_by, reason_by}
+use Rattle.pv_model_questions.specs.Exposure.{read_observer, finding_by, reason_by}
+use Rattle.pv_named_files.specs.FirstPaths.{files_given, first_tree}
 use Rattle.pv_reduced.specs.OfSession.Running.{stepped}
 use Rattle.pv_exposure.specs.Collected.{Exposed, Recorded, recorded_of, with_all}
 use Rattle.pv_exposure.specs.StateFiles.{AreFilesOf}
@@ -29,14 +30,14 @@ located_if f pid None = []
 located_if f pid (Some p) = located_by f pid p ∷ []
 
 -- the process of a visit
-abbrev pub located_in : Visit → Process → Located
-located_in v p = located_by (record { witness = v.witness.now; state = v.parts.now }) v.pid p
+abbrev pub located_in_visit : Visit → Process → Located
+located_in_visit v p = located_by (record { witness = v.witness.now; state = v.parts.now }) v.pid p
 
 -- a process is live, with the files of its state, and the file that its next step reads
 pub record IsVisit (v : Visit) : Type 0 where
   pub live : IsSome (process_at v.parts.now v.pid)
-  pub files : AreFilesOf v.first.now.tree v.parts.now v.files.now
-  pub read : option_to_list v.read ≡ files_read v.parts.now v.pid (stepped v.parts.now v.pid)
+  pub files : AreFilesOf (files_given v.paths.now) (first_tree v.paths.now) v.parts.now v.files.now
+  pub read : option_to_list v.read ≡ read_observer v.parts.now v.pid (stepped v.parts.now v.pid)
 
 -- the findings of a file text
 abbrev pub recorded_of_file : Bytes → List Recorded → List Recorded
@@ -47,8 +48,8 @@ abbrev pub first_at : ℕ → List Recorded → Option Recorded
 first_at line ks = first_of (filter (λ k. k.line == line) ks)
 
 -- the record of a program after the findings about one more file
-abbrev pub with_file : Tree → Located → Exposed → ℕ → Exposed
-with_file first l e f = record {
+abbrev pub exposed_with_file : Tree → Located → Exposed → ℕ → Exposed
+exposed_with_file first l e f = record {
   program = e.program;
   leaks = with_all e.leaks (recorded_by_file first Leak l f);
   peers = with_all e.peers (recorded_by_file first Peer l f);
@@ -58,6 +59,6 @@ with_file first l e f = record {
 }
 
 -- the record of a program after the findings about files
-abbrev pub with_files : Tree → Located → Exposed → List ℕ → Exposed
-with_files first l e [] = e
-with_files first l e (f ∷ fs) = with_files first l (with_file first l e f) fs
+abbrev pub exposed_with_files : Tree → Located → Exposed → List ℕ → Exposed
+exposed_with_files first l e [] = e
+exposed_with_files first l e (f ∷ fs) = exposed_with_files first l (exposed_with_file first l e f) fs

@@ -2,7 +2,7 @@
 ghost use Rattle.std.specs.Prelude.{◌≡◌, ◌<◌, false, length, not, option_map, true, IfSome, IsSome, Some};
 ghost use Rattle.std.specs.List.{list_all};
 ghost use Rattle.pv_audit.specs.Findings.{least, lesser, passing};
-ghost use Rattle.pv_audit.specs.Reasons.{descriptors_for, is_held, is_on};
+ghost use Rattle.pv_audit.specs.Reasons.{descriptors_for, restrains_execve, is_on};
 ghost use Rattle.pv_exposure.specs.Editing.{above_among, above_of, first_edit, least_giving};
 ghost use Rattle.pv_model.specs.Machine.{at_number, contains, entries_of_table, names_of, Process, process_at, Table as DefinedTable};
 ghost use Rattle.pv_model.specs.Perms.{permission_w};
@@ -40,7 +40,7 @@ fn is_pledged_without(pledge: &Pledge, promises: &[Promise]) -> bool
 
 // Returns whether the process stays restricted over execve(2): it cannot make the call, or it has execpromises.
 fn is_held_over_exec(pledge: &Pledge) -> bool
-    ensures { result ≡ is_held pledge.now }
+    ensures { result ≡ restrains_execve pledge.now }
 {
     is_pledged_without(pledge, &[Promise::Exec]) || pledge.execpromises().is_some()
 }

@@ -1,18 +1,18 @@
 //! The files of a state, and who leaks them.
-ghost use Rattle.std.specs.Prelude.{◌≡◌, ◌&&◌, ◌++◌, ◌∷◌, [], filter, length, map, not, IfOk, OnOk};
+ghost use Rattle.std.specs.Prelude.{◌≡◌, ◌&&◌, ◌++◌, ◌∷◌, [], List, filter, length, map, not, IfOk, OnOk};
 ghost use Rattle.pv_exposure.specs.StateFiles.{AreFilesOf, described, described_file, first_leak_at, is_safe_at, leak_in};
 ghost use Rattle.pv_exposure.specs.Unnamed.{is_unnamed};
-ghost use Rattle.pv_model.specs.Machine.{files_of_tree, State, Tree as DefinedTree};
+ghost use Rattle.pv_model.specs.Machine.{Bytes, files_of_tree, State, Tree as DefinedTree};
 ghost use Rattle.pv_model.specs.Answers.Files.{unnamed_files};
-ghost use Rattle.pv_model_questions.specs.Briefs.{brief_since, path_text, with_first};
+ghost use Rattle.pv_model_questions.specs.ExposureAbout.{kept_files_of};
+ghost use Rattle.pv_named_files.specs.FirstPaths.{files_given, first_tree};
 ghost use Rattle.pv_model_questions.specs.Exposure.{first_leak_of};
 ghost use Rattle.std.specs.List.{range_with_len};
-ghost use Rattle.std.specs.Prelude.{None, option_map, slice_index_or};
+ghost use Rattle.std.specs.Prelude.{None, slice_index_or};
 
 use pv_audit::leak;
 use pv_model::Why;
-use pv_named_files::{is_file, named_files};
-use pv_programs::answers::{NodeBrief, PathOf, has_path, text_of};
+use pv_named_files::{FirstPaths, is_file, named_files};
 use pv_programs::calls_state::Parts;
 use pv_tree::Tree;
 use std::alloc::{AllocError, Global};
@@ -80,51 +80,29 @@ fn files_of_tree(alloc: Global, tree: &Tree) -> Result<Vec<u16>, AllocError>
     Ok(files)
 }
 
-// Returns the path of a node as a quoted text, if it has one.
-fn path_of(alloc: Global, tree: &Tree, node: u16) -> Result<Option<Vec<u8>>, AllocError>
-    ensures { IfOk result (λ path. option_map (λ p. p.items) path ≡ path_text tree.now.tree node) }
+// Returns those files of a tree that are kept.
+fn kept_files_of_tree(
+    alloc: Global,
+    paths: &FirstPaths<'_>,
+    tree: &Tree,
+) -> Result<Vec<u16>, AllocError>
+    ensures { IfOk result (λ files. files.items ≡ kept_files_of (files_given paths.now) (first_tree paths.now) tree.now.tree) }
 {
-    if !has_path(tree, node) {
-        return Ok(None);
-    }
-    Ok(Some(text_of(alloc, &PathOf { tree, node })?))
-}
-
-// Returns a description and a first path, unless they are the same.
-fn with_first(mut text: Vec<u8>, first: &Option<Vec<u8>>) -> Result<Vec<u8>, AllocError>
-    ensures { IfOk result (λ full. full.items ≡ with_first text.items (option_map (λ p. p.items) first.now)) }
-{
-    let Some(path) = first else {
-        return Ok(text);
-    };
-    if path.as_slice() == text.as_slice() {
-        return Ok(text);
-    }
-    text.extend_from_slice(b", first ")?;
-    text.extend_from_slice(path)?;
-    Ok(text)
-}
-
-// Returns a file in brief, and its path in the first tree if that is another one.
-fn brief_of(alloc: Global, first: &Tree, tree: &Tree, node: u16) -> Result<Vec<u8>, AllocError>
-    ensures { IfOk result (λ text. text.items ≡ brief_since first.now.tree tree.now.tree node) }
-{
-    let text = text_of(alloc, &NodeBrief { tree, node })?;
-    let path = path_of(alloc, first, node)?;
-    with_first(text, &path)
+    let nodes = files_of_tree(alloc, tree)?;
+    paths.kept(alloc, tree, &nodes)
 }
 
 // Appends a file.
 fn push_described(
     alloc: Global,
     files: &mut Vec<StateFile>,
-    first: &Tree,
+    paths: &FirstPaths<'_>,
     tree: &Tree,
     node: u16,
 ) -> Result<(), AllocError>
-    ensures { OnOk result (map described files.new.items ≡ map described files.old.items ++ described_file first.now.tree tree.now.tree node ∷ []) }
+    ensures { OnOk result (map described files.new.items ≡ map described files.old.items ++ described_file (first_tree paths.now) tree.now.tree node ∷ []) }
 {
-    let text = brief_of(alloc, first, tree, node)?;
+    let text = paths.described(alloc, tree, node)?;
     files.push(StateFile { node, text })?;
     Ok(())
 }
@@ -132,15 +110,15 @@ fn push_described(
 // Returns files with their descriptions.
 fn describe(
     alloc: Global,
-    first: &Tree,
+    paths: &FirstPaths<'_>,
     tree: &Tree,
     nodes: &[u16],
 ) -> Result<Vec<StateFile>, AllocError>
-    ensures { IfOk result (λ files. map described files.items ≡ map (described_file first.now.tree tree.now.tree) nodes.now) }
+    ensures { IfOk result (λ files. map described files.items ≡ map (described_file (first_tree paths.now) tree.now.tree) nodes.now) }
 {
     let mut files = Vec::new(alloc);
     for node in nodes {
-        push_described(alloc, &mut files, first, tree, *node)?;
+        push_described(alloc, &mut files, paths, tree, *node)?;
     }
     Ok(files)
 }
@@ -219,30 +197,34 @@ fn leak_at(leaks: &[Option<(u32, Why)>], node: u16) -> Option<(u32, Why)>
 }
 
 impl StateFiles {
-    /// Returns the files of a state, given the first tree.
+    /// Returns the files of a state that are kept, given the first tree.
     ///
     /// # Errors
     ///
     /// `AllocError`, if there is no memory.
-    pub(crate) fn of(alloc: Global, first: &Tree, parts: &Parts) -> Result<StateFiles, AllocError>
-        ensures { IfOk result (λ files. AreFilesOf first.now.tree parts.now files) }
+    pub(crate) fn of(
+        alloc: Global,
+        paths: &FirstPaths<'_>,
+        parts: &Parts,
+    ) -> Result<StateFiles, AllocError>
+        ensures { IfOk result (λ files. AreFilesOf (files_given paths.now) (first_tree paths.now) parts.now files) }
     {
-        let nodes = files_of_tree(alloc, parts.tree())?;
-        let files = describe(alloc, first, parts.tree(), &nodes)?;
+        let nodes = kept_files_of_tree(alloc, paths, parts.tree())?;
+        let files = describe(alloc, paths, parts.tree(), &nodes)?;
         let leaks = leaks_of(alloc, parts)?;
         Ok(StateFiles { files, leaks })
     }
 
     /// Returns the live process with the least number that is not closed to a file, with its first reason.
     pub(crate) fn leak(&self, node: u16) -> Option<(u32, Why)>
-        ensures { (first : DefinedTree) (s : State) → AreFilesOf first s self.now → result ≡ first_leak_at s node }
+        ensures { (given : List Bytes) (first : DefinedTree) (s : State) → AreFilesOf given first s self.now → result ≡ first_leak_at s node }
     {
         leak_at(&self.leaks, node)
     }
 
     /// Returns whether every live process is closed to the file with a number, if the state has one.
     pub(crate) fn is_safe(&self, node: u16) -> bool
-        ensures { (first : DefinedTree) (s : State) → AreFilesOf first s self.now → result ≡ is_safe_at node s }
+        ensures { (given : List Bytes) (first : DefinedTree) (s : State) → AreFilesOf given first s self.now → result ≡ is_safe_at node s }
     {
         self.leak(node).is_none()
     }

@@ -1,11 +1,12 @@
 //! Findings. Of each line and file text the first is stored.
 ghost use Rattle.std.specs.Prelude.{◌≡◌, ◌++◌, ◌∷◌, [], bytes_eq, false, map, IfOk, OnOk, Some};
 ghost use Rattle.std.specs.List.{list_any};
-ghost use Rattle.pv_exposure.specs.Collected.{key_of, record_key, with_all};
+ghost use Rattle.pv_exposure.specs.Collected.{key_of_recorded, record_key, with_all};
 ghost use Rattle.pv_exposure.specs.StateFiles.{IsFileOf};
-ghost use Rattle.pv_exposure.specs.Stored.{IsVisit, all_recorded, located_in, recorded_by_file, recorded_in};
+ghost use Rattle.pv_exposure.specs.Stored.{IsVisit, all_recorded, located_in_visit, recorded_by_file, recorded_in};
 ghost use Rattle.pv_model.specs.Machine.{Process, process_at};
 ghost use Rattle.pv_model_questions.specs.Exposure.{witness_by};
+ghost use Rattle.pv_named_files.specs.FirstPaths.{first_tree};
 
 use crate::files::StateFile;
 use crate::reasons::{Visit, reason_of};
@@ -39,19 +40,19 @@ pub(crate) struct FindingList {
 
 impl Model for FindingList {
     ghost use Rattle.std.specs.Prelude.{◌≡◌, List, map};
-    ghost use Rattle.pv_exposure.specs.Collected.{Recorded, key_of};
+    ghost use Rattle.pv_exposure.specs.Collected.{Recorded, key_of_recorded};
     ghost use Rattle.pv_exposure.specs.Stored.{all_recorded};
 
     ghost Value = { List Recorded };
 
     ghost view = { λ l. all_recorded l.findings.items };
 
-    ghost invariant = { λ l. l.keys ≡ map key_of (all_recorded l.findings.items) };
+    ghost invariant = { λ l. l.keys ≡ map key_of_recorded (all_recorded l.findings.items) };
 }
 
 // Returns the schedule of a finding: that of the state, and for a read the step itself.
 fn witness_of(alloc: Global, kind: FindingKind, visit: &Visit<'_>) -> Result<Vec<u32>, AllocError>
-    ensures { IfOk result (λ witness. (p : Process) → witness.items ≡ witness_by kind (located_in visit.now p)) }
+    ensures { IfOk result (λ witness. (p : Process) → witness.items ≡ witness_by kind (located_in_visit visit.now p)) }
 {
     let mut witness = visit.witness.to_vec(alloc)?;
     if matches!(kind, FindingKind::Read) {
@@ -96,8 +97,8 @@ impl FindingList {
 
     // Stores a finding with its key.
     fn store(&mut self, alloc: Global, key: &[u8], finding: StoredFinding) -> Result<(), AllocError>
-        requires key { key.now ≡ key_of (recorded_in finding) }
-        requires new { list_any (bytes_eq key.now) (map key_of self.old) ≡ false }
+        requires key { key.now ≡ key_of_recorded (recorded_in finding) }
+        requires new { list_any (bytes_eq key.now) (map key_of_recorded self.old) ≡ false }
         ensures { OnOk result (self.new ≡ self.old ++ recorded_in finding ∷ []) }
     {
         self.findings.reserve(1)?;
@@ -121,9 +122,9 @@ impl FindingList {
         key: &[u8],
     ) -> Result<(), AllocError>
         requires visit { IsVisit visit.now }
-        requires file { IsFileOf visit.now.first.now.tree visit.now.parts.now file.now }
+        requires file { IsFileOf (first_tree visit.now.paths.now) visit.now.parts.now file.now }
         requires key { (p : Process) → process_at visit.now.parts.now visit.now.pid ≡ Some p → key.now ≡ record_key p.line file.now.text.items }
-        ensures { OnOk result ((p : Process) → process_at visit.now.parts.now visit.now.pid ≡ Some p → self.new ≡ with_all self.old (recorded_by_file visit.now.first.now.tree kind (located_in visit.now p) file.now.node)) }
+        ensures { OnOk result ((p : Process) → process_at visit.now.parts.now visit.now.pid ≡ Some p → self.new ≡ with_all self.old (recorded_by_file (first_tree visit.now.paths.now) kind (located_in_visit visit.now p) file.now.node)) }
     {
         if self.keys.contains(key) {
             return Ok(());

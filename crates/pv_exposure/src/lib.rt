@@ -1,4 +1,4 @@
-//! The exposure of each program under all schedules: what an attacker gains who takes over a process, line by line.
+//! The exposure of each program under all schedules: the gains of an attacker who takes over a process, line by line.
 //!
 //! A search visits the states, and `exposure` goes over them once. `files` lists the files of a state, with the first
 //! process that is not closed to each. `reads` finds the file that the next step of a process reads, `edit` why a process is

@@ -1,9 +1,11 @@
 //! Programs, their findings, and the files that all processes are closed to.
-ghost use Rattle.std.specs.Prelude.{◌≡◌, ◌++◌, ◌∷◌, [], filter, map, position, IfOk, OnOk, Some};
+ghost use Rattle.std.specs.Prelude.{◌≡◌, ◌++◌, ◌∷◌, [], List, filter, map, position, IfOk, OnOk, Some};
 ghost use Rattle.pv_exposure.specs.Collected.{exposed_more, exposed_none, exposed_with, findings_of, is_of as is_of_numbers};
 ghost use Rattle.pv_exposure.specs.StateFiles.{AreFilesOf, IsFileOf, described, described_file, is_safe_at};
-ghost use Rattle.pv_exposure.specs.Stored.{IsVisit, located_in, with_file, with_files};
-ghost use Rattle.pv_model.specs.Machine.{files_of_tree, program_numbers, Process, process_at, State, Tree};
+ghost use Rattle.pv_exposure.specs.Stored.{IsVisit, located_in_visit, exposed_with_file, exposed_with_files};
+ghost use Rattle.pv_model.specs.Machine.{Bytes, program_numbers, Process, process_at, State, Tree};
+ghost use Rattle.pv_model_questions.specs.ExposureAbout.{kept_files_of};
+ghost use Rattle.pv_named_files.specs.FirstPaths.{files_given, first_tree};
 
 use crate::files::{StateFile, StateFiles};
 use crate::findings::{FindingList, key_of_line, line_of};
@@ -30,7 +32,7 @@ pub(crate) struct ProgramRecord {
 
 // Appends a file, if every process of a state is closed to it.
 fn push_safe(safe: &mut Vec<u16>, files: &StateFiles, node: u16) -> Result<(), AllocError>
-    ensures { OnOk result ((first : Tree) (s : State) → AreFilesOf first s files.now → safe.new.items ≡ safe.old.items ++ filter (λ f. is_safe_at f s) (node ∷ [])) }
+    ensures { OnOk result ((given : List Bytes) (first : Tree) (s : State) → AreFilesOf given first s files.now → safe.new.items ≡ safe.old.items ++ filter (λ f. is_safe_at f s) (node ∷ [])) }
 {
     if files.is_safe(node) {
         safe.push(node)?;
@@ -40,7 +42,7 @@ fn push_safe(safe: &mut Vec<u16>, files: &StateFiles, node: u16) -> Result<(), A
 
 // Returns those of files that every process of a state is closed to.
 fn safe_among(alloc: Global, files: &StateFiles, nodes: &[u16]) -> Result<Vec<u16>, AllocError>
-    ensures { IfOk result (λ safe. (first : Tree) (s : State) → AreFilesOf first s files.now → safe.items ≡ filter (λ f. is_safe_at f s) nodes.now) }
+    ensures { IfOk result (λ safe. (given : List Bytes) (first : Tree) (s : State) → AreFilesOf given first s files.now → safe.items ≡ filter (λ f. is_safe_at f s) nodes.now) }
 {
     let mut safe = Vec::new(alloc);
     for node in nodes {
@@ -98,8 +100,8 @@ impl ProgramRecord {
         file: &StateFile,
     ) -> Result<(), AllocError>
         requires visit { IsVisit visit.now }
-        requires file { IsFileOf visit.now.first.now.tree visit.now.parts.now file.now }
-        ensures { OnOk result ((p : Process) → process_at visit.now.parts.now visit.now.pid ≡ Some p → self.new ≡ with_file visit.now.first.now.tree (located_in visit.now p) self.old file.now.node) }
+        requires file { IsFileOf (first_tree visit.now.paths.now) visit.now.parts.now file.now }
+        ensures { OnOk result ((p : Process) → process_at visit.now.parts.now visit.now.pid ≡ Some p → self.new ≡ exposed_with_file (first_tree visit.now.paths.now) (located_in_visit visit.now p) self.old file.now.node) }
     {
         let key = key_of_line(alloc, line_of(visit), &file.text)?;
         self.leaks.add(alloc, FindingKind::Leak, visit, file, &key)?;
@@ -116,8 +118,8 @@ impl ProgramRecord {
         files: &[StateFile],
     ) -> Result<(), AllocError>
         requires visit { IsVisit visit.now }
-        requires files { map described files.now ≡ map (described_file visit.now.first.now.tree visit.now.parts.now.tree) (files_of_tree visit.now.parts.now.tree) }
-        ensures { OnOk result ((p : Process) → process_at visit.now.parts.now visit.now.pid ≡ Some p → self.new ≡ with_files visit.now.first.now.tree (located_in visit.now p) self.old (files_of_tree visit.now.parts.now.tree)) }
+        requires files { map described files.now ≡ map (described_file (first_tree visit.now.paths.now) visit.now.parts.now.tree) (kept_files_of (files_given visit.now.paths.now) (first_tree visit.now.paths.now) visit.now.parts.now.tree) }
+        ensures { OnOk result ((p : Process) → process_at visit.now.parts.now visit.now.pid ≡ Some p → self.new ≡ exposed_with_files (first_tree visit.now.paths.now) (located_in_visit visit.now p) self.old (kept_files_of (files_given visit.now.paths.now) (first_tree visit.now.paths.now) visit.now.parts.now.tree)) }
     {
         for file in files {
             self.add_file(alloc, visit, file)?;
@@ -128,7 +130,7 @@ impl ProgramRecord {
     // Adds the findings about a live process of the program.
     fn add(&mut self, alloc: Global, visit: &Visit<'_>) -> Result<(), AllocError>
         requires { IsVisit visit.now }
-        ensures { OnOk result ((p : Process) → process_at visit.now.parts.now visit.now.pid ≡ Some p → self.new ≡ exposed_more visit.now.first.now.tree self.old (located_in visit.now p)) }
+        ensures { OnOk result ((p : Process) → process_at visit.now.parts.now visit.now.pid ≡ Some p → self.new ≡ exposed_more (files_given visit.now.paths.now) (first_tree visit.now.paths.now) self.old (located_in_visit visit.now p)) }
     {
         self.add_files(alloc, visit, &visit.files.files)?;
         let safe = safe_among(alloc, visit.files, &self.safe)?;
@@ -182,7 +184,7 @@ pub(crate) fn add_process(
     visit: &Visit<'_>,
 ) -> Result<(), AllocError>
     requires { IsVisit visit.now }
-    ensures { OnOk result ((p : Process) → process_at visit.now.parts.now visit.now.pid ≡ Some p → records.new.items ≡ exposed_with visit.now.first.now.tree named.now records.old.items (located_in visit.now p)) }
+    ensures { OnOk result ((p : Process) → process_at visit.now.parts.now visit.now.pid ≡ Some p → records.new.items ≡ exposed_with (files_given visit.now.paths.now) (first_tree visit.now.paths.now) named.now records.old.items (located_in_visit visit.now p)) }
 {
     let program = visit.parts.processes().program(visit.pid);
     let numbers = program_numbers(alloc, program)?;

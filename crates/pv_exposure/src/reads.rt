@@ -4,7 +4,7 @@ ghost use Rattle.pv_exposure.specs.Reading.{file_to_read, has_read, may_read};
 ghost use Rattle.pv_laws_states.specs.States.{IsValid, is_call};
 ghost use Rattle.pv_model.specs.declared.call.Call.{Call};
 ghost use Rattle.pv_model.specs.Machine.{call_of, Found, calls_for, next, node_of, open_file, Process, process_at};
-ghost use Rattle.pv_model_questions.specs.Exposure.{files_read};
+ghost use Rattle.pv_model_questions.specs.Exposure.{read_observer};
 ghost use Rattle.pv_reduced.specs.OfProcs.Turns.{CallsNext};
 ghost use Rattle.pv_reduced.specs.OfSession.Running.{stepped};
 
@@ -81,7 +81,7 @@ fn read_by_call(
 ) -> Result<Option<u16>, StepFault>
     requires next { CallsNext call (process_at session.old pid) }
     requires callable { IsTrue (is_call (call_of call)) }
-    ensures { IfOk result (λ read. option_to_list read ≡ files_read session.old pid (stepped session.old pid)) }
+    ensures { IfOk result (λ read. option_to_list read ≡ read_observer session.old pid (stepped session.old pid)) }
 {
     let file = file_of(session.parts(), pid, call);
     let answer = session.call(alloc, pid, call)?;
@@ -94,7 +94,7 @@ fn read_by_call(
 
 // Makes the next step of a process if it is a call, and returns the file that it read.
 fn read_by_step(alloc: Global, session: &mut Session, pid: u32) -> Result<Option<u16>, StepFault>
-    ensures { IfOk result (λ read. option_to_list read ≡ files_read session.old pid (stepped session.old pid)) }
+    ensures { IfOk result (λ read. option_to_list read ≡ read_observer session.old pid (stepped session.old pid)) }
 {
     let mut texts = CallTexts::new();
     match session.fetch(pid, &mut texts) {
@@ -112,7 +112,7 @@ fn read_from(
     pid: u32,
 ) -> Result<Option<u16>, StepFault>
     ensures unchanged { states.new ≡ states.old }
-    ensures read { IfOk result (λ read. option_to_list read ≡ files_read visited.machine pid (stepped visited.machine pid)) }
+    ensures read { IfOk result (λ read. option_to_list read ≡ read_observer visited.machine pid (stepped visited.machine pid)) }
 {
     let VisitedState { machine, .. } = visited;
     let mut session = machine.into_session();
@@ -129,7 +129,7 @@ fn read_at(
     pid: u32,
 ) -> Result<Option<u16>, StepFault>
     ensures unchanged { states.new ≡ states.old }
-    ensures read { IfOk result (λ read. (f : Found) → slice_get states.old.found number ≡ Some f → option_to_list read ≡ files_read f.state pid (stepped f.state pid)) }
+    ensures read { IfOk result (λ read. (f : Found) → slice_get states.old.found number ≡ Some f → option_to_list read ≡ read_observer f.state pid (stepped f.state pid)) }
 {
     match states.at(alloc, number)? {
         Some(visited) => read_from(alloc, states, visited, pid),
@@ -151,7 +151,7 @@ pub(crate) fn read_of(
 ) -> Result<Option<u16>, StepFault>
     requires { option_map (λ f. f.state) (slice_get states.old.found number) ≡ Some parts.now }
     ensures unchanged { states.new ≡ states.old }
-    ensures read { IfOk result (λ read. option_to_list read ≡ files_read parts.now pid (stepped parts.now pid)) }
+    ensures read { IfOk result (λ read. option_to_list read ≡ read_observer parts.now pid (stepped parts.now pid)) }
 {
     let mut texts = CallTexts::new();
     match parts.processes().fetch(pid, &mut texts) {

@@ -1,6 +1,6 @@
 //! The reasons of findings.
 ghost use Rattle.std.specs.Prelude.{◌≡◌, IfOk, Some, option_map, true};
-ghost use Rattle.pv_exposure.specs.Stored.{IsVisit, located_in};
+ghost use Rattle.pv_exposure.specs.Stored.{IsVisit, located_in_visit};
 ghost use Rattle.pv_model.specs.Machine.{first_of, is_file_at, leaks, program_of, Process, process_at};
 ghost use Rattle.pv_model_questions.specs.Exposure.{edit_reason, leak_reason, peer_reason, read_reason, reason_by};
 
@@ -9,17 +9,17 @@ use crate::files::StateFiles;
 use pv_audit::leak;
 use pv_model::Why;
 use pv_model_questions::{EditReason, FindingKind};
+use pv_named_files::FirstPaths;
 use pv_programs::answers::{Decimal, Fragment, Plain, text_of};
 use pv_programs::calls_state::Parts;
 use pv_streams::{Failed, Sink};
-use pv_tree::Tree;
 use std::alloc::{AllocError, Global};
 
 /// A live process of a visited state.
 #[derive(Clone, Copy)]
 pub(crate) struct Visit<'a> {
-    /// The first tree.
-    pub(crate) first: &'a Tree,
+    /// The first tree, and the files that findings are about.
+    pub(crate) paths: &'a FirstPaths<'a>,
     /// The state.
     pub(crate) parts: &'a Parts,
     /// The files of the state.
@@ -128,7 +128,7 @@ fn own_leak(visit: &Visit<'_>, node: u16) -> Option<Why>
 fn leak_reason(alloc: Global, visit: &Visit<'_>, node: u16) -> Result<Option<Vec<u8>>, AllocError>
     requires visit { IsVisit visit.now }
     requires file { is_file_at visit.now.parts.now.tree node ≡ true }
-    ensures { IfOk result (λ reason. (p : Process) → process_at visit.now.parts.now visit.now.pid ≡ Some p → option_map (λ t. t.items) reason ≡ leak_reason program_of (located_in visit.now p) node) }
+    ensures { IfOk result (λ reason. (p : Process) → process_at visit.now.parts.now visit.now.pid ≡ Some p → option_map (λ t. t.items) reason ≡ leak_reason program_of (located_in_visit visit.now p) node) }
 {
     match own_leak(visit, node) {
         Some(why) => Ok(Some(text_of(alloc, &(Plain(b", "), WhyText(why)))?)),
@@ -140,7 +140,7 @@ fn leak_reason(alloc: Global, visit: &Visit<'_>, node: u16) -> Result<Option<Vec
 fn peer_reason(alloc: Global, visit: &Visit<'_>, node: u16) -> Result<Option<Vec<u8>>, AllocError>
     requires visit { IsVisit visit.now }
     requires file { is_file_at visit.now.parts.now.tree node ≡ true }
-    ensures { IfOk result (λ reason. (p : Process) → process_at visit.now.parts.now visit.now.pid ≡ Some p → option_map (λ t. t.items) reason ≡ peer_reason program_of (located_in visit.now p) node) }
+    ensures { IfOk result (λ reason. (p : Process) → process_at visit.now.parts.now visit.now.pid ≡ Some p → option_map (λ t. t.items) reason ≡ peer_reason program_of (located_in_visit visit.now p) node) }
 {
     let Some((pid, why)) = visit.files.leak(node) else {
         return Ok(None);
@@ -161,7 +161,7 @@ fn peer_reason(alloc: Global, visit: &Visit<'_>, node: u16) -> Result<Option<Vec
 fn edit_reason(alloc: Global, visit: &Visit<'_>, node: u16) -> Result<Option<Vec<u8>>, AllocError>
     requires visit { IsVisit visit.now }
     requires file { is_file_at visit.now.parts.now.tree node ≡ true }
-    ensures { IfOk result (λ reason. (p : Process) → process_at visit.now.parts.now visit.now.pid ≡ Some p → option_map (λ t. t.items) reason ≡ edit_reason program_of (located_in visit.now p) node) }
+    ensures { IfOk result (λ reason. (p : Process) → process_at visit.now.parts.now visit.now.pid ≡ Some p → option_map (λ t. t.items) reason ≡ edit_reason program_of (located_in_visit visit.now p) node) }
 {
     match edit(visit.parts, visit.pid, node) {
         Some(why) => Ok(Some(text_of(alloc, &(Plain(b", "), EditText(why)))?)),
@@ -172,7 +172,7 @@ fn edit_reason(alloc: Global, visit: &Visit<'_>, node: u16) -> Result<Option<Vec
 // Returns no text if the next step of the process reads a file.
 fn read_reason(alloc: Global, visit: &Visit<'_>, node: u16) -> Option<Vec<u8>>
     requires { IsVisit visit.now }
-    ensures { (p : Process) → process_at visit.now.parts.now visit.now.pid ≡ Some p → option_map (λ t. t.items) result ≡ read_reason program_of (located_in visit.now p) node }
+    ensures { (p : Process) → process_at visit.now.parts.now visit.now.pid ≡ Some p → option_map (λ t. t.items) result ≡ read_reason program_of (located_in_visit visit.now p) node }
 {
     match visit.read {
         Some(read) if read == node => Some(Vec::new(alloc)),
@@ -193,7 +193,7 @@ pub(crate) fn reason_of(
 ) -> Result<Option<Vec<u8>>, AllocError>
     requires visit { IsVisit visit.now }
     requires file { is_file_at visit.now.parts.now.tree node ≡ true }
-    ensures { IfOk result (λ reason. (p : Process) → process_at visit.now.parts.now visit.now.pid ≡ Some p → option_map (λ t. t.items) reason ≡ reason_by program_of (located_in visit.now p) node kind) }
+    ensures { IfOk result (λ reason. (p : Process) → process_at visit.now.parts.now visit.now.pid ≡ Some p → option_map (λ t. t.items) reason ≡ reason_by program_of (located_in_visit visit.now p) node kind) }
 {
     match kind {
         FindingKind::Leak => leak_reason(alloc, visit, node),

@@ -1,16 +1,19 @@
 //! The lines of programs, in memory.
 ghost use Rattle.std.specs.Prelude.{◌≡◌, ◌++◌, ◌∷◌, [], bytes_eq, codes, flat_map, if◌then◌else◌, map, IfOk, OnOk, Some};
 ghost use Rattle.std.specs.List.{list_any};
-ghost use Rattle.pv_exposure.specs.Answers.{lines_of_all};
+ghost use Rattle.pv_exposure.specs.Answers.{all_exposed_lines};
 ghost use Rattle.pv_exposure.specs.Collected.{all_lines_recorded_of, all_recorded_lines, recorded_lines_by, recorded_text, last_recorded, lines_of_exposed, lines_recorded_of, ranges_recorded};
 ghost use Rattle.pv_exposure.specs.Stored.{all_recorded, first_at, recorded_in, recorded_of_file};
 ghost use Rattle.pv_model.specs.Machine.{witness_text, answer_bytes, answer_line, answer_line_bytes, counted_from};
+ghost use Rattle.pv_model_questions.specs.Accesses.{kept_files};
 ghost use Rattle.pv_model_questions.specs.Exposure.{kind_word, safe_line};
+ghost use Rattle.pv_named_files.specs.FirstPaths.{files_given, first_tree};
 
 use crate::findings::StoredFinding;
 use crate::programs::ProgramRecord;
 use crate::ranges::append_ranges;
 use pv_model_questions::FindingKind;
+use pv_named_files::FirstPaths;
 use pv_named_files::step_cache::tables::Keys;
 use pv_programs::answers::{Line, NodeBrief, Plain, append};
 use pv_programs::append_program_line;
@@ -227,17 +230,19 @@ fn append_safe(out: &mut Gathered, tree: &Tree, files: &[u16]) -> Result<(), All
     Ok(())
 }
 
-// Appends the lines of safe files, if the search is complete.
+// Appends the lines of those safe files that are kept, if the search is complete.
 fn append_safe_if(
+    alloc: Global,
     out: &mut Gathered,
-    tree: &Tree,
+    paths: &FirstPaths<'_>,
     complete: bool,
     files: &[u16],
 ) -> Result<(), AllocError>
-    ensures { OnOk result (out.new.bytes.items ≡ out.old.bytes.items ++ answer_bytes (if complete then map (safe_line tree.now.tree) files.now else [])) }
+    ensures { OnOk result (out.new.bytes.items ≡ out.old.bytes.items ++ answer_bytes (if complete then map (safe_line (first_tree paths.now)) (kept_files (files_given paths.now) (first_tree paths.now) files.now) else [])) }
 {
     if complete {
-        return append_safe(out, tree, files);
+        let kept = paths.kept(alloc, paths.tree, files)?;
+        return append_safe(out, paths.tree, &kept);
     }
     Ok(())
 }
@@ -246,30 +251,30 @@ fn append_safe_if(
 fn append_program(
     alloc: Global,
     out: &mut Gathered,
-    tree: &Tree,
+    paths: &FirstPaths<'_>,
     complete: bool,
     number: usize,
     program: &ProgramRecord,
 ) -> Result<(), AllocError>
-    ensures { OnOk result (out.new.bytes.items ≡ out.old.bytes.items ++ answer_bytes (lines_of_exposed tree.now.tree complete (number, program.now))) }
+    ensures { OnOk result (out.new.bytes.items ≡ out.old.bytes.items ++ answer_bytes (lines_of_exposed (files_given paths.now) (first_tree paths.now) complete (number, program.now))) }
 {
-    append_program_line(alloc, out, tree, number, program.program())?;
+    append_program_line(alloc, out, paths.tree, number, program.program())?;
     append_kinds(alloc, out, program)?;
-    append_safe_if(out, tree, complete, program.safe())
+    append_safe_if(alloc, out, paths, complete, program.safe())
 }
 
 // Appends the lines of programs, numbered from 1.
 fn append_programs(
     alloc: Global,
     out: &mut Gathered,
-    tree: &Tree,
+    paths: &FirstPaths<'_>,
     complete: bool,
     programs: &[ProgramRecord],
 ) -> Result<(), AllocError>
-    ensures { OnOk result (out.new.bytes.items ≡ out.old.bytes.items ++ answer_bytes (flat_map (lines_of_exposed tree.now.tree complete) (counted_from 1 programs.now))) }
+    ensures { OnOk result (out.new.bytes.items ≡ out.old.bytes.items ++ answer_bytes (flat_map (lines_of_exposed (files_given paths.now) (first_tree paths.now) complete) (counted_from 1 programs.now))) }
 {
     for (k, program) in programs.iter().enumerate() {
-        append_program(alloc, out, tree, complete, k + 1, program)?;
+        append_program(alloc, out, paths, complete, k + 1, program)?;
     }
     Ok(())
 }
@@ -282,15 +287,15 @@ fn append_programs(
 pub(crate) fn text_of_all(
     alloc: Global,
     kind: SearchKind,
-    tree: &Tree,
+    paths: &FirstPaths<'_>,
     complete: bool,
     states: usize,
     programs: &[ProgramRecord],
 ) -> Result<Vec<u8>, AllocError>
-    ensures { IfOk result (λ text. text.items ≡ answer_bytes (lines_of_all kind tree.now.tree complete states programs.now)) }
+    ensures { IfOk result (λ text. text.items ≡ answer_bytes (all_exposed_lines kind (files_given paths.now) (first_tree paths.now) complete states programs.now)) }
 {
     let mut out = Gathered::new(alloc);
-    append_programs(alloc, &mut out, tree, complete, programs)?;
+    append_programs(alloc, &mut out, paths, complete, programs)?;
     match kind.write_count(&mut out, states, complete) {
         Ok(()) => Ok(out.bytes),
         Err(_) => Err(AllocError),

@@ -1,6 +1,6 @@
--- Lemmas of open files: Copies (of lists, element by element), Counts (with the numbers of their users), Keys (the records
--- of numbers, by their keys), Seen (maps whose values are viewed through a function).
-pub mod Copies
-pub mod Counts
-pub mod Keys
-pub mod Seen
+-- Lemmas of open files: ListCopies (of lists, element by element), OpenFileUsers (with the numbers of their users),
+-- RecordKeys (the records of numbers, by their keys), ViewedMaps (maps whose values are viewed through a function).
+pub mod ListCopies
+pub mod OpenFileUsers
+pub mod RecordKeys
+pub mod ViewedMaps

@@ -22,8 +22,8 @@ abbrev pub with_opened : Counted → ℕ → OpenFile → Counted
 with_opened c k f = record { files = with_number c.files k f; users = slice_set c.users k 1 }
 
 -- with another open file under a number
-abbrev pub with_file : Counted → ℕ → OpenFile → Counted
-with_file c k f = record c { files = with_number c.files k f }
+abbrev pub counted_with_file : Counted → ℕ → OpenFile → Counted
+counted_with_file c k f = record c { files = with_number c.files k f }
 
 -- with another number of users
 abbrev pub with_users : Counted → ℕ → ℕ → Counted

@@ -12,6 +12,6 @@ descriptor_under ds (pos d) = at_number ds d
 descriptor_under ds (negsuc d) = None
 
 -- whether execve closes it
-abbrev pub is_marked : Option Descriptor → Bool
-is_marked None = false
-is_marked (Some d) = d.close_on_exec
+abbrev pub closes_on_execve : Option Descriptor → Bool
+closes_on_execve None = false
+closes_on_execve (Some d) = d.close_on_exec

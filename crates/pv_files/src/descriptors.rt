@@ -3,8 +3,8 @@ ghost use Rattle.std.specs.Prelude.{◌≡◌, ◌<◌, ◌↔◌, length, IfOk,
 ghost use Rattle.std.specs.Option.{option_and_then};
 ghost use Rattle.pv_model.specs.Machine.{without_descriptor, at_number, with_number, without_number, least_free};
 ghost use Rattle.pv_model.specs.Calls.Processes.{descriptor_after_exec};
-ghost use Rattle.pv_files.specs.DescriptorSlots.{descriptor_of, descriptors_of};
-ghost use Rattle.pv_files.specs.Descriptors.{no_descriptors, descriptor_under, is_marked};
+ghost use Rattle.pv_files.specs.DescriptorSlots.{slot_descriptor, descriptors_of};
+ghost use Rattle.pv_files.specs.Descriptors.{no_descriptors, descriptor_under, closes_on_execve};
 
 use crate::slots::first_free;
 use pv_model::Errno;
@@ -32,27 +32,27 @@ impl Model for Descriptors {
     ghost Value = { Numbered Descriptor };
 
     ghost use Rattle.std.specs.Prelude.{◌≡◌, length};
-    ghost use Rattle.pv_files.specs.DescriptorSlots.{descriptors_of, slots_of, slots_of-descriptors_of};
+    ghost use Rattle.pv_files.specs.DescriptorSlots.{descriptors_of, process_slots, process_slots-descriptors_of};
 
     ghost view = { λ t. descriptors_of t.slots };
 
     ghost invariant = { λ t. length t.slots ≡ DESCRIPTORS };
 
-    ghost inverse = { λ v. record { slots = slots_of v } };
+    ghost inverse = { λ v. record { slots = process_slots v } };
 
-    ghost inverse_ok = { λ t _ i. record { slots = slots_of-descriptors_of t.slots i } };
+    ghost inverse_ok = { λ t _ i. record { slots = process_slots-descriptors_of t.slots i } };
 }
 
 // Returns the descriptor with index `k`.
 fn at_index(slots: &[Option<Descriptor>], k: usize) -> Option<Descriptor>
-    ensures { option_map descriptor_of result ≡ at_number (descriptors_of slots.now) k }
+    ensures { option_map slot_descriptor result ≡ at_number (descriptors_of slots.now) k }
 {
     if k < slots.len() { slots[k] } else { None }
 }
 
 // Returns the descriptor with the number that a call passes.
 fn lookup(slots: &[Option<Descriptor>], d: i32) -> Option<Descriptor>
-    ensures { option_map descriptor_of result ≡ descriptor_under (descriptors_of slots.now) d }
+    ensures { option_map slot_descriptor result ≡ descriptor_under (descriptors_of slots.now) d }
 {
     match usize::try_from(d) {
         Ok(k) => at_index(slots, k),
@@ -80,7 +80,7 @@ fn clear(slots: &mut [Option<Descriptor>], d: i32)
 
 // Returns the descriptor, or `None` if execve(2) closes it.
 fn unless_marked(slot: Option<Descriptor>) -> Option<Descriptor>
-    ensures { option_map descriptor_of result ≡ descriptor_after_exec (option_map descriptor_of slot) }
+    ensures { option_map slot_descriptor result ≡ descriptor_after_exec (option_map slot_descriptor slot) }
 {
     match slot {
         Some(descriptor) if descriptor.close_on_exec => None,
@@ -196,7 +196,7 @@ impl Descriptors {
 
     /// Returns whether `d` is a descriptor that execve(2) closes.
     pub fn marked(&self, d: u8) -> bool
-        ensures { result ≡ is_marked (at_number self.now d) }
+        ensures { result ≡ closes_on_execve (at_number self.now d) }
     {
         match at_index(&self.slots, d as usize) {
             Some(descriptor) => descriptor.close_on_exec,

@@ -2,7 +2,7 @@
 ghost use Rattle.std.specs.Prelude.{◌≡◌, ◌+◌, ◌-◌, ◌<◌, ◌≤◌, ◌↔◌, is_some, length, None, Some, OnSome, IfSome, IfNone, IfOk, OnErr, IfErr, IsSome, IsTrue, MatchOption, option_map, slice_index, slice_set, position, is_none};
 ghost use Rattle.std.specs.Option.{option_copied};
 ghost use Rattle.pv_model.specs.Machine.{at_number, without_number, least_free};
-ghost use Rattle.pv_files.specs.Counted.{IsCounted, no_files, with_file, with_users, with_opened};
+ghost use Rattle.pv_files.specs.Counted.{IsCounted, no_files, counted_with_file, with_users, with_opened};
 ghost use Rattle.pv_files.specs.Slots.{AreKeys, file_of, users_of, record_at, slots_under, where_used};
 
 use crate::opened::Opened;
@@ -262,7 +262,7 @@ impl OpenFiles {
     /// Sets the offset of an open file, for all its users.
     pub fn set_offset(&mut self, file: usize, offset: u32)
         requires { IsSome (at_number self.old.files file) }
-        ensures { option_map (λ f. with_file self.old file (record f { offset = offset }))
+        ensures { option_map (λ f. counted_with_file self.old file (record f { offset = offset }))
             (at_number self.old.files file) ≡ Some self.new }
     {
         self.records[self.keys[file]].put_offset(offset);
@@ -280,7 +280,7 @@ impl OpenFiles {
     /// Sets the last name that getdents(2) returned through an open file.
     pub fn set_last_name(&mut self, file: usize, name: Name)
         requires { IsSome (at_number self.old.files file) }
-        ensures { option_map (λ f. with_file self.old file (record f { listed = Some name }))
+        ensures { option_map (λ f. counted_with_file self.old file (record f { listed = Some name }))
             (at_number self.old.files file) ≡ Some self.new }
     {
         self.records[self.keys[file]].put_last_name(name);

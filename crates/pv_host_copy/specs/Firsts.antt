@@ -8,8 +8,8 @@ use Rattle.pv_host_copy.specs.declared.skipped.Skipped.{Skipped}
 use Rattle.pv_host_copy.specs.declared.fault.SkipReason.{SkipReason}
 use Rattle.pv_image_manifest.specs.Paths.{is_path}
 
-abbrev pub first_pair : First → Identity × Bytes
-first_pair first = (first.identity, first.path.items)
+abbrev pub identity_and_path : First → Identity × Bytes
+identity_and_path first = (first.identity, first.path.items)
 
 -- its path is one of an entry
 abbrev pub has_path : Version → First → Bool

@@ -6,9 +6,9 @@ use Rattle.pv_model.specs.Machine.{Bytes, Entry, make, further_name, greatest_le
 use Rattle.pv_host_copy.specs.declared.entry.Identity.{Identity}
 use Rattle.pv_host_copy.specs.declared.fault.SkipReason.{SkipReason}
 use Rattle.pv_host_copy.specs.declared.fault.SkipReason.TheVariants.{Name, Size, Text}
-use Rattle.pv_host_copy.specs.Hosts.{HostEntries, no_more, a_directory, a_file, a_link, an_other, a_replaced, is_same}
+use Rattle.pv_host_copy.specs.Hosts.{HostEntries, no_more, with_directory, with_file_entry, with_link, with_other, with_replaced, same_identity}
 use Rattle.pv_image_manifest.specs.Paths.{is_path}
-use Rattle.pv_host_copy.specs.Paths.{below}
+use Rattle.pv_host_copy.specs.Paths.{path_under}
 
 -- the entries so far, numbered from 1, the first path of each file and symbolic link among them, and the skipped paths
 pub record Gathered : Type 0 where
@@ -32,9 +32,9 @@ abbrev pub and_first_entry : Bytes → Identity → Entry → Gathered → Gathe
 and_first_entry path identity entry g = record (and_entry entry g) { firsts = g.firsts ++ (identity, path) ∷ [] }
 
 -- the first path of a file or symbolic link, if there is one
-abbrev pub first_of : Identity → List (Identity × Bytes) → Option Bytes
-first_of identity [] = None
-first_of identity (first ∷ firsts) = if is_same first.0 identity then Some first.1 else first_of identity firsts
+abbrev pub first_path_of : Identity → List (Identity × Bytes) → Option Bytes
+first_path_of identity [] = None
+first_path_of identity (first ∷ firsts) = if same_identity first.0 identity then Some first.1 else first_path_of identity firsts
 
 -- a file or symbolic link with another path gets this name too; otherwise it is created, or skipped if an image cannot
 -- contain it
@@ -46,7 +46,7 @@ module _ (v : Version) where
   -- with a file or symbolic link at a path, if the path is valid
   abbrev pub and_linked : Bytes → Identity → Node → Bool → SkipReason → Gathered → Gathered
   and_linked path identity node has_place why g =
-      if is_path v path then and_node path identity node has_place why g (first_of identity g.firsts) else and_skipped path Name g
+      if is_path v path then and_node path identity node has_place why g (first_path_of identity g.firsts) else and_skipped path Name g
 
   abbrev pub and_file : Bytes → Identity → Bool → Bytes → Gathered → Gathered
   and_file path identity executable bytes g =
@@ -62,15 +62,15 @@ module _ (v : Version) where
   -- with the entries of the directory at a path
   abbrev pub gather : Bytes → HostEntries → Gathered → Gathered
   gather path no_more g = g
-  gather path (a_directory name inside rest) g = gather path rest (and_directory (below path name) (gather (below path name) inside) g)
-  gather path (a_file name identity executable bytes rest) g = gather path rest (and_file (below path name) identity executable bytes g)
-  gather path (a_link name identity text rest) g = gather path rest (and_link (below path name) identity text g)
-  gather path (an_other name why rest) g = gather path rest (and_skipped (below path name) why g)
-  gather path (a_replaced name rest) g = gather path rest g
+  gather path (with_directory name inside rest) g = gather path rest (and_directory (path_under path name) (gather (path_under path name) inside) g)
+  gather path (with_file_entry name identity executable bytes rest) g = gather path rest (and_file (path_under path name) identity executable bytes g)
+  gather path (with_link name identity text rest) g = gather path rest (and_link (path_under path name) identity text g)
+  gather path (with_other name why rest) g = gather path rest (and_skipped (path_under path name) why g)
+  gather path (with_replaced name rest) g = gather path rest g
 
   -- the entries of a host directory
-  abbrev pub entries_of : HostEntries → List (ℕ × Entry)
-  entries_of host = (gather [] host nothing_gathered).entries
+  abbrev pub host_entries_of : HostEntries → List (ℕ × Entry)
+  host_entries_of host = (gather [] host nothing_gathered).entries
 
   -- the skipped paths of a host directory
   abbrev pub left_out : HostEntries → List (Bytes × SkipReason)

@@ -8,9 +8,9 @@ use Rattle.pv_laws_worked.specs.Bundles.{bundles_on_literals}
 use Rattle.pv_laws_worked.specs.Stated.{Stated}
 use Rattle.pv_host_copy.specs.declared.entry.Identity.{Identity}
 use Rattle.pv_host_copy.specs.declared.fault.SkipReason.TheVariants.{Kind}
-use Rattle.pv_host_copy.specs.Gathered.{entries_of}
-use Rattle.pv_host_copy.specs.Given.{add_missing, beside}
-use Rattle.pv_host_copy.specs.Hosts.{HostEntries, no_more, a_directory, a_file, a_link, an_other, a_replaced}
+use Rattle.pv_host_copy.specs.Gathered.{host_entries_of}
+use Rattle.pv_host_copy.specs.Given.{add_missing, merged_entries}
+use Rattle.pv_host_copy.specs.Hosts.{HostEntries, no_more, with_directory, with_file_entry, with_link, with_other, with_replaced}
 
 abbrev node : ℕ → Identity
 node n = record { device = 1; inode = n }
@@ -18,10 +18,10 @@ node n = record { device = 1; inode = n }
 -- a directory with a file that has two names, a directory with a file, a socket, and a link
 abbrev host : HostEntries
 host =
-    a_directory (codes "etc") (a_file (codes "key") (node 5) false (codes "old") (a_file (codes "motd") (node 6) false (codes "hello") no_more))
-    (a_file (codes "key") (node 5) false (codes "old")
-    (a_directory (codes "lib") (a_file (codes "inside") (node 7) false (codes "so") no_more)
-    (a_link (codes "link") (node 8) (codes "etc/key") (an_other (codes "socket") Kind no_more))))
+    with_directory (codes "etc") (with_file_entry (codes "key") (node 5) false (codes "old") (with_file_entry (codes "motd") (node 6) false (codes "hello") no_more))
+    (with_file_entry (codes "key") (node 5) false (codes "old")
+    (with_directory (codes "lib") (with_file_entry (codes "inside") (node 7) false (codes "so") no_more)
+    (with_link (codes "link") (node 8) (codes "etc/key") (with_other (codes "socket") Kind no_more))))
 
 -- a source with a file in that directory, and with files in place of the other directory and of the socket
 abbrev given : List (ℕ × Entry)
@@ -34,9 +34,9 @@ given =
     ∷ []
 
 -- the first name of the file, the other directory and the socket are replaced; the directory of both is not
-pub some_entries_are_replaced : beside given [] host ≡
-    a_directory (codes "etc") (a_replaced (codes "key") (a_file (codes "motd") (node 6) false (codes "hello") no_more))
-    (a_file (codes "key") (node 5) false (codes "old") (a_replaced (codes "lib") (a_link (codes "link") (node 8) (codes "etc/key") (a_replaced (codes "socket") no_more))))
+pub some_entries_are_replaced : merged_entries given [] host ≡
+    with_directory (codes "etc") (with_replaced (codes "key") (with_file_entry (codes "motd") (node 6) false (codes "hello") no_more))
+    (with_file_entry (codes "key") (node 5) false (codes "old") (with_replaced (codes "lib") (with_link (codes "link") (node 8) (codes "etc/key") (with_replaced (codes "socket") no_more))))
 some_entries_are_replaced = refl
 
 -- the manifest of both: the second name of the host's file is its first then
@@ -57,13 +57,13 @@ small = empty_tree 20 9
 
 -- the tree, in a small image, is that of this manifest
 abbrev merged : Result Tree ManifestFault
-merged = and_entries (add_entries (entries_of V1 (beside given [] host)) small) (add_missing given)
+merged = and_entries (add_entries (host_entries_of V1 (merged_entries given [] host)) small) (add_missing given)
 
 pub both_are_in_the_tree : merged ≡ add_entries both small
 unfolding bundles_on_literals
 both_are_in_the_tree = refl
 
 -- every worked example holds
-pub record AllWorked : Type 0 where
+pub record AllGivenWorked : Type 0 where
   pub some_entries_are_replaced : Stated some_entries_are_replaced
   pub both_are_in_the_tree : Stated both_are_in_the_tree

@@ -21,21 +21,21 @@ refused_ending Source = codes ": source\n"
 refused_ending Room = codes ": room\n"
 
 -- the start of the line of a path
-abbrev pub line_front : Bytes → Bytes
-line_front path = codes "pvsim: import: " ++ quote (listed_path path)
+abbrev pub path_line_front : Bytes → Bytes
+path_line_front path = codes "pvsim: import: " ++ quote (listed_path path)
 
 -- the whole line
-abbrev pub path_line : Bytes → Bytes → Bytes
-path_line path end = line_front path ++ end
+abbrev pub import_path_line : Bytes → Bytes → Bytes
+import_path_line path end = path_line_front path ++ end
 
 -- the line of a skipped path
 abbrev pub skipped_line : Bytes × SkipReason → Bytes
-skipped_line (path, why) = path_line path (ending why)
+skipped_line (path, why) = import_path_line path (ending why)
 
 -- the line of a path that could not be added
 abbrev pub refused_line : Bytes × EntryFault → Bytes
-refused_line (path, fault) = path_line path (refused_ending fault)
+refused_line (path, fault) = import_path_line path (refused_ending fault)
 
 -- the line of a path whose node was not created
-abbrev pub unmade_line : Bytes → Bytes
-unmade_line path = codes "pvsim: export: " ++ quote (listed_path path) ++ codes ": write\n"
+abbrev pub line_of_missing_node : Bytes → Bytes
+line_of_missing_node path = codes "pvsim: export: " ++ quote (listed_path path) ++ codes ": write\n"

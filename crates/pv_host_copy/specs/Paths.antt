@@ -3,5 +3,5 @@ use Rattle.std.specs.Prelude.{◌∷◌, ◌++◌}
 use Rattle.pv_model.specs.Machine.{Bytes}
 
 -- the path of a name in a directory; the path of the root is empty
-abbrev pub below : Bytes → Bytes → Bytes
-below path name = path ++ 47 ∷ name
+abbrev pub path_under : Bytes → Bytes → Bytes
+path_under path name = path ++ 47 ∷ name

@@ -4,6 +4,6 @@ use Rattle.std.specs.Global.{Vec}
 use Rattle.pv_model.specs.Machine.{Bytes}
 
 -- all bytes, or nothing if there are more than the limit
-abbrev pub IsValid : ℕ → Bytes → Option (Vec ℕ) → Type 0
-IsValid limit all None = limit < length all
-IsValid limit all (Some bytes) = (bytes.items ≡ all) × (length all ≤ limit)
+abbrev pub AreBytesWithin : ℕ → Bytes → Option (Vec ℕ) → Type 0
+AreBytesWithin limit all None = limit < length all
+AreBytesWithin limit all (Some bytes) = (bytes.items ≡ all) × (length all ≤ limit)

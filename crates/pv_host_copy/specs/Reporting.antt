@@ -6,7 +6,7 @@ use Rattle.pv_host_copy.specs.declared.entry.HostEntry.{HostEntry}
 use Rattle.pv_host_copy.specs.declared.entry.HostNode.{HostNode}
 use Rattle.pv_host_copy.specs.declared.entry.HostNode.TheVariants.{Directory, File, Link, Other, Replaced}
 use Rattle.pv_host_copy.specs.declared.fault.SkipReason.{SkipReason}
-use Rattle.pv_host_copy.specs.Hosts.{HostEntries, no_more, a_directory, a_file, a_link, an_other, a_replaced}
+use Rattle.pv_host_copy.specs.Hosts.{HostEntries, no_more, with_directory, with_file_entry, with_link, with_other, with_replaced}
 
 -- a directory is its remaining entries, and a reader is its remaining bytes
 module _ {D R : Type 0} (entries_of : D → Option HostEntries) (bytes_of : R → Option Bytes) where
@@ -36,14 +36,14 @@ module _ {D R : Type 0} (entries_of : D → Option HostEntries) (bytes_of : R �
   IsReplaced _ = ⊥
 
   -- the reported entry is the first, and the others remain
-  abbrev pub Reports : HostEntries → Option (HostEntry D R) → Option HostEntries → Type 0
-  Reports no_more None after = Unit {0}
-  Reports (a_directory name inside rest) (Some e) after = (e.name.items ≡ name) × IsDirectory inside e.node × (after ≡ Some rest)
-  Reports (a_file name identity executable bytes rest) (Some e) after = (e.name.items ≡ name) × IsFile identity executable bytes e.node × (after ≡ Some rest)
-  Reports (a_link name identity text rest) (Some e) after = (e.name.items ≡ name) × IsLink identity text e.node × (after ≡ Some rest)
-  Reports (an_other name why rest) (Some e) after = (e.name.items ≡ name) × IsOther why e.node × (after ≡ Some rest)
-  Reports (a_replaced name rest) (Some e) after = (e.name.items ≡ name) × IsReplaced e.node × (after ≡ Some rest)
-  Reports _ _ after = ⊥
+  abbrev pub ReportsEntry : HostEntries → Option (HostEntry D R) → Option HostEntries → Type 0
+  ReportsEntry no_more None after = Unit {0}
+  ReportsEntry (with_directory name inside rest) (Some e) after = (e.name.items ≡ name) × IsDirectory inside e.node × (after ≡ Some rest)
+  ReportsEntry (with_file_entry name identity executable bytes rest) (Some e) after = (e.name.items ≡ name) × IsFile identity executable bytes e.node × (after ≡ Some rest)
+  ReportsEntry (with_link name identity text rest) (Some e) after = (e.name.items ≡ name) × IsLink identity text e.node × (after ≡ Some rest)
+  ReportsEntry (with_other name why rest) (Some e) after = (e.name.items ≡ name) × IsOther why e.node × (after ≡ Some rest)
+  ReportsEntry (with_replaced name rest) (Some e) after = (e.name.items ≡ name) × IsReplaced e.node × (after ≡ Some rest)
+  ReportsEntry _ _ after = ⊥
 
 -- the number of entries in a reported directory is at most this
 abbrev pub left_below : {D R : Type 0} → (D → ℕ) → HostNode D R → ℕ
@@ -56,6 +56,6 @@ IsFewer left before None after = ⊤
 IsFewer left before (Some e) after = after + left_below left e.node < before
 
 -- the reported name comes after the previous one, in the order of bytes, and is the last one now
-abbrev pub IsNextName : {D R : Type 0} → Option Bytes → Option (HostEntry D R) → Option Bytes → Type 0
-IsNextName last None now = now ≡ last
-IsNextName last (Some e) now = IsTrue (is_past last e.name.items) × (now ≡ Some e.name.items)
+abbrev pub IsNextReportedName : {D R : Type 0} → Option Bytes → Option (HostEntry D R) → Option Bytes → Type 0
+IsNextReportedName last None now = now ≡ last
+IsNextReportedName last (Some e) now = IsTrue (is_past last e.name.items) × (now ≡ Some e.name.items)

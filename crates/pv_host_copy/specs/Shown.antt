@@ -4,16 +4,16 @@ use Rattle.pv_model.specs.declared.version.Version.{Version}
 use Rattle.pv_model.specs.Machine.{Bytes, Entry, greatest_length, Entries, Node, directory_node, file_node, link_node, Tree, root, node_at, entries_at, is_node}
 use Rattle.pv_host_copy.specs.declared.entry.Identity.{Identity}
 use Rattle.pv_host_copy.specs.Encoded.{encoded_entries}
-use Rattle.pv_host_copy.specs.Gathered.{entries_of, left_out}
-use Rattle.pv_host_copy.specs.Hosts.{HostEntries, no_more, a_directory, a_file, a_link, is_same}
+use Rattle.pv_host_copy.specs.Gathered.{host_entries_of, left_out}
+use Rattle.pv_host_copy.specs.Hosts.{HostEntries, no_more, with_directory, with_file_entry, with_link, same_identity}
 
 module _ (identity : ℕ → Identity) (t : Tree) where
   -- a name of a node before the rest of a directory; a directory has the entries inside
   abbrev pub and_shown : Bytes → ℕ → Option Node → (inside rest : HostEntries) → HostEntries
   and_shown name n None inside rest = rest
-  and_shown name n (Some (directory_node es)) inside rest = a_directory name inside rest
-  and_shown name n (Some (file_node executable bytes)) inside rest = a_file name (identity n) executable bytes rest
-  and_shown name n (Some (link_node text)) inside rest = a_link name (identity n) text rest
+  and_shown name n (Some (directory_node es)) inside rest = with_directory name inside rest
+  and_shown name n (Some (file_node executable bytes)) inside rest = with_file_entry name (identity n) executable bytes rest
+  and_shown name n (Some (link_node text)) inside rest = with_link name (identity n) text rest
 
   abbrev pub shown_entries : (ℕ → HostEntries) → Entries → HostEntries
   shown_entries inside [] = no_more
@@ -30,7 +30,7 @@ module _ (identity : ℕ → Identity) (t : Tree) where
 
 -- the host gives different identities to different nodes
 abbrev pub AreDistinct : (ℕ → Identity) → Type 0
-AreDistinct identity = (m n : ℕ) → is_same (identity m) (identity n) ≡ (m == n)
+AreDistinct identity = (m n : ℕ) → same_identity (identity m) (identity n) ≡ (m == n)
 
 -- an image of a version can contain each node of a tree
 pub record IsContainedIn (v : Version) (t : Tree) : Type 0 where
@@ -46,4 +46,4 @@ lines_from line (entry ∷ entries) = (line, entry) ∷ lines_from (line + 1) en
 abbrev pub ExportIsImported : Type 0
 ExportIsImported =
     (v : Version) (t : Tree) (identity : ℕ → Identity) → IsContainedIn v t → AreDistinct identity
-    → (entries_of v (shown identity t) ≡ lines_from 1 (encoded_entries t)) × (left_out v (shown identity t) ≡ [])
+    → (host_entries_of v (shown identity t) ≡ lines_from 1 (encoded_entries t)) × (left_out v (shown identity t) ≡ [])

@@ -8,22 +8,22 @@ use Rattle.pv_image_manifest.specs.declared.fault.EntryFault.{EntryFault}
 use Rattle.pv_host_copy.specs.declared.fault.HostFault.{HostFault}
 use Rattle.pv_host_copy.specs.declared.fault.HostFault.TheVariants.{Read, Memory}
 use Rattle.pv_host_copy.specs.declared.fault.Refused.{Refused}
-use Rattle.pv_image_manifest.specs.Adding.{fault_at}
-use Rattle.pv_host_copy.specs.Gathered.{entries_of}
-use Rattle.pv_host_copy.specs.Given.{add_missing, beside, is_present}
+use Rattle.pv_image_manifest.specs.Adding.{error_at_line}
+use Rattle.pv_host_copy.specs.Gathered.{host_entries_of}
+use Rattle.pv_host_copy.specs.Given.{add_missing, merged_entries, is_present}
 use Rattle.pv_host_copy.specs.Hosts.{HostEntries}
 use Rattle.pv_host_copy.specs.Imported.{IsTreeOf, greatest_tree}
 
 -- an error of a host as one of a copy
-abbrev pub stop_of : HostFault → CopyStop
-stop_of Read = stop.Read
-stop_of Memory = stop.Memory
+abbrev pub copy_stop_of : HostFault → CopyStop
+copy_stop_of Read = stop.Read
+copy_stop_of Memory = stop.Memory
 
 abbrev pub refused_pair : Refused → Bytes × EntryFault
 refused_pair refused = (refused.path.items, refused.fault)
 
 -- an entry cannot be added to the tree of those before it: its path and the reason
-pub record IsRefused (entries : List (ℕ × Entry)) (start : Tree) (refused : Bytes × EntryFault) : Type 0 where
+pub record IsEntryRefused (entries : List (ℕ × Entry)) (start : Tree) (refused : Bytes × EntryFault) : Type 0 where
   pub earlier : List (ℕ × Entry)
   pub line : ℕ
   pub entry : Entry
@@ -31,12 +31,12 @@ pub record IsRefused (entries : List (ℕ × Entry)) (start : Tree) (refused : B
   pub appears : entries ≡ earlier ++ (line, entry) ∷ later
   pub so_far : Tree
   pub added : add_entries earlier start ≡ Ok so_far
-  pub is_fault : add_entry line so_far entry ≡ Err (fault_at line refused.1)
+  pub is_fault : add_entry line so_far entry ≡ Err (error_at_line line refused.1)
   pub is_path : path_of entry ≡ refused.0
 
 -- an entry of a host directory cannot be added
 abbrev pub IsRefusedOf : Version → HostEntries → Bytes × EntryFault → Type 0
-IsRefusedOf v host refused = IsRefused (entries_of v host) (greatest_tree v) refused
+IsRefusedOf v host refused = IsEntryRefused (host_entries_of v host) (greatest_tree v) refused
 
 -- why a directory was not copied; if its entries are known, reading them does not fail
 abbrev pub StopsCopy : Version → Option HostEntries → CopyStop → Type 0
@@ -56,7 +56,7 @@ pub record IsGivenRefused (given : List (ℕ × Entry)) (start : Tree) (refused 
   pub so_far : Tree
   pub added : add_missing earlier start ≡ Ok so_far
   pub is_absent : is_present so_far entry ≡ false
-  pub is_fault : add_entry line so_far entry ≡ Err (fault_at line refused.1)
+  pub is_fault : add_entry line so_far entry ≡ Err (error_at_line line refused.1)
   pub is_path : path_of entry ≡ refused.0
 
 -- why the entries of a source were not added to a tree
@@ -66,12 +66,12 @@ StopsGiven given start stop.Memory = ⊤
 StopsGiven given start (stop.Entry refused) = IsGivenRefused given start (refused_pair refused)
 
 -- an entry of a host directory, or then one of a source, cannot be added
-abbrev pub IsRefusedBeside : Version → List (ℕ × Entry) → HostEntries → Bytes × EntryFault → Type 0
-IsRefusedBeside v given host refused =
-    IsRefusedOf v (beside given [] host) refused ⊎ ((t : Tree) × IsTreeOf v (beside given [] host) t × IsGivenRefused given t refused)
+abbrev pub IsRefusedWithSource : Version → List (ℕ × Entry) → HostEntries → Bytes × EntryFault → Type 0
+IsRefusedWithSource v given host refused =
+    IsRefusedOf v (merged_entries given [] host) refused ⊎ ((t : Tree) × IsTreeOf v (merged_entries given [] host) t × IsGivenRefused given t refused)
 
 -- why a directory was not copied with the entries of a source
 abbrev pub StopsMerge : Version → List (ℕ × Entry) → Option HostEntries → CopyStop → Type 0
 StopsMerge v given known stop.Read = known ≡ None
 StopsMerge v given known stop.Memory = ⊤
-StopsMerge v given known (stop.Entry refused) = IfSome known (λ host. IsRefusedBeside v given host (refused_pair refused))
+StopsMerge v given known (stop.Entry refused) = IfSome known (λ host. IsRefusedWithSource v given host (refused_pair refused))

@@ -7,26 +7,26 @@ use Rattle.pv_streams.specs.Sinks.{and_all, WritesPrefix}
 use Rattle.pv_host_copy.specs.declared.unpacking.ExportFault.{ExportFault}
 use Rattle.pv_host_copy.specs.declared.unpacking.ExportFault.TheVariants.{Read, Image, Memory, Make, WriteLine}
 use Rattle.pv_host_copy.specs.Exported.{MakesPrefix, MakesUpTo}
-use Rattle.pv_host_copy.specs.Lines.{unmade_line}
+use Rattle.pv_host_copy.specs.Lines.{line_of_missing_node}
 use Rattle.pv_host_copy.specs.Encoded.{and_all_made}
 
 -- the errors of reading an image; out of memory is never reported as an error of the image
-abbrev pub IsReadFault : ExportFault → Type 0
-IsReadFault Read = ⊤
-IsReadFault (Image ImageMemory) = ⊥
-IsReadFault (Image fault) = ⊤
-IsReadFault Memory = ⊤
-IsReadFault fault = ⊥
+abbrev pub IsReadError : ExportFault → Type 0
+IsReadError Read = ⊤
+IsReadError (Image ImageMemory) = ⊥
+IsReadError (Image fault) = ⊤
+IsReadError Memory = ⊤
+IsReadError fault = ⊥
 
 -- an error of the image is that of its bytes
-abbrev pub AppearsInImage : Result Tree ImageFault → ExportFault → Type 0
-AppearsInImage held (Image fault) = held ≡ Err fault
-AppearsInImage held fault = ⊤
+abbrev pub IsErrorOfImage : Result Tree ImageFault → ExportFault → Type 0
+IsErrorOfImage held (Image fault) = held ≡ Err fault
+IsErrorOfImage held fault = ⊤
 
 -- it was reported that a node was not created at a path
 abbrev pub ReportsUnmade : Bytes → (unreported : Option Bytes) → ExportFault → (reported : Option Bytes) → Type 0
-ReportsUnmade path unreported Make reported = reported ≡ and_all unreported (unmade_line path)
-ReportsUnmade path unreported WriteLine reported = WritesPrefix (unmade_line path) unreported reported
+ReportsUnmade path unreported Make reported = reported ≡ and_all unreported (line_of_missing_node path)
+ReportsUnmade path unreported WriteLine reported = WritesPrefix (line_of_missing_node path) unreported reported
 ReportsUnmade path unreported Memory reported = reported ≡ unreported
 ReportsUnmade path unreported fault reported = ⊥
 
@@ -34,6 +34,6 @@ ReportsUnmade path unreported fault reported = ⊥
 abbrev pub WritesExport : List Entry → (before after : Option (List Entry)) → (unreported : Option Bytes) → Result (Unit {0}) ExportFault → (reported : Option Bytes) → Type 0
 WritesExport entries before after unreported (Ok done) reported = (after ≡ and_all_made before entries) × (reported ≡ unreported)
 WritesExport entries before after unreported (Err Memory) reported = MakesPrefix entries before after × (reported ≡ unreported)
-WritesExport entries before after unreported (Err Make) reported = (path : Bytes) × MakesUpTo path entries before after × (reported ≡ and_all unreported (unmade_line path))
-WritesExport entries before after unreported (Err WriteLine) reported = (path : Bytes) × MakesUpTo path entries before after × WritesPrefix (unmade_line path) unreported reported
+WritesExport entries before after unreported (Err Make) reported = (path : Bytes) × MakesUpTo path entries before after × (reported ≡ and_all unreported (line_of_missing_node path))
+WritesExport entries before after unreported (Err WriteLine) reported = (path : Bytes) × MakesUpTo path entries before after × WritesPrefix (line_of_missing_node path) unreported reported
 WritesExport entries before after unreported (Err fault) reported = ⊥

@@ -11,35 +11,35 @@ use Rattle.pv_host_copy.specs.declared.fault.SkipReason.{SkipReason}
 use Rattle.pv_host_copy.specs.declared.image.ImportStop.{ImportStop}
 use Rattle.pv_host_copy.specs.declared.image.ImportStop.TheVariants.{Read, Memory, Refused, WriteLines, WriteImage}
 use Rattle.pv_host_copy.specs.Gathered.{left_out}
-use Rattle.pv_host_copy.specs.Given.{IsMergedTree, beside}
+use Rattle.pv_host_copy.specs.Given.{IsMergedTree, merged_entries}
 use Rattle.pv_host_copy.specs.Hosts.{HostEntries}
 use Rattle.pv_host_copy.specs.Lines.{refused_line, skipped_line}
-use Rattle.pv_host_copy.specs.Stopped.{IsRefusedBeside, refused_pair}
+use Rattle.pv_host_copy.specs.Stopped.{IsRefusedWithSource, refused_pair}
 
 -- the report grew by a line for each skipped path
 abbrev pub WritesSkipped : Version → List (ℕ × Entry) → HostEntries → Option Bytes → Option Bytes → Type 0
-WritesSkipped v given host unreported reported = reported ≡ and_all unreported (flat_map skipped_line (left_out v (beside given [] host)))
+WritesSkipped v given host unreported reported = reported ≡ and_all unreported (flat_map skipped_line (left_out v (merged_entries given [] host)))
 
 -- the report grew by a prefix of these lines
 abbrev pub BeginsLeftOut : Version → List (ℕ × Entry) → HostEntries → Option Bytes → Option Bytes → Type 0
-BeginsLeftOut v given host unreported reported = WritesPrefix (flat_map skipped_line (left_out v (beside given [] host))) unreported reported
+BeginsLeftOut v given host unreported reported = WritesPrefix (flat_map skipped_line (left_out v (merged_entries given [] host))) unreported reported
 
 -- the report grew by the line of a path that could not be added
 pub record ReportsRefused (v : Version) (given : List (ℕ × Entry)) (host : HostEntries) (unreported reported : Option Bytes) : Type 0 where
   pub refused : Bytes × EntryFault
-  pub is_refused : IsRefusedBeside v given host refused
+  pub is_refused : IsRefusedWithSource v given host refused
   pub lines : reported ≡ and_all unreported (refused_line refused)
 
 -- the report grew by a prefix of that line
 pub record BeginsRefused (v : Version) (given : List (ℕ × Entry)) (host : HostEntries) (unreported reported : Option Bytes) : Type 0 where
   pub refused : Bytes × EntryFault
-  pub is_refused : IsRefusedBeside v given host refused
+  pub is_refused : IsRefusedWithSource v given host refused
   pub lines : WritesPrefix (refused_line refused) unreported reported
 
 -- some paths were skipped although skipping is not allowed, and were reported
 pub record ReportsUnskipped (v : Version) (given : List (ℕ × Entry)) (skips : Bool) (host : HostEntries) (unreported reported : Option Bytes) : Type 0 where
   pub stays : skips ≡ false
-  pub some : left_out v (beside given [] host) ≢ []
+  pub some : left_out v (merged_entries given [] host) ≢ []
   pub lines : WritesSkipped v given host unreported reported
 
 -- nothing of the image was written, unless a write of the image failed
@@ -59,7 +59,7 @@ LeavesLines v given skips known WriteImage unreported reported = IfSome known (�
 -- allowed; or the import failed
 abbrev pub Imports : Version → List (ℕ × Entry) → Bool → Option HostEntries → Result (Unit {0}) ImportStop → (before after unreported reported : Option Bytes) → Type 0
 Imports v given skips known (Ok done) before after unreported reported =
-    IfSome known (λ host. WritesImageOf (IsMergedTree v given host) before after × WritesSkipped v given host unreported reported × (skips ≡ false → left_out v (beside given [] host) ≡ []))
+    IfSome known (λ host. WritesImageOf (IsMergedTree v given host) before after × WritesSkipped v given host unreported reported × (skips ≡ false → left_out v (merged_entries given [] host) ≡ []))
 Imports v given skips known (Err stop) before after unreported reported = LeavesImage v given known stop before after × LeavesLines v given skips known stop unreported reported
 
 -- ---- step by step
@@ -72,7 +72,7 @@ ReportsPairs pairs skips unreported (Err Refused) reported = (reported ≡ and_a
 ReportsPairs pairs skips unreported (Err WriteLines) reported = WritesPrefix (flat_map skipped_line pairs) unreported reported
 ReportsPairs pairs skips unreported (Err stop) reported = ⊥
 
--- why a directory was not copied was reported, if the reason requires a line
+-- the reason why a directory was not copied was reported, if it requires a line
 abbrev pub ReportsStop : CopyStop → Option Bytes → ImportStop → Option Bytes → Type 0
 ReportsStop copy.Read unreported stop reported = (stop ≡ Read) × (reported ≡ unreported)
 ReportsStop copy.Memory unreported stop reported = (stop ≡ Memory) × (reported ≡ unreported)

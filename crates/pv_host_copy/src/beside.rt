@@ -1,8 +1,8 @@
-//! A host directory beside the entries of a source.
+//! A host directory merged with the entries of a source.
 ghost use Rattle.std.specs.Prelude.{◌≡◌, map, option_map};
-ghost use Rattle.pv_host_copy.specs.Beside.{node_beside};
-ghost use Rattle.pv_host_copy.specs.BesideOrder.{ordered-beside};
-ghost use Rattle.pv_host_copy.specs.Given.{beside};
+ghost use Rattle.pv_host_copy.specs.Beside.{merged_node};
+ghost use Rattle.pv_host_copy.specs.BesideOrder.{ordered-merged};
+ghost use Rattle.pv_host_copy.specs.Given.{merged_entries};
 ghost use Rattle.pv_image_manifest.specs.Entries.{entry_of_line};
 
 use crate::directory::HostDirectory;
@@ -30,7 +30,7 @@ fn node_beside<'a, D: HostDirectory>(
     path: Vec<u8>,
     node: HostNode<D, D::Reader>,
 ) -> HostNode<Beside<'a, D>, D::Reader>
-    ensures { result ≡ node_beside given.entry path node }
+    ensures { result ≡ merged_node given.entry path node }
 {
     match node {
         HostNode::Directory(directory) => {
@@ -76,13 +76,13 @@ fn node_beside<'a, D: HostDirectory>(
 impl<'a, D: HostDirectory> HostDirectory for Beside<'a, D> {
     type Reader = D::Reader;
 
-    ghost rest = { λ s. option_map (beside (map entry_of_line s.given.now) s.path.items) (D.rest s.directory) };
+    ghost rest = { λ s. option_map (merged_entries (map entry_of_line s.given.now) s.path.items) (D.rest s.directory) };
 
     ghost last = { λ s. D.last s.directory };
 
     ghost left = { λ s. D.left s.directory };
 
-    ghost ascends = { λ s. ordered-beside (map entry_of_line s.given.now) s.path.items (D.last s.directory) (D.rest s.directory) (D.ascends s.directory) };
+    ghost ascends = { λ s. ordered-merged (map entry_of_line s.given.now) s.path.items (D.last s.directory) (D.rest s.directory) (D.ascends s.directory) };
 
     fn next(
         &mut self,

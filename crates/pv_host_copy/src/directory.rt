@@ -1,7 +1,7 @@
 //! Directories of a host.
 ghost use Rattle.std.specs.Prelude.{◌≢◌, ℕ, List, Option, Err, IfOk, IfSome, IsSome, IsTrue};
 ghost use Rattle.pv_host_copy.specs.Hosts.{HostEntries, is_ordered};
-ghost use Rattle.pv_host_copy.specs.Reporting.{IsFewer, IsNextName, Reports};
+ghost use Rattle.pv_host_copy.specs.Reporting.{IsFewer, IsNextReportedName, ReportsEntry};
 
 use crate::entry::HostEntry;
 use crate::fault::HostFault;
@@ -34,8 +34,8 @@ pub trait HostDirectory: Sized + Drop {
     ///
     /// Returns `Read` if the host fails to read the entry. Returns `Memory` if memory cannot be allocated.
     fn next(&mut self, alloc: Global) -> Result<Option<HostEntry<Self, Self::Reader>>, HostFault>
-        ensures reported { IfOk result (λ reported. IfSome (rest self.old) (λ entries. Reports rest Self.Reader.bytes entries reported (rest self.new))) }
-        ensures ordered { IfOk result (λ reported. IsNextName (last self.old) reported (last self.new)) }
+        ensures reported { IfOk result (λ reported. IfSome (rest self.old) (λ entries. ReportsEntry rest Self.Reader.bytes entries reported (rest self.new))) }
+        ensures ordered { IfOk result (λ reported. IsNextReportedName (last self.old) reported (last self.new)) }
         ensures fewer { IfOk result (λ reported. IsFewer left (left self.old) reported (left self.new)) }
         ensures known { IsSome (rest self.old) → result ≢ Err HostFault.Read };
 

@@ -1,9 +1,9 @@
 //! Exporting the tree of an image to a host directory.
 ghost use Rattle.std.specs.Prelude.{◌≡◌, false, map, IsSome, IfOk, OnOk};
 ghost use Rattle.std.specs.Option.{option_copied};
-ghost use Rattle.pv_dirs.specs.Trees.{bytes_at};
+ghost use Rattle.pv_dirs.specs.Trees.{node_bytes_at};
 ghost use Rattle.pv_model.specs.Machine.{is_directory_at, node_at, IsWellFormed};
-ghost use Rattle.pv_host_copy.specs.Exported.{path_pair, CreatesNode, Exports, Makes, MakesNew};
+ghost use Rattle.pv_host_copy.specs.Exported.{path_pair, CreatesNode, Exports, MakesEntries, MakesNew};
 ghost use Rattle.pv_host_copy.specs.Encoded.{first_path, encoded_entries, encodes_node, encodes_within};
 
 use crate::target::{HostTarget, TargetFault};
@@ -45,7 +45,7 @@ fn first_path(firsts: &[FirstPath], node: u16) -> Option<&[u8]>
 fn content(alloc: Global, tree: &Tree, node: u16) -> Result<Vec<u8>, AllocError>
     requires used { IsSome (node_at tree.now.tree node) }
     requires other { is_directory_at tree.now.tree node ≡ false }
-    ensures { IfOk result (λ bytes. bytes.items ≡ bytes_at tree.now.tree node) }
+    ensures { IfOk result (λ bytes. bytes.items ≡ node_bytes_at tree.now.tree node) }
 {
     let mut bytes = vec![in alloc; 0; tree.size(node) as usize]?;
     tree.read_at(node, 0, &mut bytes);
@@ -102,7 +102,7 @@ fn export_node<T: HostTarget>(
     node: u16,
     target: &mut T,
 ) -> Result<(), TargetFault>
-    ensures { Makes (encodes_node path.now node (node_at tree.now.tree node)) firsts.old.items (T.made target.old) result firsts.new.items (T.made target.new) path.now }
+    ensures { MakesEntries (encodes_node path.now node (node_at tree.now.tree node)) firsts.old.items (T.made target.old) result firsts.new.items (T.made target.new) path.now }
 {
     if !tree.is_used(node) {
         return Ok(());
@@ -128,7 +128,7 @@ fn export_within<T: HostTarget>(
     target: &mut T,
 ) -> Result<(), TargetFault>
     requires { IsWellFormed tree.now.tree }
-    ensures made { Makes (encodes_within tree.now.tree depth path.old.items node) firsts.old.items (T.made target.old) result firsts.new.items (T.made target.new) path.new.items }
+    ensures made { MakesEntries (encodes_within tree.now.tree depth path.old.items node) firsts.old.items (T.made target.old) result firsts.new.items (T.made target.new) path.new.items }
     ensures path { OnOk result (path.new.items ≡ path.old.items) }
 {
     if depth == 0 || !tree.is_directory(node) {

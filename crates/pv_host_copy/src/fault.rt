@@ -1,6 +1,6 @@
 //! The errors of a copy, and the reasons for skipping a path.
 ghost use Rattle.std.specs.Prelude.{◌≡◌};
-ghost use Rattle.pv_host_copy.specs.Stopped.{stop_of};
+ghost use Rattle.pv_host_copy.specs.Stopped.{copy_stop_of};
 ghost use Rattle.pv_host_copy.specs.declared.fault.CopyStop.TheVariants.{Memory as MemoryStop};
 ghost use Rattle.pv_host_copy.specs.declared.fault.HostFault.TheVariants.{Memory as NoMemory};
 
@@ -82,7 +82,7 @@ impl<T: Drop> From<AllocFailed<T>> for CopyStop {
 }
 
 impl From<HostFault> for CopyStop {
-    ghost from_gives = { λ fault e. e ≡ stop_of fault };
+    ghost from_gives = { λ fault e. e ≡ copy_stop_of fault };
 
     fn from(fault: HostFault) -> CopyStop {
         match fault {

@@ -1,6 +1,6 @@
 //! Files of a host.
 ghost use Rattle.std.specs.Prelude.{◌≡◌, ℕ, List, Option, IfOk, IsOk, IsSome};
-ghost use Rattle.pv_model.specs.Stream.{EndsWhereEmpty, ReadsAtMost, front_and};
+ghost use Rattle.pv_model.specs.Stream.{EndsIfEmpty, ReadsAtMost, front_and};
 
 use pv_streams::Failed;
 
@@ -20,6 +20,6 @@ pub trait HostFile {
     fn read(&mut self, buffer: &mut [u8]) -> Result<usize, Failed>
         ensures bound { ReadsAtMost result buffer.new }
         ensures front { IfOk result (λ n. bytes self.old ≡ front_and n buffer.new (bytes self.new)) }
-        ensures end { EndsWhereEmpty (bytes self.new) result buffer.new }
+        ensures end { EndsIfEmpty (bytes self.new) result buffer.new }
         ensures known { IsSome (bytes self.old) → IsOk result };
 }

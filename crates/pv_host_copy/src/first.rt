@@ -2,9 +2,9 @@
 ghost use Rattle.std.specs.Prelude.{◌≡◌, ◌&&◌, ◌==◌, map, IsTrue, IfSome};
 ghost use Rattle.std.specs.List.{list_all};
 ghost use Rattle.std.specs.Option.{option_copied};
-ghost use Rattle.pv_host_copy.specs.Firsts.{first_pair, has_path};
-ghost use Rattle.pv_host_copy.specs.Gathered.{first_of};
-ghost use Rattle.pv_host_copy.specs.Hosts.{is_same};
+ghost use Rattle.pv_host_copy.specs.Firsts.{identity_and_path, has_path};
+ghost use Rattle.pv_host_copy.specs.Gathered.{first_path_of};
+ghost use Rattle.pv_host_copy.specs.Hosts.{same_identity};
 ghost use Rattle.pv_image_manifest.specs.Paths.{is_path};
 
 use crate::entry::Identity;
@@ -19,7 +19,7 @@ pub(crate) struct First {
 
 // Returns whether two names refer to one file or symbolic link.
 fn is_same(a: Identity, b: Identity) -> bool
-    ensures { result ≡ is_same a b }
+    ensures { result ≡ same_identity a b }
 {
     a.device == b.device && a.inode == b.inode
 }
@@ -27,7 +27,7 @@ fn is_same(a: Identity, b: Identity) -> bool
 /// Returns the first path of a file or symbolic link, if it was added.
 pub(crate) fn first_of(firsts: &[First], version: Version, identity: Identity) -> Option<&[u8]>
     requires { IsTrue (list_all (has_path version) firsts.now) }
-    ensures first { option_copied result ≡ first_of identity (map first_pair firsts.now) }
+    ensures first { option_copied result ≡ first_path_of identity (map identity_and_path firsts.now) }
     ensures named { IfSome result (λ path. IsTrue (is_path version path.now)) }
 {
     let _ = version;

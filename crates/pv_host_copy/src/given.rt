@@ -21,14 +21,14 @@ fn is_directory(content: &Content) -> bool
     matches!(content, Content::Directory)
 }
 
-// Returns whether an entry takes the place of what a host has at a path.
+// Returns whether an entry replaces the host's node at a path.
 fn takes_place(entry: &Entry, directory: bool, path: &[u8]) -> bool
     ensures { result ≡ takes_place directory path.now (entry_of_line entry.now).1 }
 {
     entry.path.as_slice() == path && !(directory && is_directory(&entry.content))
 }
 
-/// Returns whether an entry of a source takes the place of what a host has at a path: anything but a directory of both.
+/// Returns whether an entry of a source replaces the host's node at a path: any node except a directory of both.
 pub(crate) fn is_taken(given: &[Entry], directory: bool, path: &[u8]) -> bool
     ensures { result ≡ list_any (λ e. takes_place directory path.now (entry_of_line e).1) given.now }
 {

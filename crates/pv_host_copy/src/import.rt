@@ -2,8 +2,8 @@
 ghost use Rattle.std.specs.Prelude.{◌≡◌, [], map, IfOk, IfErr, IfSome};
 ghost use Rattle.pv_host_copy.specs.Firsts.{skipped_pair};
 ghost use Rattle.pv_host_copy.specs.Gathered.{left_out, nothing_gathered};
-ghost use Rattle.pv_host_copy.specs.Given.{IsMergedTree, beside};
-ghost use Rattle.pv_host_copy.specs.Importing.{Holds};
+ghost use Rattle.pv_host_copy.specs.Given.{IsMergedTree, merged_entries};
+ghost use Rattle.pv_host_copy.specs.Importing.{HoldsGathered};
 ghost use Rattle.pv_host_copy.specs.Imported.{greatest_tree, IsTreeOf};
 ghost use Rattle.pv_host_copy.specs.Stopped.{StopsCopy, StopsMerge};
 ghost use Rattle.pv_image_manifest.specs.Entries.{entry_of_line};
@@ -32,7 +32,7 @@ pub struct Imported {
 
 // Creates a tree with only a root, in an image of the maximum size.
 fn empty(alloc: Global, version: Version) -> Result<Importing, AllocError>
-    ensures holds { IfOk result (Holds (greatest_tree version) nothing_gathered) }
+    ensures holds { IfOk result (HoldsGathered (greatest_tree version) nothing_gathered) }
     ensures version { IfOk result (λ importing. importing.version ≡ version) }
 {
     let blocks = version.layout().greatest_blocks;
@@ -53,14 +53,15 @@ fn empty(alloc: Global, version: Version) -> Result<Importing, AllocError>
 ///
 /// Entries that an image of the version cannot contain are skipped and reported: a name that is too long, with all
 /// entries below it if it is a directory; a file that is too long; a symbolic link whose target is too long; and
-/// anything that is not a directory, file or symbolic link. So is an entry whose name or target the host cannot read.
+/// anything that is not a directory, file or symbolic link. An entry whose name or target the host cannot read is
+/// skipped too.
 ///
 /// # Errors
 ///
 /// - `Read`: a part of the directory cannot be read.
 /// - `Memory`: memory cannot be allocated.
-/// - `Entry`: a path cannot be added to the tree of the paths before it. Its fault is `Room` if the image has too few
-///   inodes or blocks, or a directory has too many names. The other faults occur only if the host returns a name twice,
+/// - `Entry`: a path cannot be added to the tree of the paths before it. Its error is `Room` if the image has too few
+///   inodes or blocks, or a directory has too many names. The other errors occur only if the host returns a name twice,
 ///   or a name that contains a slash.
 pub fn import_tree<D: HostDirectory>(
     alloc: Global,
@@ -102,7 +103,7 @@ pub fn import_beside<D: HostDirectory>(
 ) -> Result<Imported, CopyStop>
     ensures tree { IfOk result (λ imported. IfSome (D.rest directory) (λ host. IsMergedTree version (map entry_of_line given.now) host imported.store)) }
     ensures reported { IfOk result (λ imported. IfSome (D.rest directory) (λ host.
-        map skipped_pair imported.reported.items ≡ left_out version (beside (map entry_of_line given.now) [] host))) }
+        map skipped_pair imported.reported.items ≡ left_out version (merged_entries (map entry_of_line given.now) [] host))) }
     ensures stopped { IfErr result (StopsMerge version (map entry_of_line given.now) (D.rest directory)) }
 {
     let path = Vec::new(alloc);

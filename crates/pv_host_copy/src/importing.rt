@@ -30,7 +30,7 @@ pub(crate) struct Importing {
 }
 
 impl Importing {
-    ghost use Rattle.pv_host_copy.specs.Importing.{Goes, GoesIf, Keeps, Settles, Steps};
+    ghost use Rattle.pv_host_copy.specs.Importing.{Goes, GoesIf, AddsDirectory, Settles, Steps};
     ghost use Rattle.pv_image_manifest.specs.Contents.{entry_of_content};
     ghost use Rattle.pv_host_copy.specs.Gathered.{and_entry, and_skipped, and_file, and_link, and_first_entry};
 
@@ -152,7 +152,7 @@ impl Importing {
     /// Adds a directory without its entries at a path, or skips it. Returns whether it was added.
     #[inline(never)]
     pub(crate) fn keep_directory(&mut self, alloc: Global, path: &[u8]) -> Result<bool, CopyStop>
-        ensures keeps { Keeps path.now self.old result self.new }
+        ensures keeps { AddsDirectory path.now self.old result self.new }
         ensures version { self.new.version ≡ self.old.version }
     {
         if !is_path(self.version, path) {

@@ -1,6 +1,6 @@
 //! Laws of copies between images and host directories.
 ghost use Rattle.pv_host_copy.specs.Given.{NeedsNoSource};
-ghost use Rattle.pv_host_copy.specs.GivenWorked.{AllWorked};
+ghost use Rattle.pv_host_copy.specs.GivenWorked.{AllGivenWorked};
 ghost use Rattle.pv_host_copy.specs.Shown.{ExportIsImported};
 
 /// The host directory that an export makes of a tree is imported as exactly the manifest that the export created, in
@@ -19,5 +19,5 @@ pub fn import_needs_no_source()
 /// Every worked example holds: the definitions compute exactly the entries and the tree that `specs/GivenWorked.antt`
 /// states.
 pub fn worked_imports_are_as_they_are_written()
-    ensures { AllWorked }
+    ensures { AllGivenWorked }
 {}

@@ -2,7 +2,7 @@
 ghost use Rattle.std.specs.Prelude.{◌≡◌, flat_map, map, OnOk};
 ghost use Rattle.pv_streams.specs.Sinks.{and_all};
 ghost use Rattle.pv_host_copy.specs.Firsts.{skipped_pair};
-ghost use Rattle.pv_host_copy.specs.Lines.{ending, line_front, path_line, refused_ending, refused_line, skipped_line, unmade_line};
+ghost use Rattle.pv_host_copy.specs.Lines.{ending, path_line_front, import_path_line, refused_ending, refused_line, skipped_line, line_of_missing_node};
 ghost use Rattle.pv_host_copy.specs.Stopped.{refused_pair};
 
 use crate::fault::{Refused, SkipReason};
@@ -36,18 +36,18 @@ fn refused_ending(fault: EntryFault) -> &'static [u8]
 }
 
 // Writes the start of the line of a path.
-#[tactic(auto, using(pv_streams::proofs::Reporting::written_both))]
+#[tactic(auto, using(pv_streams::proofs::OutputTexts::written_both))]
 fn write_front<W: Sink>(out: &mut W, path: &[u8]) -> Result<(), Failed>
-    ensures { OnOk result (W.written out.new ≡ and_all (W.written out.old) (line_front path.now)) }
+    ensures { OnOk result (W.written out.new ≡ and_all (W.written out.old) (path_line_front path.now)) }
 {
     write_whole(out, b"pvsim: import: ")?;
     write_path(out, path)
 }
 
 // Writes the line of a path with this end.
-#[tactic(auto, using(pv_streams::proofs::Reporting::written_both))]
+#[tactic(auto, using(pv_streams::proofs::OutputTexts::written_both))]
 fn write_path_line<W: Sink>(out: &mut W, path: &[u8], end: &[u8]) -> Result<(), Failed>
-    ensures { OnOk result (W.written out.new ≡ and_all (W.written out.old) (path_line path.now end.now)) }
+    ensures { OnOk result (W.written out.new ≡ and_all (W.written out.old) (import_path_line path.now end.now)) }
 {
     write_front(out, path)?;
     write_whole(out, end)
@@ -92,7 +92,7 @@ pub fn write_refused<W: Sink>(out: &mut W, refused: &Refused) -> Result<(), Fail
 ///
 /// Returns `Failed` if a write fails.
 pub fn write_unmade<W: Sink>(out: &mut W, path: &[u8]) -> Result<(), Failed>
-    ensures { OnOk result (W.written out.new ≡ and_all (W.written out.old) (unmade_line path.now)) }
+    ensures { OnOk result (W.written out.new ≡ and_all (W.written out.old) (line_of_missing_node path.now)) }
 {
     write_whole(out, b"pvsim: export: ")?;
     write_path(out, path)?;

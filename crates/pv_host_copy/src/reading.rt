@@ -1,6 +1,6 @@
 //! Reading a file to its end, up to a maximum length.
 ghost use Rattle.std.specs.Prelude.{◌≢◌, Err, IfOk, IfSome, IsSome};
-ghost use Rattle.pv_host_copy.specs.Reading.{IsValid};
+ghost use Rattle.pv_host_copy.specs.Reading.{AreBytesWithin};
 
 use crate::fault::HostFault;
 use crate::file::HostFile;
@@ -14,13 +14,13 @@ const CHUNK: usize = 4_096;
 /// # Errors
 ///
 /// Returns `Read` if a read fails. Returns `Memory` if memory cannot be allocated.
-#[tactic(auto, using(pv_streams::proofs::Sources::read_more, crate::proofs::WholeReads::stays_known, crate::proofs::WholeReads::whole_read, crate::proofs::WholeReads::more_read))]
+#[tactic(auto, using(pv_streams::proofs::SourceReads::read_more, crate::proofs::FileReads::stays_known, crate::proofs::FileReads::whole_read, crate::proofs::FileReads::more_read))]
 pub(crate) fn read_within<F: HostFile>(
     alloc: Global,
     file: &mut F,
     limit: u32,
 ) -> Result<Option<Vec<u8>>, HostFault>
-    ensures whole { IfOk result (λ read. IfSome (F.bytes file.old) (λ all. IsValid limit all read)) }
+    ensures whole { IfOk result (λ read. IfSome (F.bytes file.old) (λ all. AreBytesWithin limit all read)) }
     ensures known { IsSome (F.bytes file.old) → result ≢ Err HostFault.Read }
 {
     let mut bytes = Vec::new(alloc);

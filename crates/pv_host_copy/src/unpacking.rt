@@ -3,7 +3,7 @@ ghost use Rattle.std.specs.Prelude.{◌≡◌, IfOk, IfErr, IfSome, Err, Ok};
 ghost use Rattle.pv_model.specs.Machine.{mounted, Rose};
 ghost use Rattle.pv_streams.specs.Sources.{FailsToGive};
 ghost use Rattle.pv_host_copy.specs.Encoded.{encoded_entries};
-ghost use Rattle.pv_host_copy.specs.Unpacked.{IsReadFault, AppearsInImage, WritesExport, ReportsUnmade};
+ghost use Rattle.pv_host_copy.specs.Unpacked.{IsReadError, IsErrorOfImage, WritesExport, ReportsUnmade};
 
 use crate::exporting::{ExportStop, export};
 use crate::lines::write_unmade;
@@ -55,9 +55,9 @@ impl fmt::Display for ExportFault {
 /// - `Memory`: memory cannot be allocated.
 pub fn read_tree<S: Source>(alloc: Global, image: &mut S) -> Result<Store, ExportFault>
     ensures tree { IfOk result (λ store. IfSome (S.remaining image.old) (λ bytes. mounted bytes ≡ Ok store)) }
-    ensures refused { IfErr result (λ fault. IfSome (S.remaining image.old) (λ bytes. AppearsInImage (mounted bytes) fault)) }
+    ensures refused { IfErr result (λ fault. IfSome (S.remaining image.old) (λ bytes. IsErrorOfImage (mounted bytes) fault)) }
     ensures read { result ≡ Err ExportFault.Read → FailsToGive S.Source image.old image.new }
-    ensures kind { IfErr result IsReadFault }
+    ensures kind { IfErr result IsReadError }
 {
     let bytes = match read_whole(alloc, image) {
         Ok(bytes) => bytes,

@@ -2,8 +2,8 @@
 ghost use Rattle.std.specs.Prelude.{◌≡◌, [], IfOk, OnOk};
 ghost use Rattle.pv_host_copy.specs.Gathered.{gather};
 ghost use Rattle.pv_host_copy.specs.Importing.{GoesIf};
-ghost use Rattle.pv_host_copy.specs.Paths.{below};
-ghost use Rattle.pv_host_copy.specs.Walking.{Takes, and_opened};
+ghost use Rattle.pv_host_copy.specs.Paths.{path_under};
+ghost use Rattle.pv_host_copy.specs.Walking.{TakesNode, and_opened};
 
 use crate::directory::HostDirectory;
 use crate::entry::{HostEntry, HostNode};
@@ -26,7 +26,7 @@ pub(crate) fn path_below(
     directory: &[u8],
     name: &[u8],
 ) -> Result<Vec<u8>, AllocError>
-    ensures { IfOk result (λ path. path.items ≡ below directory.now name.now) }
+    ensures { IfOk result (λ path. path.items ≡ path_under directory.now name.now) }
 {
     let mut path = Vec::from_slice(alloc, directory)?;
     path.push(b'/')?;
@@ -41,7 +41,7 @@ fn take<D: HostDirectory>(
     path: Vec<u8>,
     node: HostNode<D, D::Reader>,
 ) -> Result<Option<OpenDirectory<D>>, CopyStop>
-    ensures takes { Takes D.Reader.bytes path.items node importing.old result importing.new }
+    ensures takes { TakesNode D.Reader.bytes path.items node importing.old result importing.new }
     ensures version { importing.new.version ≡ importing.old.version }
 {
     match node {

@@ -17,8 +17,8 @@ mounted_first bytes =
     else Err Magic
 
 -- the number of data blocks of an image of version 2 with these numbers of blocks and inodes
-abbrev pub data_blocks : ℕ → ℕ → ℕ
-data_blocks blocks inodes = blocks - (inode_blocks V2 inodes + 1)
+abbrev pub data_blocks_v2 : ℕ → ℕ → ℕ
+data_blocks_v2 blocks inodes = blocks - (inode_blocks V2 inodes + 1)
 
 -- the number of data blocks that the nodes of a tree need in such an image
 unfoldable pub needed : Tree → ℕ
@@ -28,13 +28,13 @@ needed t = sum_by (λ node. need V2 (node_length V2 node)) (present t.nodes)
 -- nodes
 unfoldable pub has_room : Tree → ℕ → ℕ → Bool
 has_room t blocks inodes =
-    are_image_sizes V2 blocks inodes && nat_le t.inodes inodes && nat_le (needed t) (data_blocks blocks inodes)
+    are_image_sizes V2 blocks inodes && nat_le t.inodes inodes && nat_le (needed t) (data_blocks_v2 blocks inodes)
 
 -- the tree with the same nodes under the same numbers, in an image of version 2 of these sizes
 unfoldable pub enlarged : Tree → ℕ → ℕ → Tree
 enlarged t blocks inodes = record {
   nodes = lengthened (suc inodes) t.nodes;
-  blocks = data_blocks blocks inodes;
+  blocks = data_blocks_v2 blocks inodes;
   inodes = inodes;
   version = V2;
 }
@@ -47,7 +47,7 @@ enlarged_within t blocks inodes = if has_room t blocks inodes then Ok (enlarged 
 unfoldable pub migrated : Bytes → ℕ → ℕ → Result Tree MigrateFault
 migrated bytes blocks inodes = and_then Image (mounted_first bytes) (λ t. enlarged_within t blocks inodes)
 
--- ---- the same in other words
+-- ---- an equivalent form
 
 -- the bytes are an image of this tree, of version 1
 pub record IsFirstImageOf (bytes : Bytes) (old : Tree) : Type 0 where
@@ -70,7 +70,7 @@ pub record Migrates (bytes : Bytes) (blocks inodes : ℕ) (new : Tree) : Type 0 
   pub keeps : KeepsNodes old blocks inodes new
 
 -- the bytes are an image of version 1 without room for its tree
-pub record LacksRoom (bytes : Bytes) (blocks inodes : ℕ) : Type 0 where
+pub record LacksRoomToMigrate (bytes : Bytes) (blocks inodes : ℕ) : Type 0 where
   pub old : Tree
   pub held : IsFirstImageOf bytes old
   pub cramped : IsFalse (has_room old blocks inodes)
@@ -81,7 +81,7 @@ abbrev pub MigratesImages : Type 0
 MigratesImages = (bytes : Bytes) (blocks inodes : ℕ) (new : Tree) → (migrated bytes blocks inodes ≡ Ok new) ↔ Migrates bytes blocks inodes new
 
 abbrev pub SmallLacksRoom : Type 0
-SmallLacksRoom = (bytes : Bytes) (blocks inodes : ℕ) → (migrated bytes blocks inodes ≡ Err Small) ↔ LacksRoom bytes blocks inodes
+SmallLacksRoom = (bytes : Bytes) (blocks inodes : ℕ) → (migrated bytes blocks inodes ≡ Err Small) ↔ LacksRoomToMigrate bytes blocks inodes
 
 abbrev pub ImagesAreJudgedFirst : Type 0
 ImagesAreJudgedFirst =
@@ -90,9 +90,9 @@ ImagesAreJudgedFirst =
 -- ---- errors
 
 -- out of memory is never reported as an error of the image
-abbrev pub IsMigrateFault : MigrateFault → Type 0
-IsMigrateFault (Image ImageMemory) = ⊥
-IsMigrateFault fault = ⊤
+abbrev pub IsMigrateError : MigrateFault → Type 0
+IsMigrateError (Image ImageMemory) = ⊥
+IsMigrateError fault = ⊤
 
 -- ---- output
 

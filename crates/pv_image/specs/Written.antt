@@ -5,7 +5,7 @@ use Rattle.pv_model.specs.Machine.{Bytes, IsWrittenImageOf, Tree}
 use Rattle.pv_streams.specs.Sinks.{and_all, WritesPrefix}
 use Rattle.pv_image.specs.declared.migrating.MigratingStop.{MigratingStop}
 use Rattle.pv_image.specs.declared.migrating.MigratingStop.TheVariants.{Refused, Write}
-use Rattle.pv_image.specs.Migrated.{migrated, IsMigrated, IsMigrateFault}
+use Rattle.pv_image.specs.Migrated.{migrated, IsMigrated, IsMigrateError}
 
 -- the bytes are an image of exactly the migrated tree
 pub record HoldsMigrated (old_bytes : Bytes) (blocks inodes : ℕ) (image : Bytes) : Type 0 where
@@ -35,5 +35,5 @@ AppearsInOldBytes old_bytes blocks inodes before after Write = BeginsMigrated ol
 
 -- out of memory is never reported as an error of the image
 abbrev pub IsMigratingStop : MigratingStop → Type 0
-IsMigratingStop (Refused fault) = IsMigrateFault fault
+IsMigratingStop (Refused fault) = IsMigrateError fault
 IsMigratingStop Write = ⊤

@@ -1,7 +1,7 @@
 //! Images as bytes in memory.
 ghost use Rattle.std.specs.Prelude.{◌≡◌, ◌⊎◌, Err, IfErr, IfOk};
 ghost use Rattle.pv_model.specs.Machine.{named_tree, IsWrittenImageOf};
-ghost use Rattle.pv_image.specs.Migrated.{migrated, IsMigrateFault};
+ghost use Rattle.pv_image.specs.Migrated.{migrated, IsMigrateError};
 ghost use Rattle.pv_image.specs.Written.{HoldsMigrated};
 
 use crate::migrating::{MigratingStop, write_migrated};
@@ -44,7 +44,7 @@ pub fn migrate(
 ) -> Result<Vec<u8>, MigrateFault>
     ensures migrated { IfOk result (λ image. HoldsMigrated bytes.now blocks inodes image.items) }
     ensures refused { IfErr result (λ fault. (fault ≡ MigrateFault.Memory) ⊎ (migrated bytes.now blocks inodes ≡ Err fault)) }
-    ensures kind { IfErr result IsMigrateFault }
+    ensures kind { IfErr result IsMigrateError }
 {
     let Ok(old) = bytes.to_vec(alloc) else {
         return Err(MigrateFault::Memory);

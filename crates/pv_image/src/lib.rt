@@ -1,4 +1,4 @@
-//! Operations on whole images: mounting, building from manifests, writing to bytes, and migrating from version 1 to
+//! Operations on images: mounting, building from manifests, writing to bytes, and migrating from version 1 to
 //! version 2.
 //!
 //! `mount`, `build`, `Manifest` and `Bundle` are reexported from lower crates. `bytes` returns images as bytes

@@ -1,7 +1,7 @@
 //! Migrating an image from version 1 to version 2.
 ghost use Rattle.std.specs.Prelude.{◌≡◌, ◌⊎◌, IsTrue, Ok, Err, IfOk, IfErr, OnOk};
 ghost use Rattle.pv_model.specs.Machine.{Rose};
-ghost use Rattle.pv_image.specs.Migrated.{has_room, migrated, mounted_first, IsMigrateFault};
+ghost use Rattle.pv_image.specs.Migrated.{has_room, migrated, mounted_first, IsMigrateError};
 ghost use Rattle.pv_image.specs.Written.{IsMigratingStop, AppearsInOldBytes, WritesMigrated};
 ghost use Rattle.pv_image.specs.declared.migrating.MigratingStop.TheVariants.{Refused as RefusedStop};
 
@@ -39,7 +39,7 @@ fn mount_roomy(
 ) -> Result<Store, MigrateFault>
     ensures mounted { IfOk result (λ store. mounted_first bytes.items ≡ Ok store) }
     ensures room { IfOk result (λ store. IsTrue (has_room store blocks inodes)) }
-    ensures kind { IfErr result IsMigrateFault }
+    ensures kind { IfErr result IsMigrateError }
     ensures refused { IfErr result (λ fault. (fault ≡ MigrateFault.Memory) ⊎ (migrated bytes.items blocks inodes ≡ Err fault)) }
 {
     let store = mount_first(alloc, bytes)?;

@@ -6,7 +6,7 @@ use Rattle.std.proofs.lemmas.List.Concat.{flat_map-append}
 use Rattle.pv_model.specs.Machine.{Bytes, lines_of, with_line_end}
 use Rattle.pv_text.specs.Lines.{IsSplit}
 use Rattle.pv_image_manifest.specs.Reading.{IsEnd}
-use Rattle.pv_image_manifest.proofs.Ends.{whole_end, end_of_end, end_after_line}
+use Rattle.pv_image_manifest.proofs.TextEnds.{whole_end, end_of_end, end_after_line}
 
 split_off : {X : Type 0} (xs : List X) (i : ℕ) (x : X) (ys : List X) → drop i xs ≡ x ∷ ys → (take (i + 1) xs ≡ take i xs ++ x ∷ []) × (drop (i + 1) xs ≡ ys) × (i < length xs)
 split_off [] zero x ys e = absurd cc

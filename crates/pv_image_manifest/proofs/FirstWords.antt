@@ -2,8 +2,8 @@
 use Rattle.std.proofs.Common.{◌≡◌, true, false, List, None, refl, codes}
 use Rattle.std.specs.Prelude.{bytes_eq}
 use Rattle.pv_model.specs.Machine.{Bytes, decimal_of, text_at, word_at, one_argument, two_arguments}
-use Rattle.pv_model.specs.Grammar.Manifests.{entry_by, directory_line, file_line, program_line, link_line, name_line}
-use Rattle.pv_laws_trees.proofs.Entries.{bytes_eq-same}
+use Rattle.pv_model.specs.Grammar.Manifests.{entry_by, directory_line, file_line, executable_line, link_line, name_line}
+use Rattle.pv_laws_trees.proofs.DirectoryEntries.{bytes_eq-same}
 
 module _ (word rest : Bytes) (ls : List Bytes) where
   pub directory_is : bytes_eq word (codes "dir") ≡ true → directory_line (one_argument text_at rest) ≡ entry_by word rest ls
@@ -14,7 +14,7 @@ module _ (word rest : Bytes) (ls : List Bytes) where
   unfolding entry_by
   file_is same = rw (bytes_eq-same word (codes "bytes") same) refl
 
-  pub program_is : bytes_eq word (codes "exec") ≡ true → program_line ls (two_arguments text_at (word_at decimal_of) rest) ≡ entry_by word rest ls
+  pub program_is : bytes_eq word (codes "exec") ≡ true → executable_line ls (two_arguments text_at (word_at decimal_of) rest) ≡ entry_by word rest ls
   unfolding entry_by
   program_is same = rw (bytes_eq-same word (codes "exec") same) refl
 

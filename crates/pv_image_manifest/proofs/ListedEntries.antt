@@ -10,8 +10,8 @@ use Rattle.pv_text.specs.Lines.{IsSplit}
 use Rattle.pv_image_manifest.specs.declared.entry.Entry.{Entry}
 use Rattle.pv_image_manifest.specs.declared.read_entry.ReadEntry.{ReadEntry}
 use Rattle.pv_image_manifest.specs.Entries.{entry_of_line}
-use Rattle.pv_image_manifest.specs.Reading.{IsEnd, taking_of, Takes}
-use Rattle.pv_image_manifest.proofs.Ends.{whole_end, end_of_end, end_after_line}
+use Rattle.pv_image_manifest.specs.Reading.{IsEnd, taking_of, ParsesEntry}
+use Rattle.pv_image_manifest.proofs.TextEnds.{whole_end, end_of_end, end_after_line}
 
 -- the entries that were parsed, before those that remain
 abbrev pub after_entries : List (ℕ × ManifestEntry) → Result Listed ManifestFault → Result Listed ManifestFault
@@ -91,7 +91,7 @@ module _ (in_bundle : Bool) where
     IsListedSoFar-refused other none =
         sym (at_line other) ∙ ap (λ taking. after_entries (map entry_of_line front) (or_form n taking (from_line (lines_of following) (suc n)))) none
 
-    pub IsListedSoFar-step : (read_entry : ReadEntry) (left : Bytes) (entry : Entry) (next : ℕ) → (in_bundle && is_schedule_line line) ≡ false → Takes (Some read_entry) (entry_of line (lines_of following)) (lines_of following)
+    pub IsListedSoFar-step : (read_entry : ReadEntry) (left : Bytes) (entry : Entry) (next : ℕ) → (in_bundle && is_schedule_line line) ≡ false → ParsesEntry (Some read_entry) (entry_of line (lines_of following)) (lines_of following)
         → lines_of left ≡ drop read_entry.lines (lines_of following) → IsEnd left following → IsSplit rest line following
         → entry_of_line entry ≡ (n, (taking_of read_entry).0) → next ≡ n + 1 + read_entry.lines → IsListedSoFar (front ++ entry ∷ []) left next text
     IsListedSoFar-step read_entry left entry next other takes lines end bytes made on =

@@ -9,20 +9,20 @@ use Rattle.pv_model.specs.declared.version.Version.{Version}
 use Rattle.pv_model.specs.Machine.{Bytes, with_content_of, bytes_of, overwrite, Numbered, with_number, is_too_long, fits, Node, directory_node, file_node, Tree, node_at, entries_at, is_directory, is_directory_at, find_entry, with_node, with_new_node, new_number, IsWellFormed}
 use Rattle.pv_model.specs.Grammar.Manifests.{if_room}
 use Rattle.pv_tree.specs.Changes.{overwritten}
-use Rattle.pv_tree.specs.Rooms.{refusal}
+use Rattle.pv_tree.specs.Rooms.{room_error}
 use Rattle.pv_laws_trees.specs.Room.{IsNoLonger, IsNoLarger}
-use Rattle.pv_laws_trees.proofs.Changes.{node_at-other, directory-below}
-use Rattle.pv_laws_trees.proofs.Edits.{new_number-free}
-use Rattle.pv_laws_trees.proofs.Entries.{by_name}
+use Rattle.pv_laws_trees.proofs.TreeChanges.{node_at-other, directory-below}
+use Rattle.pv_laws_trees.proofs.WellFormedChanges.{new_number-free}
+use Rattle.pv_laws_trees.proofs.DirectoryEntries.{by_name}
 use Rattle.pv_laws_trees.proofs.NewNodes.{new-same, dir-new, entries-new}
-use Rattle.pv_laws_trees.proofs.Numbered.{at_number-below, least_free-within, length-drop_one}
-use Rattle.pv_laws_trees.proofs.Rooms.{smaller-fits, smaller-not_too_long}
-use Rattle.pv_tree.proofs.Making.{overwrite-none}
+use Rattle.pv_laws_trees.proofs.NumberedMaps.{at_number-below, least_free-within, length-drop_one}
+use Rattle.pv_laws_trees.proofs.NodeRoom.{smaller-fits, smaller-not_too_long}
+use Rattle.pv_tree.proofs.NodeCreation.{overwrite-none}
 use Rattle.pv_image_manifest.specs.Building.{lacks_room}
 
 -- ---- room
 
-pub room-none : (t : Tree) → refusal t ≡ None → lacks_room t ≡ false
+pub room-none : (t : Tree) → room_error t ≡ None → lacks_room t ≡ false
 room-none t allowed = by (is_too_long t) (fits t) allowed
   where
     by : (long fit : Bool) → cond long (Some TooBig) (cond fit None (Some Full)) ≡ None → (long || not fit) ≡ false
@@ -30,7 +30,7 @@ room-none t allowed = by (is_too_long t) (fits t) allowed
     by false true is = refl
     by false false is = cc
 
-pub room-some : (t : Tree) (why : Space) → refusal t ≡ Some why → lacks_room t ≡ true
+pub room-some : (t : Tree) (why : Space) → room_error t ≡ Some why → lacks_room t ≡ true
 room-some t why refused = by (is_too_long t) (fits t) refused
   where
     by : (long fit : Bool) → cond long (Some TooBig) (cond fit None (Some Full)) ≡ Some why → (long || not fit) ≡ true
@@ -50,7 +50,7 @@ lacks-along t u less lacks =
     by false true false true p q longer room is = cc
     by false true false false p q longer room is = let invalid = room q in cc
 
-pub in-room : (line : ℕ) (t : Tree) → refusal t ≡ None → if_room line t ≡ Ok t
+pub in-room : (line : ℕ) (t : Tree) → room_error t ≡ None → if_room line t ≡ Ok t
 in-room line t allowed = ap (λ b. cond b (Err (Room line)) (Ok t)) (room-none t allowed)
 
 pub out-of-room : (line : ℕ) (t : Tree) → lacks_room t ≡ true → if_room line t ≡ Err (Room line)
@@ -141,5 +141,5 @@ module _ (t : Tree) (w : IsWellFormed t) (d : ℕ) (name : Bytes) (x : Bool) (di
   }
 
   -- if there is no room for the empty file, there is none for the file
-  pub no-room-empty : (bytes : Bytes) (why : Space) → refusal (filled []) ≡ Some why → lacks_room (filled bytes) ≡ true
+  pub no-room-empty : (bytes : Bytes) (why : Space) → room_error (filled []) ≡ Some why → lacks_room (filled bytes) ≡ true
   no-room-empty bytes why refused = lacks-along (filled bytes) (filled []) (empty-smaller bytes) (room-some (filled []) why refused)

@@ -1,4 +1,4 @@
--- Whole manifests: their first line, and then their entries.
+-- Complete manifests: their first line, and then their entries.
 use Rattle.std.proofs.Common.{◌≡◌, ◌∙◌, ap, ℕ, Bool, true, false, cond, leb, [], ◌∷◌, Option, None, Some, Result, Ok, Err, refl, sym, arith, inl, inr}
 use Rattle.std.specs.Prelude.{option_map, ◌&&◌}
 use Rattle.std.proofs.lemmas.Bool.{cases_lt, lt-leb, le-leb}
@@ -72,8 +72,8 @@ module _ (in_bundle : Bool) (bytes : Bytes) where
         go (Some p) e = absurd cc
 
     module _ (blocks inodes : ℕ) (sizes : Some (blocks, inodes) ≡ option_map held_sizes (sizes_of first)) where
-      pub fault_of_entries : (fault : ManifestFault) → listed_by ≡ Err fault → read_by ≡ Err fault
-      fault_of_entries fault refused = whole ∙ go (sizes_of first) sizes
+      pub error_of_entries : (fault : ManifestFault) → listed_by ≡ Err fault → read_by ≡ Err fault
+      error_of_entries fault refused = whole ∙ go (sizes_of first) sizes
         where
           go : (o : Option (ℕ × ℕ)) → Some (blocks, inodes) ≡ option_map held_sizes o → after_sizes o listed_by ≡ Err fault
           go None e = absurd cc

@@ -7,13 +7,13 @@ use Rattle.pv_image_manifest.specs.declared.fault.EntryFault.{EntryFault}
 use Rattle.pv_image_manifest.specs.declared.fault.EntryFault.TheVariants.{Parent, Exists, Source, Room}
 
 -- the error of a line of a manifest
-abbrev pub fault_at : ℕ → EntryFault → ManifestFault
-fault_at line Parent = NoParent line
-fault_at line Exists = IsThere line
-fault_at line Source = NoSource line
-fault_at line Room = NoRoom line
+abbrev pub error_at_line : ℕ → EntryFault → ManifestFault
+error_at_line line Parent = NoParent line
+error_at_line line Exists = IsThere line
+error_at_line line Source = NoSource line
+error_at_line line Room = NoRoom line
 
 -- the tree after a step is that of the specification for every line number; or both have the same error
 abbrev pub Gives : {X : Type 0} → Result X EntryFault → (ℕ → Result Tree ManifestFault) → Tree → Type 0
 Gives (Ok done) made after = (line : ℕ) → made line ≡ Ok after
-Gives (Err fault) made after = (line : ℕ) → made line ≡ Err (fault_at line fault)
+Gives (Err fault) made after = (line : ℕ) → made line ≡ Err (error_at_line line fault)

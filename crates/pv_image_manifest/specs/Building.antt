@@ -11,9 +11,9 @@ lacks_room t = is_too_long t || not (fits t)
 
 -- the tree after a step is that of the specification, with the same version and reference counts; or both have the same
 -- error
-abbrev pub Makes : {X : Type 0} → Result X ManifestFault → Result Tree ManifestFault → HeldTree → HeldTree → Type 0
-Makes (Ok done) made before after = (made ≡ Ok after.tree) × (after.tree.version ≡ before.tree.version) × (after.holds ≡ before.holds)
-Makes (Err fault) made before after = made ≡ Err fault
+abbrev pub MakesTreeOrError : {X : Type 0} → Result X ManifestFault → Result Tree ManifestFault → HeldTree → HeldTree → Type 0
+MakesTreeOrError (Ok done) made before after = (made ≡ Ok after.tree) × (after.tree.version ≡ before.tree.version) × (after.holds ≡ before.holds)
+MakesTreeOrError (Err fault) made before after = made ≡ Err fault
 
 -- the store or the error agrees with the specification
 abbrev pub GivesStore : Result Tree ManifestFault → Result Tree ManifestFault → Type 0

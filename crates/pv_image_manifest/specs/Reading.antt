@@ -28,9 +28,9 @@ abbrev pub taking_of : ReadEntry → Taking
 taking_of t = (entry_of_content t.path.items t.content, t.lines)
 
 -- the parser returns the grammar's entry, whose lines are present, or fails if the grammar does
-abbrev pub Takes : Option ReadEntry → Option Taking → List Bytes → Type 0
-Takes None taking following = taking ≡ None
-Takes (Some t) taking following = (taking ≡ Some (taking_of t)) × (t.lines ≤ length following)
+abbrev pub ParsesEntry : Option ReadEntry → Option Taking → List Bytes → Type 0
+ParsesEntry None taking following = taking ≡ None
+ParsesEntry (Some t) taking following = (taking ≡ Some (taking_of t)) × (t.lines ≤ length following)
 
 -- the error agrees with the grammar's result; out of memory agrees with every result
 abbrev pub RefusesManifest : {X : Type 0} → ManifestFault → Result X ManifestFault → Type 0

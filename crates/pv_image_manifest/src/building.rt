@@ -1,6 +1,6 @@
 //! Building the tree of a manifest, on the blocks of an image.
 ghost use Rattle.std.specs.Prelude.{◌≡◌, []};
-ghost use Rattle.pv_image_manifest.specs.Building.{Makes, GivesStore};
+ghost use Rattle.pv_image_manifest.specs.Building.{MakesTreeOrError, GivesStore};
 ghost use Rattle.pv_image_manifest.specs.Entries.{entry_of_line};
 ghost use Rattle.pv_image_manifest.specs.Reading.{manifest_before};
 ghost use Rattle.pv_model.specs.Machine.{add_entry, tree_of};
@@ -21,7 +21,7 @@ use std::alloc::Global;
 /// Returns the error of `add_entry` for the line of the entry.
 pub(crate) fn add(tree: &mut Tree, entry: &Entry) -> Result<(), ManifestFault>
     requires { tree.old.tree.version ≡ V1 }
-    ensures { Makes result (add_entry entry.now.line tree.old.tree (entry_of_line entry.now).1) tree.old tree.new }
+    ensures { MakesTreeOrError result (add_entry entry.now.line tree.old.tree (entry_of_line entry.now).1) tree.old tree.new }
 {
     match add_entry(tree, &entry.path, &entry.content) {
         Ok(()) => Ok(()),

@@ -1,8 +1,8 @@
 //! Parsing a line of a manifest, with the lines that belong to it.
 ghost use Rattle.std.specs.Prelude.{IfOk};
 ghost use Rattle.pv_model.specs.Machine.{text_at, word_at, one_argument, two_arguments, lines_of, decimal_of, entry_of};
-ghost use Rattle.pv_model.specs.Grammar.Manifests.{directory_line, file_line, program_line, link_line, name_line, entry_by};
-ghost use Rattle.pv_image_manifest.specs.Reading.{Takes};
+ghost use Rattle.pv_model.specs.Grammar.Manifests.{directory_line, file_line, executable_line, link_line, name_line, entry_by};
+ghost use Rattle.pv_image_manifest.specs.Reading.{ParsesEntry};
 
 use crate::entry::Content;
 use crate::lines::program_text;
@@ -19,7 +19,7 @@ fn directory(
     arguments: &[u8],
     following: &[u8],
 ) -> Result<Option<ReadEntry>, AllocError>
-    ensures { IfOk result (λ o. Takes o (directory_line (one_argument text_at arguments.now)) (lines_of following.now)) }
+    ensures { IfOk result (λ o. ParsesEntry o (directory_line (one_argument text_at arguments.now)) (lines_of following.now)) }
 {
     let _ = following;
     let Some(path) = one_text(arguments) else {
@@ -37,7 +37,7 @@ fn directory(
 
 // Parses the entry of a `bytes` line.
 fn file(alloc: Global, arguments: &[u8], following: &[u8]) -> Result<Option<ReadEntry>, AllocError>
-    ensures { IfOk result (λ o. Takes o (file_line (two_arguments text_at text_at arguments.now)) (lines_of following.now)) }
+    ensures { IfOk result (λ o. ParsesEntry o (file_line (two_arguments text_at text_at arguments.now)) (lines_of following.now)) }
 {
     let _ = following;
     let Some((path, bytes)) = two_texts(arguments) else {
@@ -63,7 +63,7 @@ fn executable(
     arguments: &[u8],
     following: &[u8],
 ) -> Result<Option<ReadEntry>, AllocError>
-    ensures { IfOk result (λ o. Takes o (program_line (lines_of following.now) (two_arguments text_at (word_at decimal_of) arguments.now)) (lines_of following.now)) }
+    ensures { IfOk result (λ o. ParsesEntry o (executable_line (lines_of following.now) (two_arguments text_at (word_at decimal_of) arguments.now)) (lines_of following.now)) }
 {
     let Some((path, lines)) = text_and_size(arguments) else {
         return Ok(None);
@@ -86,7 +86,7 @@ fn executable(
 
 // Parses the entry of a `link` line.
 fn link(alloc: Global, arguments: &[u8], following: &[u8]) -> Result<Option<ReadEntry>, AllocError>
-    ensures { IfOk result (λ o. Takes o (link_line (two_arguments text_at text_at arguments.now)) (lines_of following.now)) }
+    ensures { IfOk result (λ o. ParsesEntry o (link_line (two_arguments text_at text_at arguments.now)) (lines_of following.now)) }
 {
     let _ = following;
     let Some((path, text)) = two_texts(arguments) else {
@@ -109,7 +109,7 @@ fn further_name(
     arguments: &[u8],
     following: &[u8],
 ) -> Result<Option<ReadEntry>, AllocError>
-    ensures { IfOk result (λ o. Takes o (name_line (two_arguments text_at text_at arguments.now)) (lines_of following.now)) }
+    ensures { IfOk result (λ o. ParsesEntry o (name_line (two_arguments text_at text_at arguments.now)) (lines_of following.now)) }
 {
     let _ = following;
     let Some((path, source)) = two_texts(arguments) else {
@@ -133,7 +133,7 @@ fn by_word(
     arguments: &[u8],
     following: &[u8],
 ) -> Result<Option<ReadEntry>, AllocError>
-    ensures { IfOk result (λ o. Takes o (entry_by word.now arguments.now (lines_of following.now)) (lines_of following.now)) }
+    ensures { IfOk result (λ o. ParsesEntry o (entry_by word.now arguments.now (lines_of following.now)) (lines_of following.now)) }
 {
     if word == b"dir".as_slice() {
         return directory(alloc, arguments, following);
@@ -163,7 +163,7 @@ pub fn taken_by(
     line: &[u8],
     following: &[u8],
 ) -> Result<Option<ReadEntry>, AllocError>
-    ensures { IfOk result (λ o. Takes o (entry_of line.now (lines_of following.now)) (lines_of following.now)) }
+    ensures { IfOk result (λ o. ParsesEntry o (entry_of line.now (lines_of following.now)) (lines_of following.now)) }
 {
     let (word, arguments) = split_word(line);
     by_word(alloc, word, arguments, following)

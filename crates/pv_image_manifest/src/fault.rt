@@ -1,6 +1,6 @@
 //! The errors of adding an entry to a tree.
 ghost use Rattle.std.specs.Prelude.{◌≡◌};
-ghost use Rattle.pv_image_manifest.specs.Adding.{fault_at};
+ghost use Rattle.pv_image_manifest.specs.Adding.{error_at_line};
 
 use pv_model::ManifestFault;
 
@@ -20,7 +20,7 @@ pub enum EntryFault {
 impl EntryFault {
     /// Returns the error of a manifest with the entry in this line.
     pub(crate) fn at_line(self, line: u32) -> ManifestFault
-        ensures { result ≡ fault_at line self }
+        ensures { result ≡ error_at_line line self }
     {
         match self {
             EntryFault::Parent => ManifestFault::Parent(line),

@@ -1,7 +1,7 @@
 //! Manifests and bundles: parsing their texts, and building the tree of a manifest.
 //!
 //! A manifest has the sizes of an image and the entries of its tree. A bundle is a manifest, the line `schedule`, and a
-//! schedule. `manifest` and `entry` define the values, and `reading` and `bundle` parse whole texts. `entry_lines`
+//! schedule. `manifest` and `entry` define the values, and `reading` and `bundle` parse complete texts. `entry_lines`
 //! parses a line with the lines that belong to it (`read_entry`), `lines` the first line and skipped lines, and `paths`
 //! the paths of entries. `adding` adds an entry to a tree, and `fault` defines its errors. `building` builds the tree of
 //! a manifest entry by entry, and `growing` is a tree under construction. Each parser returns exactly what the grammar of `pv_model` defines, and an error contains the number

@@ -1,4 +1,4 @@
-//! Parsing whole manifests, alone or in a bundle.
+//! Parsing complete manifests, alone or in a bundle.
 ghost use Rattle.std.specs.Prelude.{◌≡◌, ◌+◌, ◌<◌, ◌^◌, [], length, false, IfOk};
 ghost use Rattle.pv_model.specs.Machine.{lines_of, entry_of, read_manifest};
 ghost use Rattle.pv_model.specs.Grammar.Manifests.{entries_from, manifest_by};

@@ -11,7 +11,7 @@ use Rattle.pv_blocks.specs.BlockSet.{is_member}
 use Rattle.pv_model.specs.declared.version.Version.{Version}
 use Rattle.pv_model.specs.Machine.{Bytes, size, used_content, used_index, has_bad_block, has_bad_inode, is_data_block, is_free, kind, appears_twice, entry_length, greatest_length}
 use Rattle.pv_model.specs.Mount.{used_before, used_by}
-use Rattle.pv_image_mount.specs.Claims.{is_refused, is_taken_by, HasUsedBefore}
+use Rattle.pv_image_mount.specs.Claims.{are_refused_blocks, is_taken_by, HasUsedBefore}
 
 -- ---- lists
 
@@ -61,8 +61,8 @@ module _ (v : Version) (bytes : Bytes) where
   used_by-used n used = ap (λ b. cond b [] (used_content v bytes n ++ used_index v bytes n)) used
 
   -- a block is invalid by the specification if and only if the set rejects it
-  pub bad_block-refused : (used : BlockSet) (n : ℕ) → HasUsedBefore used v bytes n → is_refused (is_data_block v bytes) (is_member used) (used_by v bytes n) ≡ has_bad_block v bytes n
-  unfolding has_bad_block is_refused
+  pub bad_block-refused : (used : BlockSet) (n : ℕ) → HasUsedBefore used v bytes n → are_refused_blocks (is_data_block v bytes) (is_member used) (used_by v bytes n) ≡ has_bad_block v bytes n
+  unfolding has_bad_block are_refused_blocks
   bad_block-refused used n has =
       ap (λ b. list_any (λ k. not (is_data_block v bytes k)) (used_by v bytes n) || appears_twice ◌==◌ (used_by v bytes n) || b)
       (same_tests (is_member used) (λ k. list_any (λ o. o == k) (used_before v bytes n)) has (used_by v bytes n))

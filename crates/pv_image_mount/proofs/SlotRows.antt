@@ -13,35 +13,35 @@ use Rattle.pv_model.specs.declared.version.Version.{Version}
 use Rattle.pv_model.specs.declared.version.Version.TheVariants.{V1, V2}
 use Rattle.pv_model.specs.Machine.{Bytes, inode_number, is_bad_slot, is_free, slot_length, slot_name, slot_number, slots_of, appears_twice, entry_length, greatest_name, is_name}
 use Rattle.pv_laws_trees.proofs.NameOrder.{less_from}
-use Rattle.pv_laws_trees.proofs.Images.{length-slots_of, room_for}
+use Rattle.pv_laws_trees.proofs.TreeImages.{length-slots_of, room_for}
 use Rattle.pv_image_mount.proofs.InodeContents.{none_at}
 use Rattle.pv_image_mount.proofs.SortedNames.{once_rising}
-use Rattle.pv_image_mount.specs.Slots.{name_key, slot_at, slot_key, NamesAscend}
+use Rattle.pv_image_mount.specs.Slots.{name_key, slot_of_content, slot_key, NamesAscend}
 
 -- a slot is within the contents
 pub slot_within : (v : Version) (i len : ℕ) → i < len / entry_length v → entry_length v * i + entry_length v ≤ len
 slot_within V1 i len less = omega arith
 slot_within V2 i len less = omega arith
 
-slot_after : (v : Version) (i : ℕ) (content : Bytes) → slot_at v (drop (entry_length v) content) i ≡ slot_at v content (suc i)
+slot_after : (v : Version) (i : ℕ) (content : Bytes) → slot_of_content v (drop (entry_length v) content) i ≡ slot_of_content v content (suc i)
 slot_after v i content =
     let long = entry_length v in
     let same : long + long * i ≡ long * suc i = omega arith in
     ap (take long) (drop-drop (long * i) long content ∙ ap (λ m. drop m content) same)
 
-slot_first : (v : Version) (content : Bytes) → take (entry_length v) content ≡ slot_at v content 0
+slot_first : (v : Version) (content : Bytes) → take (entry_length v) content ≡ slot_of_content v content 0
 slot_first v content =
     let none : 0 ≡ entry_length v * 0 = omega arith in
     ap (λ m. take (entry_length v) (drop m content)) none
 
-pub slots_more : (v : Version) (k : ℕ) (content : Bytes) → slots_of v (k + 1) content ≡ slots_of v k content ++ slot_at v content k ∷ []
+pub slots_more : (v : Version) (k : ℕ) (content : Bytes) → slots_of v (k + 1) content ≡ slots_of v k content ++ slot_of_content v content k ∷ []
 slots_more v zero content = ap (λ s. s ∷ []) (slot_first v content)
 slots_more v (suc k) content =
     let plus : suc k + 1 ≡ suc (k + 1) = omega arith in
     ap (λ m. slots_of v m content) plus
     ∙ ap (λ ss. take (entry_length v) content ∷ ss) (slots_more v k (drop (entry_length v) content) ∙ ap (λ s. slots_of v k (drop (entry_length v) content) ++ s ∷ []) (slot_after v k content))
 
-pub get_or-slots : (v : Version) (k i : ℕ) (content : Bytes) → i < k → get_or (slots_of v k content) i [] ≡ slot_at v content i
+pub get_or-slots : (v : Version) (k i : ℕ) (content : Bytes) → i < k → get_or (slots_of v k content) i [] ≡ slot_of_content v content i
 get_or-slots v zero i content less = absurd (omega arith)
 get_or-slots v (suc k) zero content less = slot_first v content
 get_or-slots v (suc k) (suc i) content less = get_or-slots v k i (drop (entry_length v) content) (omega arith) ∙ slot_after v i content
@@ -49,17 +49,17 @@ get_or-slots v (suc k) (suc i) content less = get_or-slots v k i (drop (entry_le
 -- ---- a test on slots
 
 module _ (p : Bytes → Bool) (v : Version) (content : Bytes) where
-  pub any_slot_more : (k : ℕ) → list_any p (slots_of v k content) ≡ false → p (slot_at v content k) ≡ false → list_any p (slots_of v (k + 1) content) ≡ false
+  pub any_slot_more : (k : ℕ) → list_any p (slots_of v k content) ≡ false → p (slot_of_content v content k) ≡ false → list_any p (slots_of v (k + 1) content) ≡ false
   any_slot_more k before here =
-      ap (list_any p) (slots_more v k content) ∙ list_any-append p (slots_of v k content) (slot_at v content k ∷ [])
-      ∙ or_from (list_any p (slots_of v k content)) (p (slot_at v content k) || false) before (or_from (p (slot_at v content k)) false here refl)
+      ap (list_any p) (slots_more v k content) ∙ list_any-append p (slots_of v k content) (slot_of_content v content k ∷ [])
+      ∙ or_from (list_any p (slots_of v k content)) (p (slot_of_content v content k) || false) before (or_from (p (slot_of_content v content k)) false here refl)
 
-  pub any_slot_at : (k i : ℕ) → i < k → p (slot_at v content i) ≡ true → list_any p (slots_of v k content) ≡ true
+  pub any_slot_at : (k i : ℕ) → i < k → p (slot_of_content v content i) ≡ true → list_any p (slots_of v k content) ≡ true
   any_slot_at k i less is =
       let within : i < length (slots_of v k content) = subst (λ m. i < m) (sym (length-slots_of v k content)) less in
       list_any_at p (slots_of v k content) i [] within (ap p (get_or-slots v k i content less) ∙ is)
 
-  no_slot_at : (k i : ℕ) → i < k → list_any p (slots_of v k content) ≡ false → p (slot_at v content i) ≡ false
+  no_slot_at : (k i : ℕ) → i < k → list_any p (slots_of v k content) ≡ false → p (slot_of_content v content i) ≡ false
   no_slot_at k i less none =
       let within : i < length (slots_of v k content) = subst (λ m. i < m) (sym (length-slots_of v k content)) less in
       sym (ap p (get_or-slots v k i content less)) ∙ none_at p (slots_of v k content) i [] none within
@@ -81,15 +81,15 @@ name_short v bytes slot fine =
 
 -- so it is in a slot of contents without invalid slots
 pub name_fits : (v : Version) (bytes content slot : Bytes) (count i : ℕ) → list_any (is_bad_slot v bytes) (slots_of v count content) ≡ false → i < count
-    → slot ≡ slot_at v content i → length slot ≡ entry_length v → 4 + slot_length slot ≤ length slot
+    → slot ≡ slot_of_content v content i → length slot ≡ entry_length v → 4 + slot_length slot ≤ length slot
 name_fits v bytes content slot count i none less is whole =
     name_within v slot whole (name_short v bytes slot (ap (is_bad_slot v bytes) is ∙ no_slot_at (is_bad_slot v bytes) v content count i less none))
 
-map-slots_more : {X : Type 0} (of : Bytes → X) (v : Version) (content : Bytes) (k : ℕ) → map of (slots_of v k content) ++ of (slot_at v content k) ∷ [] ≡ map of (slots_of v (k + 1) content)
-map-slots_more of v content k = sym (ap (map of) (slots_more v k content) ∙ map-append of (slots_of v k content) (slot_at v content k ∷ []))
+map-slots_more : {X : Type 0} (of : Bytes → X) (v : Version) (content : Bytes) (k : ℕ) → map of (slots_of v k content) ++ of (slot_of_content v content k) ∷ [] ≡ map of (slots_of v (k + 1) content)
+map-slots_more of v content k = sym (ap (map of) (slots_more v k content) ∙ map-append of (slots_of v k content) (slot_of_content v content k ∷ []))
 
 pub names_more : {X : Type 0} (now : X → Bytes) (v : Version) (content : Bytes) (k : ℕ) (names new : List X) (name : X)
-    → map now names ≡ map slot_name (slots_of v k content) → new ≡ names ++ name ∷ [] → now name ≡ slot_name (slot_at v content k)
+    → map now names ≡ map slot_name (slots_of v k content) → new ≡ names ++ name ∷ [] → now name ≡ slot_name (slot_of_content v content k)
     → map now new ≡ map slot_name (slots_of v (k + 1) content)
 names_more now v content k names new name before more is =
     ap (map now) more ∙ map-append now names (name ∷ []) ∙ ap (λ l. l ++ now name ∷ []) before ∙ ap (λ x. map slot_name (slots_of v k content) ++ x ∷ []) is
@@ -106,13 +106,13 @@ ascending_once v content count up =
     let before : k + 1 - 1 ≡ k = omega arith in
     less_from (slice_cmp nat_cmp (slot_name (get_or slots k [])) (slot_name (get_or slots (k + 1) [])))
     (ap (λ s. is_lt (slice_cmp nat_cmp (slot_name s) (slot_name (get_or slots (k + 1) [])))) (get_or-slots v count k content low)
-    ∙ ap (λ s. is_lt (slice_cmp nat_cmp (slot_name (slot_at v content k)) (slot_name s))) (get_or-slots v count (k + 1) content less)
-    ∙ sym (ap (λ m. is_lt (slice_cmp nat_cmp (slot_name (slot_at v content m)) (slot_name (slot_at v content (k + 1))))) before) ∙ up (k + 1) less one))
+    ∙ ap (λ s. is_lt (slice_cmp nat_cmp (slot_name (slot_of_content v content k)) (slot_name s))) (get_or-slots v count (k + 1) content less)
+    ∙ sym (ap (λ m. is_lt (slice_cmp nat_cmp (slot_name (slot_of_content v content m)) (slot_name (slot_of_content v content (k + 1))))) before) ∙ up (k + 1) less one))
 
 -- ---- keys of names
 
 pub keys_more : (v : Version) (content : Bytes) (k : ℕ) (keys new : List ℕ) (key : ℕ)
-    → keys ≡ map slot_key (slots_of v k content) → new ≡ keys ++ key ∷ [] → key ≡ slot_key (slot_at v content k) → new ≡ map slot_key (slots_of v (k + 1) content)
+    → keys ≡ map slot_key (slots_of v k content) → new ≡ keys ++ key ∷ [] → key ≡ slot_key (slot_of_content v content k) → new ≡ map slot_key (slots_of v (k + 1) content)
 keys_more v content k keys new key before more is =
     more ∙ ap (λ l. l ++ key ∷ []) before ∙ ap (λ n. map slot_key (slots_of v k content) ++ n ∷ []) is ∙ map-slots_more slot_key v content k
 

@@ -9,14 +9,14 @@ use Rattle.pv_model.specs.declared.version.Version.{Version}
 use Rattle.pv_model.specs.declared.version.Version.TheVariants.{V1, V2}
 use Rattle.pv_model.specs.Machine.{Bytes, content, size, has_bad_content, has_bad_inode, inode_number, is_bad_slot, is_free, kind, name_count, slot_length, slot_name, slot_number, slots_at, slots_of, appears_twice, entry_length, greatest_length, greatest_name, is_name}
 use Rattle.pv_model.specs.Mount.{has_slot_for, inode_numbers}
-use Rattle.pv_laws_trees.proofs.Images.{length-slots_of}
+use Rattle.pv_laws_trees.proofs.TreeImages.{length-slots_of}
 use Rattle.pv_image_mount.proofs.BadContents.{used_kind}
 use Rattle.pv_image_mount.proofs.InodeBlocks.{size_fits}
 use Rattle.pv_image_mount.proofs.InodeContents.{none_at}
 use Rattle.pv_image_mount.proofs.SlotRows.{slots_more}
-use Rattle.pv_image_mount.specs.Numbers.{IsNumber}
-use Rattle.pv_image_mount.specs.Places.{is_among, targets_of, times}
-use Rattle.pv_image_mount.specs.Slots.{slot_at}
+use Rattle.pv_image_mount.specs.Numbers.{IsInodeNumber}
+use Rattle.pv_image_mount.specs.Places.{is_among, targets_of, occurrences_of}
+use Rattle.pv_image_mount.specs.Slots.{slot_of_content}
 
 pub slot_long : (v : Version) → 2 ≤ entry_length v
 slot_long V1 = omega arith
@@ -27,11 +27,11 @@ few_entries V1 s most = omega arith
 few_entries V2 s most = omega arith
 
 pub numbers_more : (v : Version) (content : Bytes) (k : ℕ) (numbers new : List ℕ) (number : ℕ)
-    → numbers ≡ map slot_number (slots_of v k content) → new ≡ numbers ++ number ∷ [] → number ≡ slot_number (slot_at v content k)
+    → numbers ≡ map slot_number (slots_of v k content) → new ≡ numbers ++ number ∷ [] → number ≡ slot_number (slot_of_content v content k)
     → new ≡ map slot_number (slots_of v (k + 1) content)
 numbers_more v content k numbers new number before more is =
     more ∙ ap (λ l. l ++ number ∷ []) before ∙ ap (λ x. map slot_number (slots_of v k content) ++ x ∷ []) is
-    ∙ sym (ap (map slot_number) (slots_more v k content) ∙ map-append slot_number (slots_of v k content) (slot_at v content k ∷ []))
+    ∙ sym (ap (map slot_number) (slots_more v k content) ∙ map-append slot_number (slots_of v k content) (slot_of_content v content k ∷ []))
 
 any_mapped : (k : ℕ) (slots : List Bytes) → list_any (λ slot. slot_number slot == k) slots ≡ is_among (map slot_number slots) k
 any_mapped k [] = refl
@@ -62,9 +62,9 @@ module _ (v : Version) (bytes : Bytes) where
   unfolding targets_of
   slot_for-among k d = any_mapped k (slots_at v bytes d)
 
-  pub name_count-times : (k : ℕ) → name_count v bytes k ≡ times k (flat_map (targets_of v bytes) (inode_numbers bytes))
-  unfolding targets_of times
-  name_count-times k =
+  pub name_count-occurrences_of : (k : ℕ) → name_count v bytes k ≡ occurrences_of k (flat_map (targets_of v bytes) (inode_numbers bytes))
+  unfolding targets_of occurrences_of
+  name_count-occurrences_of k =
       let slots = flat_map (slots_at v bytes) (inode_numbers bytes) in
       length-filter (λ slot. slot_number slot == k) slots ∙ count_mapped k slots ∙ ap (count_by (λ other. other == k)) (flat_mapped (slots_at v bytes) (inode_numbers bytes))
 
@@ -80,7 +80,7 @@ module _ (v : Version) (bytes : Bytes) where
         | false ↦ λ differs. subst (λ m. m ≤ 2540) (sym (ap length (targets-other n differs))) (omega arith)
       ] refl
 
-  good_slot : (slot : Bytes) → is_bad_slot v bytes slot ≡ false → IsNumber bytes (slot_number slot)
+  good_slot : (slot : Bytes) → is_bad_slot v bytes slot ≡ false → IsInodeNumber bytes (slot_number slot)
   good_slot slot fine =
       let inside = nat_le 1 (slot_number slot) && nat_le (slot_number slot) (inode_number bytes) in
       let free = is_free v bytes (slot_number slot) in
@@ -94,7 +94,7 @@ module _ (v : Version) (bytes : Bytes) where
       (leb-true 1 (slot_number slot) both.0, leb-true (slot_number slot) (inode_number bytes) both.1)
 
   -- each target is the number of an inode
-  pub target_number : (n : ℕ) → has_bad_content v bytes n ≡ false → (i : ℕ) → i < length (targets_of v bytes n) → IsNumber bytes (get_or (targets_of v bytes n) i 0)
+  pub target_number : (n : ℕ) → has_bad_content v bytes n ≡ false → (i : ℕ) → i < length (targets_of v bytes n) → IsInodeNumber bytes (get_or (targets_of v bytes n) i 0)
   unfolding targets_of has_bad_content
   target_number n fine i within =
       let slots = slots_at v bytes n in
@@ -102,4 +102,4 @@ module _ (v : Version) (bytes : Bytes) where
       let first = or_parts (list_any (is_bad_slot v bytes) slots || appears_twice bytes_eq (map slot_name slots)) text fine in
       let none = (or_parts (list_any (is_bad_slot v bytes) slots) (appears_twice bytes_eq (map slot_name slots)) first.0).0 in
       let inner : i < length slots = subst (λ m. i < m) (length-map slots slot_number) within in
-      subst (IsNumber bytes) (sym (get_or-map slot_number slots i [] 0 inner)) (good_slot (get_or slots i []) (none_at (is_bad_slot v bytes) slots i [] none inner))
+      subst (IsInodeNumber bytes) (sym (get_or-map slot_number slots i [] 0 inner)) (good_slot (get_or slots i []) (none_at (is_bad_slot v bytes) slots i [] none inner))

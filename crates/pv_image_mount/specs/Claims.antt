@@ -8,8 +8,8 @@ use Rattle.pv_model.specs.Machine.{Bytes, appears_twice}
 use Rattle.pv_model.specs.Mount.{used_before}
 
 -- whether a block of the list is invalid, is taken, or occurs twice
-unfoldable pub is_refused : (may_be_used taken : ℕ → Bool) → List ℕ → Bool
-is_refused may_be_used taken blocks =
+unfoldable pub are_refused_blocks : (may_be_used taken : ℕ → Bool) → List ℕ → Bool
+are_refused_blocks may_be_used taken blocks =
     list_any (λ k. not (may_be_used k)) blocks || appears_twice ◌==◌ blocks || list_any taken blocks
 
 -- whether a block is in the list, or taken

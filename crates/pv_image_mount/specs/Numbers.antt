@@ -3,5 +3,5 @@ use Rattle.std.specs.Prelude.{ℕ, ◌≤◌}
 use Rattle.pv_model.specs.Machine.{Bytes, inode_number}
 
 -- the number of an inode of the image
-abbrev pub IsNumber : Bytes → ℕ → Type 0
-IsNumber bytes n = (1 ≤ n) × (n ≤ inode_number bytes)
+abbrev pub IsInodeNumber : Bytes → ℕ → Type 0
+IsInodeNumber bytes n = (1 ≤ n) × (n ≤ inode_number bytes)

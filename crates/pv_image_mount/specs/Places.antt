@@ -14,17 +14,17 @@ abbrev pub is_among : List ℕ → ℕ → Bool
 is_among numbers k = list_any (λ other. other == k) numbers
 
 -- the number of occurrences of k
-unfoldable pub times : ℕ → List ℕ → ℕ
-times k numbers = count_by (λ other. other == k) numbers
+unfoldable pub occurrences_of : ℕ → List ℕ → ℕ
+occurrences_of k numbers = count_by (λ other. other == k) numbers
 
 -- the list with k at its end, unless it contains k
 abbrev pub with_number_last : List ℕ → ℕ → List ℕ
 with_number_last numbers k = if is_among numbers k then numbers else numbers ++ k ∷ []
 
 -- the list with those of the others at its end that it does not contain
-abbrev pub joined : List ℕ → List ℕ → List ℕ
-joined numbers [] = numbers
-joined numbers (k ∷ ks) = joined (with_number_last numbers k) ks
+abbrev pub joined_numbers : List ℕ → List ℕ → List ℕ
+joined_numbers numbers [] = numbers
+joined_numbers numbers (k ∷ ks) = joined_numbers (with_number_last numbers k) ks
 
 -- the set contains the numbers of the list, where each occurs once
 pub record HasEach (set : BlockSet) (numbers : List ℕ) : Type 0 where

@@ -8,8 +8,8 @@ use Rattle.pv_model.specs.Machine.{Bytes, is_bad_slot, slot_name, appears_twice,
 use Rattle.pv_image_mount.specs.declared.slots.TheConstants.{FACTOR}
 
 -- slot i of a directory's contents
-abbrev pub slot_at : Version → Bytes → ℕ → Bytes
-slot_at v content i = take (entry_length v) (drop (entry_length v * i) content)
+abbrev pub slot_of_content : Version → Bytes → ℕ → Bytes
+slot_of_content v content i = take (entry_length v) (drop (entry_length v * i) content)
 
 -- a hash extended by bytes: each byte has FACTOR times the weight of the next
 unfoldable pub key_after : ℕ → Bytes → ℕ
@@ -24,7 +24,7 @@ slot_key slot = name_key (slot_name slot)
 
 -- the names in the first `count` slots ascend: each follows the one before it
 abbrev pub NamesAscend : Version → ℕ → Bytes → Type 0
-NamesAscend v count content = (k : ℕ) → k < count → 1 ≤ k → IsTrue (is_lt (slice_cmp nat_cmp (slot_name (slot_at v content (k - 1))) (slot_name (slot_at v content k))))
+NamesAscend v count content = (k : ℕ) → k < count → 1 ≤ k → IsTrue (is_lt (slice_cmp nat_cmp (slot_name (slot_of_content v content (k - 1))) (slot_name (slot_of_content v content k))))
 
 -- whether one of some slots is invalid, or two have the same name
 unfoldable pub are_bad_slots : Version → Bytes → List Bytes → Bool

@@ -1,7 +1,7 @@
 //! Reading the contents of inodes.
 ghost use Rattle.std.specs.Prelude.{◌≡◌, ◌<◌, ℕ, false, flat_map, length, slice_index, IfOk};
 ghost use Rattle.pv_model.specs.Machine.{block, content, used_content, block_number, has_bad_block, has_bad_inode, is_free};
-ghost use Rattle.pv_image_mount.specs.Numbers.{IsNumber};
+ghost use Rattle.pv_image_mount.specs.Numbers.{IsInodeNumber};
 
 use crate::image::Image;
 use pv_model::limits::BLOCK;
@@ -10,7 +10,7 @@ use std::alloc::{AllocError, Global};
 impl Image<'_> {
     // Returns the blocks of an inode's contents, in order. The inode is in use.
     fn content_blocks(&self, alloc: Global, n: u16) -> Result<Vec<u16>, AllocError>
-        requires number { IsNumber self.now.bytes.now n }
+        requires number { IsInodeNumber self.now.bytes.now n }
         requires inode { has_bad_inode self.now.version self.now.bytes.now n ≡ false }
         requires block { has_bad_block self.now.version self.now.bytes.now n ≡ false }
         requires used { is_free self.now.version self.now.bytes.now n ≡ false }
@@ -34,7 +34,7 @@ impl Image<'_> {
 
     /// Returns the contents of an inode in use.
     pub(crate) fn content(&self, alloc: Global, n: u16) -> Result<Vec<u8>, AllocError>
-        requires number { IsNumber self.now.bytes.now n }
+        requires number { IsInodeNumber self.now.bytes.now n }
         requires inode { has_bad_inode self.now.version self.now.bytes.now n ≡ false }
         requires block { has_bad_block self.now.version self.now.bytes.now n ≡ false }
         requires used { is_free self.now.version self.now.bytes.now n ≡ false }

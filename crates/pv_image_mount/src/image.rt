@@ -4,8 +4,8 @@ ghost use Rattle.pv_model.specs.declared.format.TheConstants.{HEADER, MAGIC};
 ghost use Rattle.pv_model.specs.declared.limits.TheConstants.{BLOCK, INODES};
 ghost use Rattle.pv_model.specs.Machine.{block, inode, inode_blocks, inode_length, size, block_number, inode_number, is_data_block, kind};
 ghost use Rattle.pv_model.specs.Image.{stored_count};
-ghost use Rattle.pv_model.specs.Mount.{has_sizes, version_of, HasSizes, IsFaultOf};
-ghost use Rattle.pv_image_mount.specs.Numbers.{IsNumber};
+ghost use Rattle.pv_model.specs.Mount.{has_sizes, version_of, HasSizes, IsErrorOf};
+ghost use Rattle.pv_image_mount.specs.Numbers.{IsInodeNumber};
 
 use crate::fields::{u8_at, u16_at, u32_at};
 use crate::sizes::{are_image_sizes, inode_blocks};
@@ -62,7 +62,7 @@ impl<'a> Image<'a> {
     pub(crate) fn read(bytes: &'a [u8]) -> Result<Image<'a>, ImageFault>
         ensures bytes { IfOk result (λ image. image.bytes.now ≡ bytes.now) }
         ensures sizes { IfOk result (λ image. HasSizes bytes.now image.version) }
-        ensures refused { IfErr result (λ fault. IsFaultOf bytes.now fault) }
+        ensures refused { IfErr result (λ fault. IsErrorOf bytes.now fault) }
     {
         if bytes.len() < BLOCK {
             return Err(ImageFault::Short);
@@ -83,7 +83,7 @@ impl<'a> Image<'a> {
 
     /// Returns the bytes of an inode.
     pub(crate) fn inode(&self, n: u16) -> &'a [u8]
-        requires { IsNumber self.now.bytes.now n }
+        requires { IsInodeNumber self.now.bytes.now n }
         ensures bytes { result.now ≡ inode self.now.version self.now.bytes.now n }
         ensures length { length result.now ≡ inode_length self.now.version }
     {
@@ -94,7 +94,7 @@ impl<'a> Image<'a> {
 
     /// Returns the kind field of an inode.
     pub(crate) fn kind(&self, n: u16) -> u8
-        requires { IsNumber self.now.bytes.now n }
+        requires { IsInodeNumber self.now.bytes.now n }
         ensures { result ≡ kind self.now.version self.now.bytes.now n }
     {
         u8_at(self.inode(n), KIND_AT)
@@ -102,7 +102,7 @@ impl<'a> Image<'a> {
 
     /// Returns the length of an inode's contents in bytes.
     pub(crate) fn size(&self, n: u16) -> u32
-        requires { IsNumber self.now.bytes.now n }
+        requires { IsInodeNumber self.now.bytes.now n }
         ensures { result ≡ size self.now.version self.now.bytes.now n }
     {
         u32_at(self.inode(n), SIZE_AT)
@@ -110,7 +110,7 @@ impl<'a> Image<'a> {
 
     /// Returns the link count that is stored in an inode.
     pub(crate) fn stored_count(&self, n: u16) -> u32
-        requires { IsNumber self.now.bytes.now n }
+        requires { IsInodeNumber self.now.bytes.now n }
         ensures { result ≡ stored_count self.now.version (inode self.now.version self.now.bytes.now n) }
     {
         match self.version {

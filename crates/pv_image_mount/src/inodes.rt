@@ -2,7 +2,7 @@
 ghost use Rattle.std.specs.Prelude.{◌≡◌, IfNone, IfSome};
 ghost use Rattle.pv_model.specs.Machine.{has_bad_inode, PassesNone};
 ghost use Rattle.pv_model.specs.Mount.{PassesLeast};
-ghost use Rattle.pv_image_mount.specs.Numbers.{IsNumber};
+ghost use Rattle.pv_image_mount.specs.Numbers.{IsInodeNumber};
 
 use crate::image::Image;
 use pv_model::format::{DIRECTORY, FREE, LINK};
@@ -12,7 +12,7 @@ impl Image<'_> {
     // Returns whether an inode has an invalid kind, or a size that is invalid for its kind.
     #[tactic(auto, unfolding(pv_model::specs::Mount::has_bad_inode))]
     fn has_bad_inode(&self, n: u16) -> bool
-        requires { IsNumber self.now.bytes.now n }
+        requires { IsInodeNumber self.now.bytes.now n }
         ensures { result ≡ has_bad_inode self.now.version self.now.bytes.now n }
     {
         let kind = self.kind(n);

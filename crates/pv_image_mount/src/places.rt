@@ -3,7 +3,7 @@ ghost use Rattle.std.specs.Prelude.{◌≡◌, ◌+◌, ◌≤◌, ◌<◌, ℕ,
 ghost use Rattle.pv_blocks.specs.BlockSet.{is_member};
 ghost use Rattle.pv_model.specs.Machine.{has_bad_block, has_bad_content, has_bad_inode, inode_number, is_reached_within, name_count, PassesNone};
 ghost use Rattle.pv_model.specs.Mount.{has_bad_place, may_be_named, PassesLeast};
-ghost use Rattle.pv_image_mount.specs.Numbers.{IsNumber};
+ghost use Rattle.pv_image_mount.specs.Numbers.{IsInodeNumber};
 
 use crate::image::Image;
 use pv_blocks::BlockSet;
@@ -15,7 +15,7 @@ impl Image<'_> {
     // Returns whether an inode can have `count` names: the root has none, every other directory has one, and a file or
     // symbolic link has at least one.
     fn may_be_named(&self, n: u16, count: u32) -> bool
-        requires { IsNumber self.now.bytes.now n }
+        requires { IsInodeNumber self.now.bytes.now n }
         ensures { result ≡ may_be_named self.now.version self.now.bytes.now n count }
     {
         let is_directory = self.kind(n) == DIRECTORY;
@@ -32,7 +32,7 @@ impl Image<'_> {
     // reachable from the root. `counts` has the number of names of each inode, and `reached` the reachable inodes.
     #[tactic(auto, unfolding(pv_model::specs::Mount::has_bad_place))]
     fn has_bad_place(&self, n: u16, counts: &[u32], reached: &BlockSet) -> bool
-        requires number { IsNumber self.now.bytes.now n }
+        requires number { IsInodeNumber self.now.bytes.now n }
         requires length { length counts.now ≡ inode_number self.now.bytes.now + 1 }
         requires counts { slice_index counts.now n ≡ name_count self.now.version self.now.bytes.now n }
         requires reached { is_member reached.now n ≡ is_reached_within self.now.version self.now.bytes.now (inode_number self.now.bytes.now) n }

@@ -2,7 +2,7 @@
 ghost use Rattle.std.specs.Prelude.{◌≡◌, ◌≤◌, ℕ, IfOk, OnOk};
 ghost use Rattle.pv_blocks.specs.BlockSet.{is_member};
 ghost use Rattle.pv_model.specs.Machine.{has_bad_block, has_bad_content, has_bad_inode, inode_number, is_reached_within, PassesNone};
-ghost use Rattle.pv_image_mount.specs.Places.{joined, HasEach};
+ghost use Rattle.pv_image_mount.specs.Places.{joined_numbers, HasEach};
 
 use crate::image::Image;
 use pv_blocks::BlockSet;
@@ -12,7 +12,7 @@ use std::alloc::{AllocError, Global};
 // Adds the numbers that are not in a set to the set, and appends them to the list of its elements.
 fn add_unseen(seen: &mut BlockSet, order: &mut Vec<u16>, numbers: &[u16]) -> Result<(), AllocError>
     requires { HasEach seen.old order.old.items }
-    ensures order { OnOk result (order.new.items ≡ joined order.old.items numbers.now) }
+    ensures order { OnOk result (order.new.items ≡ joined_numbers order.old.items numbers.now) }
     ensures seen { OnOk result (HasEach seen.new order.new.items) }
 {
     for k in numbers {

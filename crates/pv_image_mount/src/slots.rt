@@ -5,8 +5,8 @@ ghost use Rattle.std.specs.List.{list_any};
 ghost use Rattle.std.specs.Ordering.{nat_cmp, is_lt};
 ghost use Rattle.pv_model.specs.Machine.{has_bad_block, has_bad_content, has_bad_inode, is_bad_slot, kind, slot_length, slot_name, slots_at, slots_of, appears_twice, PassesNone, entry_length};
 ghost use Rattle.pv_model.specs.Mount.{PassesLeast};
-ghost use Rattle.pv_image_mount.specs.Numbers.{IsNumber};
-ghost use Rattle.pv_image_mount.specs.Slots.{are_bad_slots, name_key, slot_at, slot_key, NamesAscend};
+ghost use Rattle.pv_image_mount.specs.Numbers.{IsInodeNumber};
+ghost use Rattle.pv_image_mount.specs.Slots.{are_bad_slots, name_key, slot_of_content, slot_key, NamesAscend};
 
 use crate::fields::{u8_at, u16_at};
 use crate::image::Image;
@@ -74,7 +74,7 @@ impl Image<'_> {
     // Returns slot `i` in the contents of a directory.
     pub(crate) fn slot<'b>(&self, content: &'b [u8], i: usize) -> &'b [u8]
         requires { i < length content.now / entry_length self.now.version }
-        ensures bytes { result.now ≡ slot_at self.now.version content.now i }
+        ensures bytes { result.now ≡ slot_of_content self.now.version content.now i }
         ensures length { length result.now ≡ entry_length self.now.version }
     {
         let length = self.version.layout().slot_length;
@@ -175,7 +175,7 @@ impl Image<'_> {
 
     // Returns whether the slots of a directory or the target of a symbolic link are invalid.
     fn has_bad_content(&self, alloc: Global, n: u16) -> Result<bool, AllocError>
-        requires number { IsNumber self.now.bytes.now n }
+        requires number { IsInodeNumber self.now.bytes.now n }
         requires inode { has_bad_inode self.now.version self.now.bytes.now n ≡ false }
         requires block { has_bad_block self.now.version self.now.bytes.now n ≡ false }
         ensures { IfOk result (λ bad. bad ≡ has_bad_content self.now.version self.now.bytes.now n) }

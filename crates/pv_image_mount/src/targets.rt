@@ -1,8 +1,8 @@
 //! The inodes that the slots of directories name.
 ghost use Rattle.std.specs.Prelude.{◌≡◌, ◌+◌, ◌/◌, ◌≤◌, ◌<◌, ◌^◌, ℕ, false, length, map, slice_index, IfOk};
 ghost use Rattle.pv_model.specs.Machine.{has_bad_block, has_bad_content, has_bad_inode, inode_number, name_count, slot_number, slots_of, PassesNone, entry_length};
-ghost use Rattle.pv_image_mount.specs.Numbers.{IsNumber};
-ghost use Rattle.pv_image_mount.specs.Places.{targets_of, times};
+ghost use Rattle.pv_image_mount.specs.Numbers.{IsInodeNumber};
+ghost use Rattle.pv_image_mount.specs.Places.{targets_of, occurrences_of};
 
 use crate::fields::u16_at;
 use crate::image::Image;
@@ -13,7 +13,7 @@ use std::alloc::{AllocError, Global};
 fn add_counts(counts: &mut [u32], numbers: &[u16])
     requires within { (i : ℕ) → i < length numbers.now → slice_index numbers.now i < length counts.old }
     requires few { (k : ℕ) → slice_index counts.old k + length numbers.now < 2 ^ 32 }
-    ensures { (k : ℕ) → k < length counts.old → slice_index counts.new k ≡ slice_index counts.old k + times k numbers.now }
+    ensures { (k : ℕ) → k < length counts.old → slice_index counts.new k ≡ slice_index counts.old k + occurrences_of k numbers.now }
 {
     for k in numbers {
         counts[*k as usize] += 1;
@@ -35,7 +35,7 @@ impl Image<'_> {
 
     /// Returns the inode numbers in the slots of a directory, or an empty list if the inode is not a directory.
     pub(crate) fn targets(&self, alloc: Global, n: u16) -> Result<Vec<u16>, AllocError>
-        requires number { IsNumber self.now.bytes.now n }
+        requires number { IsInodeNumber self.now.bytes.now n }
         requires inode { has_bad_inode self.now.version self.now.bytes.now n ≡ false }
         requires block { has_bad_block self.now.version self.now.bytes.now n ≡ false }
         ensures { IfOk result (λ list. list.items ≡ targets_of self.now.version self.now.bytes.now n) }

@@ -3,8 +3,8 @@ ghost use Rattle.std.specs.Prelude.{◌≡◌, ◌+◌, ◌*◌, ◌≤◌, ◌<
 ghost use Rattle.pv_blocks.specs.BlockSet.{is_member};
 ghost use Rattle.pv_model.specs.Machine.{block_count, size, used_content, used_index, block_number, has_bad_block, has_bad_inode, is_data_block, PassesNone, greatest_length, rounded_up};
 ghost use Rattle.pv_model.specs.Mount.{PassesLeast};
-ghost use Rattle.pv_image_mount.specs.Claims.{is_refused, is_taken_by, HasUsedBefore};
-ghost use Rattle.pv_image_mount.specs.Numbers.{IsNumber};
+ghost use Rattle.pv_image_mount.specs.Claims.{are_refused_blocks, is_taken_by, HasUsedBefore};
+ghost use Rattle.pv_image_mount.specs.Numbers.{IsInodeNumber};
 ghost use Rattle.pv_image_mount.specs.Rows.{pointed_row, pointer_row};
 
 use crate::fields::u16_at;
@@ -34,7 +34,7 @@ fn add_pointers(list: &mut Vec<u16>, bytes: &[u8], count: usize) -> Result<(), A
 impl Image<'_> {
     // Returns the number of blocks of an inode's contents.
     fn block_count(&self, n: u16) -> usize
-        requires { IsNumber self.now.bytes.now n }
+        requires { IsInodeNumber self.now.bytes.now n }
         ensures { result ≡ block_count self.now.version self.now.bytes.now n }
     {
         self.size(n).div_ceil(BLOCK as u32) as usize
@@ -42,7 +42,7 @@ impl Image<'_> {
 
     /// Returns the index blocks of an inode.
     pub(crate) fn used_index(&self, alloc: Global, n: u16) -> Result<Vec<u16>, AllocError>
-        requires number { IsNumber self.now.bytes.now n }
+        requires number { IsInodeNumber self.now.bytes.now n }
         requires size { size self.now.version self.now.bytes.now n ≤ greatest_length self.now.version }
         ensures { IfOk result (λ list. list.items ≡ used_index self.now.version self.now.bytes.now n) }
     {
@@ -62,7 +62,7 @@ impl Image<'_> {
         n: u16,
         index: &[u16],
     ) -> Result<Vec<u16>, AllocError>
-        requires number { IsNumber self.now.bytes.now n }
+        requires number { IsInodeNumber self.now.bytes.now n }
         requires index { index.now ≡ used_index self.now.version self.now.bytes.now n }
         requires within { (i : ℕ) → i < length index.now → slice_index index.now i < block_number self.now.bytes.now }
         ensures { IfOk result (λ list. list.items ≡ used_content self.now.version self.now.bytes.now n) }
@@ -85,7 +85,7 @@ impl Image<'_> {
     // that is not a data block or is used already, and returns whether there was one.
     fn claim_row(&self, bytes: &[u8], count: usize, used: &mut BlockSet) -> bool
         requires { 2 * count ≤ length bytes.now }
-        ensures refused { result ≡ is_refused (is_data_block self.now.version self.now.bytes.now) (is_member used.old) (pointer_row count bytes.now) }
+        ensures refused { result ≡ are_refused_blocks (is_data_block self.now.version self.now.bytes.now) (is_member used.old) (pointer_row count bytes.now) }
         ensures after { result ≡ false → (k : ℕ) → is_member used.new k ≡ is_taken_by (is_member used.old) (pointer_row count bytes.now) k }
     {
         for i in 0..count {
@@ -102,7 +102,7 @@ impl Image<'_> {
     fn claim_pointed(&self, index: &[u8], count: usize, used: &mut BlockSet) -> bool
         requires room { 2 * rounded_up count 256 ≤ length index.now }
         requires within { (i : ℕ) → i < rounded_up count 256 → slice_index (pointer_row (rounded_up count 256) index.now) i < block_number self.now.bytes.now }
-        ensures refused { result ≡ is_refused (is_data_block self.now.version self.now.bytes.now) (is_member used.old) (pointed_row count self.now.bytes.now (pointer_row (rounded_up count 256) index.now)) }
+        ensures refused { result ≡ are_refused_blocks (is_data_block self.now.version self.now.bytes.now) (is_member used.old) (pointed_row count self.now.bytes.now (pointer_row (rounded_up count 256) index.now)) }
         ensures after { result ≡ false → (k : ℕ) → is_member used.new k ≡ is_taken_by (is_member used.old) (pointed_row count self.now.bytes.now (pointer_row (rounded_up count 256) index.now)) k }
     {
         for i in 0..count.div_ceil(POINTED_BLOCKS) {
@@ -118,9 +118,9 @@ impl Image<'_> {
     // Does the same for all blocks of an inode in use. The index blocks come first, so that each is known to be a data
     // block before its pointers are read.
     fn claim_used(&self, n: u16, used: &mut BlockSet) -> bool
-        requires number { IsNumber self.now.bytes.now n }
+        requires number { IsInodeNumber self.now.bytes.now n }
         requires size { size self.now.version self.now.bytes.now n ≤ greatest_length self.now.version }
-        ensures refused { result ≡ is_refused (is_data_block self.now.version self.now.bytes.now) (is_member used.old) (used_index self.now.version self.now.bytes.now n ++ used_content self.now.version self.now.bytes.now n) }
+        ensures refused { result ≡ are_refused_blocks (is_data_block self.now.version self.now.bytes.now) (is_member used.old) (used_index self.now.version self.now.bytes.now n ++ used_content self.now.version self.now.bytes.now n) }
         ensures after { result ≡ false → (k : ℕ) → is_member used.new k ≡ is_taken_by (is_member used.old) (used_index self.now.version self.now.bytes.now n ++ used_content self.now.version self.now.bytes.now n) k }
     {
         let inode = self.inode(n);
@@ -139,7 +139,7 @@ impl Image<'_> {
     // Returns whether an inode uses a block that is not a data block or is used already. If not, adds its blocks to the
     // set.
     fn has_bad_block(&self, n: u16, used: &mut BlockSet) -> bool
-        requires number { IsNumber self.now.bytes.now n }
+        requires number { IsInodeNumber self.now.bytes.now n }
         requires inode { has_bad_inode self.now.version self.now.bytes.now n ≡ false }
         requires used { HasUsedBefore used.old self.now.version self.now.bytes.now n }
         ensures bad { result ≡ has_bad_block self.now.version self.now.bytes.now n }

@@ -1,18 +1,18 @@
 -- Lemmas of written images.
 --
--- - Law: the bytes are an image of the tree, from Places, Heads (inodes), Contents and Reading; Ranges, Components and
---   Listed are below them
+-- - WrittenImage: the bytes are an image of the tree, from ImageParts, InodeReads (inodes), NodeContents and
+--   BlockReads; NumberRanges, PartConcatenation and EntryLists are below them
 -- - NamedTrees, PlacedTrees: the tree that is written
--- - Windows (the bytes that were written, and those in the window), Writing (node by node)
-pub mod Ranges
-pub mod Components
-pub mod Listed
-pub mod Contents
-pub mod Heads
-pub mod Reading
+-- - WindowWrites (the bytes that were written, and those in the window), ImageWrites (node by node)
+pub mod NumberRanges
+pub mod PartConcatenation
+pub mod EntryLists
+pub mod NodeContents
+pub mod InodeReads
+pub mod BlockReads
 pub mod NamedTrees
-pub mod Places
-pub mod Windows
-pub mod Writing
-pub mod Law
+pub mod ImageParts
+pub mod WindowWrites
+pub mod ImageWrites
+pub mod WrittenImage
 pub mod PlacedTrees

@@ -4,7 +4,7 @@ use Rattle.std.proofs.lemmas.Bool.{cases_Bool, ne_eqb, or_right}
 use Rattle.pv_model.specs.Machine.{among, named_tree, Node, Tree, root, node_at, named_numbers, IsWellFormed}
 use Rattle.pv_laws_trees.proofs.Collection.{Covers, entries-only}
 use Rattle.pv_laws_trees.proofs.NameCounts.{name_count, named-is, is_positive, positive-is, names-same}
-use Rattle.pv_laws_trees.proofs.Numbered.{keep-passes, keep-fails, keep-some, length-keep}
+use Rattle.pv_laws_trees.proofs.NumberedMaps.{keep-passes, keep-fails, keep-some, length-keep}
 use Rattle.pv_laws_trees.proofs.Trees.{sound}
 use Rattle.pv_image_write.specs.Placed.{written_at}
 

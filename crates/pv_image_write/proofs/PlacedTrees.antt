@@ -14,21 +14,21 @@ use Rattle.pv_model.specs.Held.{only_nodes}
 use Rattle.pv_model.specs.Tree.{first_parent}
 use Rattle.pv_laws_trees.specs.Preserved.{preserved}
 use Rattle.pv_laws_trees.specs.Room.{IsNoLarger}
-use Rattle.pv_laws_trees.proofs.Entries.{by_name}
+use Rattle.pv_laws_trees.proofs.DirectoryEntries.{by_name}
 use Rattle.pv_laws_trees.proofs.Collection.{only-sound, reached-along}
 use Rattle.pv_laws_trees.proofs.NameCounts.{names-in_most, names-most}
-use Rattle.pv_laws_trees.proofs.Numbered.{at_number-below, length-keep}
-use Rattle.pv_laws_trees.proofs.Places.{list_all-weaker}
-use Rattle.pv_laws_trees.proofs.Rooms.{preserved-no_larger, length-within, smaller-fits, greatest-low}
+use Rattle.pv_laws_trees.proofs.NumberedMaps.{at_number-below, length-keep}
+use Rattle.pv_laws_trees.proofs.WalkPlaces.{list_all-weaker}
+use Rattle.pv_laws_trees.proofs.NodeRoom.{preserved-no_larger, length-within, smaller-fits, greatest-low}
 use Rattle.pv_laws_trees.proofs.Trees.{sound, well_formed}
 use Rattle.pv_tree.specs.Holding.{HeldTree}
 use Rattle.pv_tree.specs.Present.{IsPresent}
-use Rattle.pv_tree.proofs.OfDirs.Strides.{name_length}
+use Rattle.pv_tree.proofs.OfDirs.EqualParts.{name_length}
 use Rattle.pv_image_write.specs.Placed.{lengthened, placed, written_at, named_need}
-use Rattle.pv_image_write.specs.Encoding.{contained, content_of, taken, taken_of, taken_before}
+use Rattle.pv_image_write.specs.Encoding.{node_content, content_of, taken, taken_of, taken_before}
 use Rattle.pv_image_write.specs.Writable.{IsWritable, names_end}
-use Rattle.pv_image_write.proofs.Contents.{EachOf, HasShortName, length-contained}
-use Rattle.pv_image_write.proofs.Listed.{named-at, all-get}
+use Rattle.pv_image_write.proofs.NodeContents.{EachOf, HasShortName, length-node_content}
+use Rattle.pv_image_write.proofs.EntryLists.{named-at, all-get}
 use Rattle.pv_image_write.proofs.NamedTrees.{preserved_numbers, covers, as_written-was, as_written-none, names-preserved}
 
 -- ---- numbers without nodes
@@ -143,7 +143,7 @@ pub taken_before-few : (u : Tree) → ((n : ℕ) → taken_of u.version (node_at
 taken_before-few u few zero = omega arith
 taken_before-few u few (suc n) = omega (arith, few n, taken_before-few u few n)
 
-taken-needed : (u : Tree) → ((n : ℕ) (node : Node) → node_at u n ≡ Some node → taken (length (contained u.version node)) ≡ need u.version (node_length u.version node))
+taken-needed : (u : Tree) → ((n : ℕ) (node : Node) → node_at u n ≡ Some node → taken (length (node_content u.version node)) ≡ need u.version (node_length u.version node))
     → (xs : Numbered Node) (j : ℕ) → ((i : ℕ) → at_number xs i ≡ node_at u (j + i))
     → taken_before u (j + length xs) ≡ taken_before u j + sum_by (λ node. need u.version (node_length u.version node)) (present xs)
 taken-needed u needs [] j same = let none : j + 0 ≡ j = omega arith in omega (arith, ap (taken_before u) none)
@@ -191,7 +191,7 @@ module _ (h : HeldTree) (s : IsPresent h) (v : Version) (blocks inodes : ℕ) wh
     unfolding parent
     parent-as n = ap (λ (ps : List (ℕ × Node)). cond (n == root) (Some root) (first_parent n ps)) numbered-placed
 
-    -- a node that is written is one of the tree
+    -- a written node is a node of the tree
     pub was-there : (n : ℕ) (node : Node) → node_at (placed h.tree v blocks inodes) n ≡ Some node → node_at h.tree n ≡ Some node
     was-there n node at = as_written-was h.tree n node (sym (node-placed n) ∙ at)
 
@@ -249,8 +249,8 @@ module _ (h : HeldTree) (s : IsPresent h) (v : Version) (blocks inodes : ℕ) wh
     short-names n (file_node executable bytes) at = tt
     short-names n (link_node text) at = tt
 
-    pub length-node : (n : ℕ) (node : Node) → node_at h.tree n ≡ Some node → length (contained v node) ≡ node_length v node
-    length-node n node at = length-contained v node (short-names n node at)
+    pub length-node : (n : ℕ) (node : Node) → node_at h.tree n ≡ Some node → length (node_content v node) ≡ node_length v node
+    length-node n node at = length-node_content v node (short-names n node at)
 
     node-short : (n : ℕ) (node : Node) → node_at h.tree n ≡ Some node → node_length v node ≤ greatest_length v
     node-short n node at = length-fits h.tree.version v node longer_names (length-within h.tree n node at s.short)
@@ -320,7 +320,7 @@ module _ (h : HeldTree) (s : IsPresent h) (v : Version) (blocks inodes : ℕ) wh
 
     -- ---- room
 
-    needed-as : (n : ℕ) (node : Node) → node_at (placed h.tree v blocks inodes) n ≡ Some node → taken (length (contained v node)) ≡ need v (node_length v node)
+    needed-as : (n : ℕ) (node : Node) → node_at (placed h.tree v blocks inodes) n ≡ Some node → taken (length (node_content v node)) ≡ need v (node_length v node)
     needed-as n node at =
         let was = was-there n node at in
         ap taken (length-node n node was) ∙ sym (need-taken v (node_length v node) (node-short n node was))

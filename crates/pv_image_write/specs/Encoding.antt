@@ -12,18 +12,18 @@ unfoldable pub padded : ℕ → Bytes → Bytes
 padded n bytes = bytes ++ replicate (n - length bytes) 0
 
 -- block numbers, two bytes each
-unfoldable pub encoded : List ℕ → Bytes
-encoded ks = flat_map (little_endian 2) ks
+unfoldable pub encoded_numbers : List ℕ → Bytes
+encoded_numbers ks = flat_map (little_endian 2) ks
 
 -- the slot of an entry: its inode number, the length of its name, 0, its name, and zeros
 unfoldable pub slot_of : Version → Bytes × ℕ → Bytes
 slot_of v e = padded (entry_length v) (little_endian 2 e.1 ++ length e.0 ∷ 0 ∷ e.0)
 
 -- the contents of a node
-abbrev pub contained : Version → Node → Bytes
-contained v (directory_node es) = flat_map (slot_of v) es
-contained v (file_node executable bytes) = bytes
-contained v (link_node text) = text
+abbrev pub node_content : Version → Node → Bytes
+node_content v (directory_node es) = flat_map (slot_of v) es
+node_content v (file_node executable bytes) = bytes
+node_content v (link_node text) = text
 
 -- ---- the consecutive blocks of a node
 
@@ -47,13 +47,13 @@ unfoldable pub content_blocks : ℕ → Bytes → Bytes
 content_blocks k bytes =
     let size = length bytes in
     padded (BLOCK * blocks_for size) bytes
-    ++ padded (BLOCK * index_for size) (encoded (range_with_len (k + direct_for size) (blocks_for size - direct_for size)))
+    ++ padded (BLOCK * index_for size) (encoded_numbers (range_with_len (k + direct_for size) (blocks_for size - direct_for size)))
 
 -- the bytes after contents of this length in these blocks
 unfoldable pub after_content : ℕ → ℕ → Bytes
 after_content k size =
     replicate (BLOCK * blocks_for size - size) 0
-    ++ padded (BLOCK * index_for size) (encoded (range_with_len (k + direct_for size) (blocks_for size - direct_for size)))
+    ++ padded (BLOCK * index_for size) (encoded_numbers (range_with_len (k + direct_for size) (blocks_for size - direct_for size)))
 
 -- ---- inodes
 
@@ -72,29 +72,29 @@ unfoldable pub inode_bytes : Version → ℕ → ℕ → ℕ → ℕ → Bytes
 inode_bytes v sort count size k =
     (sort ∷ 0 ∷ before_size v count)
     ++ (little_endian 4 size
-    ++ (padded 20 (encoded (range_with_len k (direct_for size)))
-    ++ (padded (2 * index_pointers v) (encoded (range_with_len (k + blocks_for size) (index_for size)))
+    ++ (padded 20 (encoded_numbers (range_with_len k (direct_for size)))
+    ++ (padded (2 * index_pointers v) (encoded_numbers (range_with_len (k + blocks_for size) (index_for size)))
     ++ after_pointers v count)))
 
 -- ---- the image of a tree whose nodes are all written
 
 abbrev pub content_of : Version → Option Node → Bytes
 content_of v None = []
-content_of v (Some node) = contained v node
+content_of v (Some node) = node_content v node
 
 -- the number of blocks that a node takes
 abbrev pub taken_of : Version → Option Node → ℕ
 taken_of v None = 0
-taken_of v (Some node) = taken (length (contained v node))
+taken_of v (Some node) = taken (length (node_content v node))
 
 -- the inode of a node with this number of names, whose blocks start at block k, or a free inode
 abbrev pub inode_of : Version → ℕ → ℕ → Option Node → Bytes
 inode_of v names k None = replicate (inode_length v) 0
-inode_of v names k (Some node) = inode_bytes v (sort_number node) names (length (contained v node)) k
+inode_of v names k (Some node) = inode_bytes v (sort_number node) names (length (node_content v node)) k
 
-abbrev pub blocks_of : Version → ℕ → Option Node → Bytes
-blocks_of v k None = []
-blocks_of v k (Some node) = content_blocks k (contained v node)
+abbrev pub content_blocks_of : Version → ℕ → Option Node → Bytes
+content_blocks_of v k None = []
+content_blocks_of v k (Some node) = content_blocks k (node_content v node)
 
 -- the number of blocks that nodes with lesser numbers take
 abbrev pub taken_before : Tree → ℕ → ℕ
@@ -102,30 +102,30 @@ taken_before t zero = 0
 taken_before t (suc n) = taken_before t n + taken_of t.version (node_at t n)
 
 -- the first data block
-abbrev pub first_data : Version → ℕ → ℕ
-first_data v inodes = inode_blocks v inodes + 1
+abbrev pub first_data_block : Version → ℕ → ℕ
+first_data_block v inodes = inode_blocks v inodes + 1
 
 -- the first block of a node
-unfoldable pub first_of : Tree → ℕ → ℕ
-first_of t n = first_data t.version t.inodes + taken_before t n
+unfoldable pub first_block_of : Tree → ℕ → ℕ
+first_block_of t n = first_data_block t.version t.inodes + taken_before t n
 
 -- the concatenation of the bytes for each number from 1 to n
-abbrev pub joined : (ℕ → Bytes) → ℕ → Bytes
-joined part zero = []
-joined part (suc n) = joined part n ++ part (suc n)
+abbrev pub concatenated : (ℕ → Bytes) → ℕ → Bytes
+concatenated part zero = []
+concatenated part (suc n) = concatenated part n ++ part (suc n)
 
 abbrev pub inode_at : Tree → ℕ → Bytes
-inode_at t n = inode_of t.version (length (names_of t n)) (first_of t n) (node_at t n)
+inode_at t n = inode_of t.version (length (names_of t n)) (first_block_of t n) (node_at t n)
 
-abbrev pub blocks_at : Tree → ℕ → Bytes
-blocks_at t n = blocks_of t.version (first_of t n) (node_at t n)
+abbrev pub content_blocks_at : Tree → ℕ → Bytes
+content_blocks_at t n = content_blocks_of t.version (first_block_of t n) (node_at t n)
 
 -- the inodes, and the contents, of the nodes up to number n
 unfoldable pub all_inodes : Tree → ℕ → Bytes
-all_inodes t n = joined (inode_at t) n
+all_inodes t n = concatenated (inode_at t) n
 
 unfoldable pub all_contents : Tree → ℕ → Bytes
-all_contents t n = joined (blocks_at t) n
+all_contents t n = concatenated (content_blocks_at t) n
 
 -- the first block: the magic number, the numbers of blocks and inodes, and zeros
 unfoldable pub first_block : Version → ℕ → ℕ → Bytes
@@ -133,6 +133,6 @@ first_block v blocks inodes = magic v ++ (little_endian 2 blocks ++ (little_endi
 
 unfoldable pub image_bytes : Tree → Bytes
 image_bytes t =
-    first_block t.version (first_data t.version t.inodes + t.blocks) t.inodes
+    first_block t.version (first_data_block t.version t.inodes + t.blocks) t.inodes
     ++ (padded (BLOCK * inode_blocks t.version t.inodes) (all_inodes t t.inodes)
     ++ padded (BLOCK * t.blocks) (all_contents t t.inodes))

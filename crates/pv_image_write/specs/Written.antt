@@ -40,7 +40,7 @@ pub record BeginsImageOf (IsTree : Tree → Type 0) (before after : Option Bytes
   pub image : BeginsImage tree before after
 
 -- a front of some bytes was written, and the rest of them is in the window
-pub record IsPut (before now : Option Bytes) (window all : Bytes) : Type 0 where
+pub record IsPartlyWritten (before now : Option Bytes) (window all : Bytes) : Type 0 where
   pub front : Bytes
   pub written : now ≡ and_all before front
   pub whole : all ≡ front ++ window

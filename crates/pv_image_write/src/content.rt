@@ -1,6 +1,6 @@
 //! The contents of nodes.
 ghost use Rattle.std.specs.Prelude.{◌≡◌, ◌+◌, ◌*◌, ◌≤◌, ◌++◌, false, length, flat_map, option_map, vec_capacity, vec_len, Some, IsTrue, IsSome, IfSome};
-ghost use Rattle.pv_tree.specs.OfDirs.Trees.{bytes_at};
+ghost use Rattle.pv_tree.specs.OfDirs.Trees.{node_bytes_at};
 ghost use Rattle.pv_model.specs.Machine.{next_name, entry_length, greatest_length, greatest_name, node_at, entries_at, find_entry, is_directory_at};
 ghost use Rattle.pv_image_write.specs.Encoding.{content_of, slot_of};
 
@@ -61,9 +61,9 @@ fn put_slots(bytes: &mut Vec<u8>, tree: &Tree, version: Version, directory: u16)
 fn put_bytes(bytes: &mut Vec<u8>, tree: &Tree, node: u16)
     requires used { IsSome (node_at tree.now.tree node) }
     requires other { is_directory_at tree.now.tree node ≡ false }
-    requires room { vec_len bytes.old + length (bytes_at tree.now.tree node) ≤ vec_capacity bytes.old }
-    ensures items { bytes.new.items ≡ bytes.old.items ++ bytes_at tree.now.tree node }
-    ensures len { vec_len bytes.new ≡ vec_len bytes.old + length (bytes_at tree.now.tree node) }
+    requires room { vec_len bytes.old + length (node_bytes_at tree.now.tree node) ≤ vec_capacity bytes.old }
+    ensures items { bytes.new.items ≡ bytes.old.items ++ node_bytes_at tree.now.tree node }
+    ensures len { vec_len bytes.new ≡ vec_len bytes.old + length (node_bytes_at tree.now.tree node) }
     ensures capacity { vec_capacity bytes.old ≤ vec_capacity bytes.new }
 {
     let size = tree.size(node);

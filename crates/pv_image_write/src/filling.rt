@@ -2,7 +2,7 @@
 ghost use Rattle.std.specs.Prelude.{◌≡◌, ◌+◌, ◌*◌, ◌^◌, ◌<◌, ◌≤◌, ◌++◌, vec_capacity, vec_len, length, replicate};
 ghost use Rattle.std.specs.List.{range_with_len};
 ghost use Rattle.pv_model.specs.Machine.{little_endian};
-ghost use Rattle.pv_image_write.specs.Encoding.{padded, encoded};
+ghost use Rattle.pv_image_write.specs.Encoding.{padded, encoded_numbers};
 
 use byteorder::{ByteOrder, LittleEndian};
 
@@ -67,12 +67,12 @@ pub(crate) fn put_u32(bytes: &mut Vec<u8>, number: u32)
 }
 
 /// Appends the numbers of `count` consecutive blocks, two bytes each, and pads them with zeros to `length` bytes.
-#[tactic(auto, unfolding(crate::specs::Encoding::padded, crate::specs::Encoding::encoded))]
+#[tactic(auto, unfolding(crate::specs::Encoding::padded, crate::specs::Encoding::encoded_numbers))]
 pub(crate) fn put_pointers(bytes: &mut Vec<u8>, first: u16, count: u16, length: usize)
     requires pointers { first + count < 2 ^ 16 }
     requires fit { 2 * count ≤ length }
     requires room { vec_len bytes.old + length ≤ vec_capacity bytes.old }
-    ensures items { bytes.new.items ≡ bytes.old.items ++ padded length (encoded (range_with_len first count)) }
+    ensures items { bytes.new.items ≡ bytes.old.items ++ padded length (encoded_numbers (range_with_len first count)) }
     ensures len { vec_len bytes.new ≡ vec_len bytes.old + length }
     ensures capacity { vec_capacity bytes.old ≤ vec_capacity bytes.new }
 {

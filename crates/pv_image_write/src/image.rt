@@ -4,7 +4,7 @@ ghost use Rattle.pv_model.specs.declared.limits.TheConstants.{BLOCK, INODES};
 ghost use Rattle.pv_model.specs.Machine.{named_tree, inode_blocks, inode_length, are_image_sizes, Rose, greatest_name, names_of, node_at};
 ghost use Rattle.pv_streams.specs.Sinks.{and_all, Writes, WritesPrefix};
 ghost use Rattle.pv_image_write.specs.Placed.{placed, placed_contents, written_at, named_need};
-ghost use Rattle.pv_image_write.specs.Encoding.{all_inodes, blocks_of, first_block, image_bytes, inode_of, padded, taken_of};
+ghost use Rattle.pv_image_write.specs.Encoding.{all_inodes, content_blocks_of, first_block, image_bytes, inode_of, padded, taken_of};
 ghost use Rattle.pv_image_write.specs.Written.{WritesTree};
 ghost use Rattle.pv_image_write.specs.Writable.{names_end, IsWritableAs};
 
@@ -70,7 +70,7 @@ fn add_blocks(bytes: &mut Vec<u8>, tree: &Tree, version: Version, node: u16, fir
     requires blocks { first + taken_of version (written_at tree.now.tree node) < 2 ^ 16 }
     requires room { let taken = taken_of version (written_at tree.now.tree node) in
         vec_len bytes.old + BLOCK * taken ≤ vec_capacity bytes.old }
-    ensures items { let blocks = blocks_of version first (written_at tree.now.tree node) in
+    ensures items { let blocks = content_blocks_of version first (written_at tree.now.tree node) in
         bytes.new.items ≡ bytes.old.items ++ blocks }
     ensures capacity { vec_capacity bytes.old ≤ vec_capacity bytes.new }
 {

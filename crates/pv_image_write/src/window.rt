@@ -3,7 +3,7 @@ ghost use Rattle.std.specs.Prelude.{◌≡◌, ◌+◌, ◌*◌, ◌<◌, ◌≤
 ghost use Rattle.pv_model.specs.declared.limits.TheConstants.{BLOCK};
 ghost use Rattle.pv_model.specs.Machine.{Rose};
 ghost use Rattle.pv_streams.specs.Sinks.{WritesPrefix};
-ghost use Rattle.pv_image_write.specs.Written.{IsPut};
+ghost use Rattle.pv_image_write.specs.Written.{IsPartlyWritten};
 
 use crate::filling::put_zeros;
 use pv_model::limits::BLOCK;
@@ -15,7 +15,7 @@ const CHUNK: usize = 65_536;
 /// Writes the window and empties it, if it is full.
 pub(crate) fn write_full<O: Sink>(window: &mut Vec<u8>, image: &mut O) -> Result<(), Failed>
     ensures put { OnOk result
-        (IsPut (O.written image.old) (O.written image.new) window.new.items window.old.items) }
+        (IsPartlyWritten (O.written image.old) (O.written image.new) window.new.items window.old.items) }
     ensures small { OnOk result (vec_len window.new < CHUNK) }
     ensures capacity { vec_capacity window.old ≤ vec_capacity window.new }
     ensures cut { OnErr result
@@ -38,7 +38,7 @@ pub(crate) fn write_zeros<O: Sink>(
     image: &mut O,
 ) -> Result<(), Failed>
     requires { vec_len window.old + BLOCK * blocks ≤ vec_capacity window.old }
-    ensures put { OnOk result (IsPut (O.written image.old) (O.written image.new)
+    ensures put { OnOk result (IsPartlyWritten (O.written image.old) (O.written image.new)
         window.new.items (window.old.items ++ replicate (BLOCK * blocks) 0)) }
     ensures cut { OnErr result (WritesPrefix (window.old.items ++ replicate (BLOCK * blocks) 0)
         (O.written image.old) (O.written image.new)) }

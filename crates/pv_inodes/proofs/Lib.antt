@@ -1,34 +1,36 @@
 -- Lemmas of files on blocks.
 --
--- - numbers: Numbers (maps from numbers), Bytes (overwriting), Layouts (the sizes of a version: no other proof computes
---   with them), Least (the start of the search for a free inode)
--- - a write to a block: Splices, Patches, Heads (fields of inodes, and pointers), Contents (byte by byte)
--- - owners of blocks: Ownership, Pushes (an inode allocates a block), Making (an inode is created or freed), InUse (the
---   remaining room)
--- - the effect of a change: Growth, Becoming, Edits (one inode), Leaving (the results of the methods), Reading (what
---   they read), Emptiness
--- - an existing image: Images (numbers, pointers and contents in bytes are those in blocks), Uses (the lists of blocks
---   that inodes use are the sequences that they own), Claims (blocks marked as in use one by one), Mounting
-pub mod Becoming
-pub mod Bytes
-pub mod Claims
-pub mod Contents
-pub mod Copying
-pub mod Edits
-pub mod Emptiness
-pub mod Growth
-pub mod Heads
-pub mod Images
-pub mod InUse
-pub mod Layouts
-pub mod Least
-pub mod Leaving
-pub mod Making
-pub mod Mounting
-pub mod Numbers
-pub mod Ownership
-pub mod Patches
-pub mod Pushes
-pub mod Reading
-pub mod Splices
-pub mod Uses
+-- - numbers: NumberMaps (maps from numbers), ByteLists (overwriting), InodeLayouts (the sizes of a version: no other
+--   proof computes with them), LeastFreeInode (the start of the search for a free inode)
+-- - a write to a block: BlockNumbers, ContentWrites, InodeFields (fields of inodes, and pointers), InodeContents (byte
+--   by byte)
+-- - owners of blocks: BlockOwners, BlockAllocation (an inode allocates a block), InodeCreation (an inode is created or
+--   freed), UsedInodes (the remaining room)
+-- - the effect of a change: ContentGrowth, ChangedInode, EditedFiles (one inode), MethodResults (the results of the
+--   methods), ReadResults (what they read), EmptyStore
+-- - an existing image: ImageBlocks (numbers, pointers and contents in bytes are those in blocks), BlockUses (the lists
+--   of blocks that inodes use are the sequences that they own), ClaimedBlocks (blocks marked as in use one by one),
+--   MountedStore
+pub mod ChangedInode
+pub mod ByteLists
+pub mod ClaimedBlocks
+pub mod InodeContents
+pub mod StoreCopies
+pub mod EditedFiles
+pub mod EmptyStore
+pub mod ContentGrowth
+pub mod InodeFields
+pub mod ImageBlocks
+pub mod UsedInodes
+pub mod InodeLayouts
+pub mod LeastFreeInode
+pub mod MethodResults
+pub mod InodeCreation
+pub mod MountedStore
+pub mod NumberMaps
+pub mod BlockOwners
+pub mod ContentWrites
+pub mod BlockAllocation
+pub mod ReadResults
+pub mod BlockNumbers
+pub mod BlockUses

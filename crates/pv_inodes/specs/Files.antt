@@ -17,17 +17,17 @@ pub record Files : Type 0 where
   pub blocks : ℕ
 
 -- the kind field of an inode
-abbrev pub sort_number : Kind → ℕ
-sort_number Directory = 1
-sort_number File = 2
-sort_number Executable = 3
-sort_number Symlink = 4
+abbrev pub kind_number : Kind → ℕ
+kind_number Directory = 1
+kind_number File = 2
+kind_number Executable = 3
+kind_number Symlink = 4
 
-abbrev pub sort_of : ℕ → Kind
-sort_of (suc zero) = Directory
-sort_of (suc (suc zero)) = File
-sort_of (suc (suc (suc zero))) = Executable
-sort_of _ = Symlink
+abbrev pub kind_of_number : ℕ → Kind
+kind_of_number (suc zero) = Directory
+kind_of_number (suc (suc zero)) = File
+kind_of_number (suc (suc (suc zero))) = Executable
+kind_of_number _ = Symlink
 
 abbrev pub held : Files → ℕ → Option Contained
 held f n = at_number f.nodes n
@@ -35,13 +35,13 @@ held f n = at_number f.nodes n
 abbrev pub IsUsed : Files → ℕ → Type 0
 IsUsed f n = IsSome (held f n)
 
-abbrev pub bytes_of : Option Contained → Bytes
-bytes_of None = []
-bytes_of (Some c) = c.bytes
+abbrev pub contained_bytes : Option Contained → Bytes
+contained_bytes None = []
+contained_bytes (Some c) = c.bytes
 
 -- the contents of an inode, which are empty if it is free
-abbrev pub bytes_at : Files → ℕ → Bytes
-bytes_at f n = bytes_of (held f n)
+abbrev pub inode_bytes_at : Files → ℕ → Bytes
+inode_bytes_at f n = contained_bytes (held f n)
 
 -- the kind of an inode, if it is in use
 abbrev pub sort_at : Files → ℕ → Option Kind
@@ -55,28 +55,28 @@ room_of version c = need version (length c.bytes)
 abbrev pub total_room : Files → ℕ
 total_room f = sum_by (room_of f.version) (present f.nodes)
 
-abbrev pub HasRoom : Files → Type 0
-HasRoom f = total_room f ≤ f.blocks
+abbrev pub HasRoomForFiles : Files → Type 0
+HasRoomForFiles f = total_room f ≤ f.blocks
 
-abbrev pub LacksRoom : Files → Type 0
-LacksRoom f = f.blocks < total_room f
+abbrev pub LacksRoomForFiles : Files → Type 0
+LacksRoomForFiles f = f.blocks < total_room f
 
-abbrev pub replaced : Files → ℕ → Option Contained → Bytes → Files
-replaced f n None bytes = f
-replaced f n (Some c) bytes = record f { nodes = with_number f.nodes n (record c { bytes = bytes }) }
+abbrev pub with_contents_replaced : Files → ℕ → Option Contained → Bytes → Files
+with_contents_replaced f n None bytes = f
+with_contents_replaced f n (Some c) bytes = record f { nodes = with_number f.nodes n (record c { bytes = bytes }) }
 
 -- the files with other contents of an inode that is in use
-abbrev pub with_bytes : Files → ℕ → Bytes → Files
-with_bytes f n bytes = replaced f n (held f n) bytes
+abbrev pub files_with_bytes : Files → ℕ → Bytes → Files
+files_with_bytes f n bytes = with_contents_replaced f n (held f n) bytes
 
 -- the files after a write at an offset; a write of zero bytes changes nothing
-abbrev pub written : Files → ℕ → ℕ → Bytes → Files
-written f n at [] = f
-written f n at (b ∷ bytes) = with_bytes f n (overwrite (bytes_at f n) at (b ∷ bytes))
+abbrev pub written_files : Files → ℕ → ℕ → Bytes → Files
+written_files f n at [] = f
+written_files f n at (b ∷ bytes) = files_with_bytes f n (overwrite (inode_bytes_at f n) at (b ∷ bytes))
 
 -- the files after a truncation or an extension with zeros
-abbrev pub cut : Files → ℕ → ℕ → Files
-cut f n size = with_bytes f n (resize (bytes_at f n) size)
+abbrev pub truncated_files : Files → ℕ → ℕ → Files
+truncated_files f n size = files_with_bytes f n (resize (inode_bytes_at f n) size)
 
 -- the files with a new inode without contents
 abbrev pub with_new : Files → ℕ → Kind → Files
@@ -87,5 +87,5 @@ abbrev pub without : Files → ℕ → Files
 without f n = record f { nodes = without_number f.nodes n }
 
 -- the least free inode, or the number of inodes plus one if none is free
-abbrev pub new_number : Files → ℕ
-new_number f = suc (least_free (drop 1 f.nodes))
+abbrev pub new_inode : Files → ℕ
+new_inode f = suc (least_free (drop 1 f.nodes))

@@ -5,7 +5,7 @@ use Rattle.byteorder.specs.Endian.{little_from, little_bytes}
 use Rattle.pv_model.specs.declared.version.Version.{Version}
 use Rattle.pv_model.specs.declared.limits.TheConstants.{BLOCK}
 use Rattle.pv_model.specs.Machine.{Bytes, inode_length, index_pointers}
-use Rattle.pv_inodes.specs.Files.{Contained, sort_of}
+use Rattle.pv_inodes.specs.Files.{Contained, kind_of_number}
 
 abbrev pub block_at : List Bytes → ℕ → Bytes
 block_at bs k = slice_index_or bs k []
@@ -72,24 +72,24 @@ owned_count version bs s = if kind_at version bs s == 0 then 0 else wanted (size
 
 -- the position of block j of the contents in the sequence: an index block precedes block 10, and every 256th block
 -- after that
-unfoldable pub place_of : ℕ → ℕ
-place_of j = j + (j + 246) / 256
+unfoldable pub position_of_block : ℕ → ℕ
+position_of_block j = j + (j + 246) / 256
 
 -- a byte of the contents of inode s
 unfoldable pub content_byte : Version → List Bytes → ℕ → ℕ → ℕ
-content_byte version bs s x = slice_index (block_at bs (owned_at version bs s (place_of (x / BLOCK)))) (x % BLOCK)
+content_byte version bs s x = slice_index (block_at bs (owned_at version bs s (position_of_block (x / BLOCK)))) (x % BLOCK)
 
 -- the contents of inode s
 unfoldable pub content_at : Version → List Bytes → ℕ → Bytes
 content_at version bs s = map (content_byte version bs s) (range_with_len 0 (size_at version bs s))
 
 -- the kind and the contents of inode s, if it is not free
-unfoldable pub node_at : Version → List Bytes → ℕ → Option Contained
-node_at version bs s = if kind_at version bs s == 0 then None else Some (record { sort = sort_of (kind_at version bs s); bytes = content_at version bs s })
+unfoldable pub contained_at : Version → List Bytes → ℕ → Option Contained
+contained_at version bs s = if kind_at version bs s == 0 then None else Some (record { sort = kind_of_number (kind_at version bs s); bytes = content_at version bs s })
 
 -- the inodes by their numbers, which start at 1
 unfoldable pub nodes_in : Version → List Bytes → ℕ → List (Option Contained)
-nodes_in version bs inodes = None ∷ map (node_at version bs) (range_with_len 0 inodes)
+nodes_in version bs inodes = None ∷ map (contained_at version bs) (range_with_len 0 inodes)
 
 unfoldable pub with_kind : Version → List Bytes → ℕ → ℕ → List Bytes
 with_kind version bs s kind = splice bs (home version s) (offset version s) (kind ∷ [])

@@ -13,7 +13,7 @@ unfoldable pub first_data : Version → ℕ → ℕ
 first_data version inodes = inode_blocks version inodes + 1
 
 -- the shape of a store of blocks with this number of inodes
-pub record IsShaped (version : Version) (st : BlockStore) (inodes : ℕ) : Type 0 where
+pub record IsShapedStore (version : Version) (st : BlockStore) (inodes : ℕ) : Type 0 where
   pub first : st.first ≡ first_data version inodes
   pub first_within : st.first ≤ length st.blocks
   pub flags : length st.free ≡ length st.blocks
@@ -22,7 +22,7 @@ pub record IsShaped (version : Version) (st : BlockStore) (inodes : ℕ) : Type 
 
 -- the invariant of the blocks
 pub record IsSound (version : Version) (st : BlockStore) (inodes : ℕ) : Type 0 where
-  pub shape : IsShaped version st inodes
+  pub shape : IsShapedStore version st inodes
   pub kinds : (s : ℕ) → s < inodes → kind_at version st.blocks s ≤ 4
   pub sizes : (s : ℕ) → s < inodes → 0 < kind_at version st.blocks s → size_at version st.blocks s ≤ greatest_length version
   pub owning : IsOwning inodes (most_owned version) st.first (length st.blocks) st.free (owned_count version st.blocks) (owned_at version st.blocks)
@@ -40,8 +40,8 @@ unfoldable pub pushed : Version → BlockStore → ℕ → ℕ → ℕ → Block
 pushed version st s i k = record st { blocks = with_owned version (slice_set st.blocks k zeros) s i k; free = slice_set st.free k false }
 
 -- the store with another length of inode s
-unfoldable pub resized : Version → BlockStore → ℕ → ℕ → BlockStore
-resized version st s size = record st { blocks = with_size version st.blocks s size }
+unfoldable pub resized_store : Version → BlockStore → ℕ → ℕ → BlockStore
+resized_store version st s size = record st { blocks = with_size version st.blocks s size }
 
 -- the store with block k overwritten from an offset on
 unfoldable pub patched : BlockStore → ℕ → ℕ → Bytes → BlockStore

@@ -2,9 +2,9 @@
 ghost use Rattle.std.specs.Prelude.{◌≡◌, ◌+◌, ◌-◌, ◌*◌, ◌/◌, ◌%◌, ◌<◌, ◌≤◌, ◌≢◌, ◌↔◌, suc, min, false, length, replicate, vec_len, All, take, drop, ◌++◌, IsTrue, None, Some, IsNone, IfNone, IfSome, OnOk, OnErr};
 ghost use Rattle.pv_model.specs.declared.limits.TheConstants.{BLOCK};
 ghost use Rattle.pv_model.specs.Machine.{overwrite, resize, inode_blocks, greatest_length};
-ghost use Rattle.pv_inodes.specs.Layout.{place_of, wanted};
+ghost use Rattle.pv_inodes.specs.Layout.{position_of_block, wanted};
 ghost use Rattle.pv_inodes.specs.Sizes.{AreImageSizes};
-ghost use Rattle.pv_inodes.specs.Files.{held, IsUsed, bytes_at, sort_at, sort_of, sort_number, total_room, HasRoom, LacksRoom, with_bytes, written, cut, with_new, without, new_number};
+ghost use Rattle.pv_inodes.specs.Files.{held, IsUsed, inode_bytes_at, sort_at, kind_of_number, kind_number, total_room, HasRoomForFiles, LacksRoomForFiles, files_with_bytes, written_files, truncated_files, with_new, without, new_inode};
 
 mod image;
 
@@ -101,7 +101,7 @@ impl Inodes {
     /// Returns the length of an inode's contents in bytes.
     pub fn size(&self, inode: u16) -> u32
         requires { IsUsed self.now inode }
-        ensures value { result ≡ length (bytes_at self.now inode) }
+        ensures value { result ≡ length (inode_bytes_at self.now inode) }
         ensures allowed { result ≤ greatest_length self.now.version }
     {
         let slot = self.slot(inode);
@@ -129,8 +129,8 @@ impl Inodes {
     /// the contents if it comes first. Nothing is copied.
     pub fn lend(&self, inode: u16, at: u32) -> &[u8]
         requires used { IsUsed self.now inode }
-        requires within { at < length (bytes_at self.now inode) }
-        ensures { result.now ≡ take (BLOCK - at % BLOCK) (drop at (bytes_at self.now inode)) }
+        requires within { at < length (inode_bytes_at self.now inode) }
+        ensures { result.now ≡ take (BLOCK - at % BLOCK) (drop at (inode_bytes_at self.now inode)) }
     {
         let slot = self.slot(inode);
         let left = size_of(&self.blocks, self.version, slot) - at;
@@ -144,9 +144,9 @@ impl Inodes {
     /// it is less than the length of `buffer` if the contents end before that, and 0 at or past their end.
     pub fn read_at(&self, inode: u16, at: u32, buffer: &mut [u8]) -> usize
         requires { IsUsed self.now inode }
-        ensures count { result ≡ min (length buffer.old) (length (bytes_at self.now inode) - at) }
+        ensures count { result ≡ min (length buffer.old) (length (inode_bytes_at self.now inode) - at) }
         ensures bytes { buffer.new
-            ≡ take result (drop at (bytes_at self.now inode)) ++ drop result buffer.old }
+            ≡ take result (drop at (inode_bytes_at self.now inode)) ++ drop result buffer.old }
     {
         let count = buffer
             .len()
@@ -171,7 +171,7 @@ impl Inodes {
     /// few free data blocks. If the call fails, nothing changes.
     pub fn write_at(&mut self, inode: u16, at: u32, bytes: &[u8]) -> Result<(), Space>
         requires { IsUsed self.old inode }
-        ensures ok { OnOk result (self.new ≡ written self.old inode at bytes.now) }
+        ensures ok { OnOk result (self.new ≡ written_files self.old inode at bytes.now) }
         ensures err { OnErr result (self.new ≡ self.old) }
         ensures too_big { (result ≡ Err Space.TooBig)
             ↔ ((0 < length bytes.now)
@@ -179,7 +179,7 @@ impl Inodes {
         ensures full { (result ≡ Err Space.Full)
             ↔ ((0 < length bytes.now)
             × (at + length bytes.now ≤ greatest_length self.old.version)
-            × LacksRoom (written self.old inode at bytes.now)) }
+            × LacksRoomForFiles (written_files self.old inode at bytes.now)) }
     {
         if bytes.is_empty() {
             return Ok(());
@@ -205,13 +205,13 @@ impl Inodes {
     /// blocks. If the call fails, nothing changes.
     pub fn cut(&mut self, inode: u16, size: u32) -> Result<(), Space>
         requires { IsUsed self.old inode }
-        ensures ok { OnOk result (self.new ≡ cut self.old inode size) }
+        ensures ok { OnOk result (self.new ≡ truncated_files self.old inode size) }
         ensures err { OnErr result (self.new ≡ self.old) }
         ensures too_big { (result ≡ Err Space.TooBig)
             ↔ (greatest_length self.old.version < size) }
         ensures full { (result ≡ Err Space.Full)
             ↔ ((size ≤ greatest_length self.old.version)
-            × LacksRoom (cut self.old inode size)) }
+            × LacksRoomForFiles (truncated_files self.old inode size)) }
     {
         if size > self.version().layout().greatest_length {
             return Err(Space::TooBig);
@@ -231,10 +231,10 @@ impl Inodes {
     /// change.
     pub fn overwrite(&mut self, inode: u16, at: u32, bytes: &[u8])
         requires used { IsUsed self.old inode }
-        requires within { at + length bytes.now ≤ length (bytes_at self.old inode) }
+        requires within { at + length bytes.now ≤ length (inode_bytes_at self.old inode) }
         requires allowed { at + length bytes.now ≤ greatest_length self.old.version }
         ensures { self.new
-            ≡ with_bytes self.old inode (overwrite (bytes_at self.old inode) at bytes.now) }
+            ≡ files_with_bytes self.old inode (overwrite (inode_bytes_at self.old inode) at bytes.now) }
     {
         let mut done = 0;
         while done < bytes.len() {
@@ -250,8 +250,8 @@ impl Inodes {
     /// they no longer need.
     pub fn shrink(&mut self, inode: u16, size: u32)
         requires used { IsUsed self.old inode }
-        requires shorter { size ≤ length (bytes_at self.old inode) }
-        ensures { self.new ≡ with_bytes self.old inode (resize (bytes_at self.old inode) size) }
+        requires shorter { size ≤ length (inode_bytes_at self.old inode) }
+        ensures { self.new ≡ files_with_bytes self.old inode (resize (inode_bytes_at self.old inode) size) }
     {
         let slot = self.slot(inode);
         let mut owned = room(size_of(&self.blocks, self.version, slot));
@@ -267,9 +267,9 @@ impl Inodes {
     /// Allocates the least free inode, with kind `sort` and empty contents, and returns its number. Returns `None` if
     /// no inode is free.
     pub fn fresh(&mut self, sort: Kind) -> Option<u16>
-        ensures full { IsNone result ↔ (new_number self.old ≡ length self.old.nodes) }
+        ensures full { IsNone result ↔ (new_inode self.old ≡ length self.old.nodes) }
         ensures none { IfNone result (self.new ≡ self.old) }
-        ensures least { IfSome result (λ n. n ≡ new_number self.old) }
+        ensures least { IfSome result (λ n. n ≡ new_inode self.old) }
         ensures free { IfSome result (λ n. held self.old n ≡ None) }
         ensures within { IfSome result (λ n. n < length self.old.nodes) }
         ensures after { IfSome result (λ n. self.new ≡ with_new self.old n sort) }
@@ -294,8 +294,8 @@ impl Inodes {
 
     // Returns the least free inode, numbered from 0.
     fn free_slot(&self) -> Option<u16>
-        ensures full { IsNone result ↔ (new_number self.now ≡ length self.now.nodes) }
-        ensures least { IfSome result (λ slot. slot + 1 ≡ new_number self.now) }
+        ensures full { IsNone result ↔ (new_inode self.now ≡ length self.now.nodes) }
+        ensures least { IfSome result (λ slot. slot + 1 ≡ new_inode self.now) }
         ensures free { IfSome result (λ slot. held self.now (slot + 1) ≡ None) }
         ensures within { IfSome result (λ slot. slot + 1 < length self.now.nodes) }
         ensures used { IfSome result (AllUsed self.now) }
@@ -312,8 +312,8 @@ impl Inodes {
     fn has_room(&self, inode: u16, size: u32) -> bool
         requires used { IsUsed self.now inode }
         requires allowed { size ≤ greatest_length self.now.version }
-        ensures enough { IsTrue result → HasRoom (cut self.now inode size) }
-        ensures wanting { result ≡ false → LacksRoom (cut self.now inode size) }
+        ensures enough { IsTrue result → HasRoomForFiles (truncated_files self.now inode size) }
+        ensures wanting { result ≡ false → LacksRoomForFiles (truncated_files self.now inode size) }
     {
         let slot = self.slot(inode);
         let owned = room(size_of(&self.blocks, self.version, slot));
@@ -325,8 +325,8 @@ impl Inodes {
         requires used { IsUsed self.now inode }
         requires some { 0 < length part.old }
         requires block { at % BLOCK + length part.old ≤ BLOCK }
-        requires within { at + length part.old ≤ length (bytes_at self.now inode) }
-        ensures { part.new ≡ take (length part.old) (drop at (bytes_at self.now inode)) }
+        requires within { at + length part.old ≤ length (inode_bytes_at self.now inode) }
+        ensures { part.new ≡ take (length part.old) (drop at (inode_bytes_at self.now inode)) }
     {
         part.copy_from_slice(&self.lend(inode, at)[..part.len()]);
     }
@@ -343,11 +343,11 @@ impl Inodes {
     // Extends the contents of an inode with zeros within their last block.
     fn grow_within(&mut self, inode: u16, size: u32)
         requires used { IsUsed self.old inode }
-        requires longer { length (bytes_at self.old inode) < size }
-        requires partly { 0 < length (bytes_at self.old inode) % BLOCK }
-        requires within { size ≤ BLOCK * (length (bytes_at self.old inode) / BLOCK + 1) }
+        requires longer { length (inode_bytes_at self.old inode) < size }
+        requires partly { 0 < length (inode_bytes_at self.old inode) % BLOCK }
+        requires within { size ≤ BLOCK * (length (inode_bytes_at self.old inode) / BLOCK + 1) }
         requires allowed { size ≤ greatest_length self.old.version }
-        ensures { self.new ≡ with_bytes self.old inode (resize (bytes_at self.old inode) size) }
+        ensures { self.new ≡ files_with_bytes self.old inode (resize (inode_bytes_at self.old inode) size) }
     {
         let slot = self.slot(inode);
         let old = size_of(&self.blocks, self.version, slot);
@@ -365,15 +365,15 @@ impl Inodes {
     // Extends the contents of an inode with zeros into one new block. The old contents fill their blocks.
     fn grow_by_block(&mut self, inode: u16, size: u32)
         requires used { IsUsed self.old inode }
-        requires full { length (bytes_at self.old inode) % BLOCK ≡ 0 }
-        requires longer { length (bytes_at self.old inode) < size }
-        requires within { size ≤ length (bytes_at self.old inode) + BLOCK }
-        requires next { wanted (length (bytes_at self.old inode))
-            ≡ place_of (length (bytes_at self.old inode) / BLOCK) }
+        requires full { length (inode_bytes_at self.old inode) % BLOCK ≡ 0 }
+        requires longer { length (inode_bytes_at self.old inode) < size }
+        requires within { size ≤ length (inode_bytes_at self.old inode) + BLOCK }
+        requires next { wanted (length (inode_bytes_at self.old inode))
+            ≡ position_of_block (length (inode_bytes_at self.old inode) / BLOCK) }
         requires allowed { size ≤ greatest_length self.old.version }
-        requires room { HasRoom
-            (with_bytes self.old inode (resize (bytes_at self.old inode) size)) }
-        ensures { self.new ≡ with_bytes self.old inode (resize (bytes_at self.old inode) size) }
+        requires room { HasRoomForFiles
+            (files_with_bytes self.old inode (resize (inode_bytes_at self.old inode) size)) }
+        ensures { self.new ≡ files_with_bytes self.old inode (resize (inode_bytes_at self.old inode) size) }
     {
         let slot = self.slot(inode);
         let owned = room(size_of(&self.blocks, self.version, slot));
@@ -385,15 +385,15 @@ impl Inodes {
     // blocks. The index block is allocated first.
     fn grow_by_index(&mut self, inode: u16, size: u32)
         requires used { IsUsed self.old inode }
-        requires full { length (bytes_at self.old inode) % BLOCK ≡ 0 }
-        requires longer { length (bytes_at self.old inode) < size }
-        requires within { size ≤ length (bytes_at self.old inode) + BLOCK }
-        requires next { suc (wanted (length (bytes_at self.old inode)))
-            ≡ place_of (length (bytes_at self.old inode) / BLOCK) }
+        requires full { length (inode_bytes_at self.old inode) % BLOCK ≡ 0 }
+        requires longer { length (inode_bytes_at self.old inode) < size }
+        requires within { size ≤ length (inode_bytes_at self.old inode) + BLOCK }
+        requires next { suc (wanted (length (inode_bytes_at self.old inode)))
+            ≡ position_of_block (length (inode_bytes_at self.old inode) / BLOCK) }
         requires allowed { size ≤ greatest_length self.old.version }
-        requires room { HasRoom
-            (with_bytes self.old inode (resize (bytes_at self.old inode) size)) }
-        ensures { self.new ≡ with_bytes self.old inode (resize (bytes_at self.old inode) size) }
+        requires room { HasRoomForFiles
+            (files_with_bytes self.old inode (resize (inode_bytes_at self.old inode) size)) }
+        ensures { self.new ≡ files_with_bytes self.old inode (resize (inode_bytes_at self.old inode) size) }
     {
         let slot = self.slot(inode);
         let owned = room(size_of(&self.blocks, self.version, slot));
@@ -405,12 +405,12 @@ impl Inodes {
     // Extends the contents of an inode with zeros, at most to the end of a block.
     fn grow_step(&mut self, inode: u16, size: u32)
         requires used { IsUsed self.old inode }
-        requires longer { length (bytes_at self.old inode) < size }
-        requires within { size ≤ BLOCK * (length (bytes_at self.old inode) / BLOCK + 1) }
+        requires longer { length (inode_bytes_at self.old inode) < size }
+        requires within { size ≤ BLOCK * (length (inode_bytes_at self.old inode) / BLOCK + 1) }
         requires allowed { size ≤ greatest_length self.old.version }
-        requires room { HasRoom
-            (with_bytes self.old inode (resize (bytes_at self.old inode) size)) }
-        ensures { self.new ≡ with_bytes self.old inode (resize (bytes_at self.old inode) size) }
+        requires room { HasRoomForFiles
+            (files_with_bytes self.old inode (resize (inode_bytes_at self.old inode) size)) }
+        ensures { self.new ≡ files_with_bytes self.old inode (resize (inode_bytes_at self.old inode) size) }
     {
         let old = self.size(inode);
         if old % BLOCK_LENGTH != 0 {
@@ -425,11 +425,11 @@ impl Inodes {
     // Extends the contents of an inode with zeros.
     fn grow(&mut self, inode: u16, size: u32)
         requires used { IsUsed self.old inode }
-        requires longer { length (bytes_at self.old inode) ≤ size }
+        requires longer { length (inode_bytes_at self.old inode) ≤ size }
         requires allowed { size ≤ greatest_length self.old.version }
-        requires room { HasRoom
-            (with_bytes self.old inode (resize (bytes_at self.old inode) size)) }
-        ensures { self.new ≡ with_bytes self.old inode (resize (bytes_at self.old inode) size) }
+        requires room { HasRoomForFiles
+            (files_with_bytes self.old inode (resize (inode_bytes_at self.old inode) size)) }
+        ensures { self.new ≡ files_with_bytes self.old inode (resize (inode_bytes_at self.old inode) size) }
     {
         let mut length = self.size(inode);
         while length < size {
@@ -444,9 +444,9 @@ impl Inodes {
         requires used { IsUsed self.old inode }
         requires some { 0 < length part.now }
         requires block { at % BLOCK + length part.now ≤ BLOCK }
-        requires within { at + length part.now ≤ length (bytes_at self.old inode) }
+        requires within { at + length part.now ≤ length (inode_bytes_at self.old inode) }
         ensures { self.new
-            ≡ with_bytes self.old inode (overwrite (bytes_at self.old inode) at part.now) }
+            ≡ files_with_bytes self.old inode (overwrite (inode_bytes_at self.old inode) at part.now) }
     {
         let slot = self.slot(inode);
         let block = content_block(&self.blocks, self.version, slot, (at / BLOCK_LENGTH) as u16);
@@ -456,7 +456,7 @@ impl Inodes {
 
 /// Returns the kind that a nonzero kind field of an inode encodes.
 fn sort_from(kind: u8) -> Kind
-    ensures { result ≡ sort_of kind }
+    ensures { result ≡ kind_of_number kind }
 {
     match kind {
         DIRECTORY => Kind::Directory,
@@ -468,10 +468,10 @@ fn sort_from(kind: u8) -> Kind
 
 /// Returns the kind field that encodes `sort`.
 fn number_of(sort: Kind) -> u8
-    ensures value { result ≡ sort_number sort }
+    ensures value { result ≡ kind_number sort }
     ensures some { 0 < result }
     ensures few { result ≤ 4 }
-    ensures back { sort_of result ≡ sort }
+    ensures back { kind_of_number result ≡ sort }
 {
     sort as u8
 }

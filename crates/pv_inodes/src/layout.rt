@@ -3,7 +3,7 @@ ghost use Rattle.std.specs.Prelude.{◌≡◌, ◌+◌, ◌*◌, ◌/◌, ◌≤
 ghost use Rattle.pv_model.specs.declared.limits.TheConstants.{BLOCK};
 ghost use Rattle.pv_model.specs.declared.version.Version.TheVariants.{V2};
 ghost use Rattle.pv_model.specs.Machine.{greatest_length};
-ghost use Rattle.pv_inodes.specs.Layout.{home, offset, pointer_count, after_index, pointer_of, place_of, wanted};
+ghost use Rattle.pv_inodes.specs.Layout.{home, offset, pointer_count, after_index, pointer_of, position_of_block, wanted};
 
 use pv_model::Version;
 use pv_model::format::{BLOCK_INODES_V1, BLOCK_INODES_V2, DIRECT, INODE_V1, INODE_V2, POINTED};
@@ -46,10 +46,10 @@ pub(crate) fn room(size: u32) -> u16
 }
 
 /// Returns the position of block number `block` of the contents among the blocks that the inode owns.
-#[tactic(auto, unfolding(crate::specs::Layout::place_of))]
+#[tactic(auto, unfolding(crate::specs::Layout::position_of_block))]
 pub(crate) fn place(block: u16) -> u16
     requires { block ≤ greatest_length V2 / BLOCK }
-    ensures { result ≡ place_of block }
+    ensures { result ≡ position_of_block block }
 {
     block + (block + POINTED - DIRECT) / POINTED
 }

@@ -3,7 +3,7 @@ ghost use Rattle.std.specs.Prelude.{◌≡◌, ◌<◌, ◌≤◌, ◌≢◌, le
 ghost use Rattle.pv_blocks.specs.BlockStore.{free_count, IsFree, with_block};
 ghost use Rattle.pv_model.specs.declared.version.Version.TheVariants.{V2};
 ghost use Rattle.pv_model.specs.Machine.{greatest_length};
-ghost use Rattle.pv_inodes.specs.Layout.{home, kind_at, size_at, pointer_at, pointer_count, pointer_of, after_index, most_owned, owned_at, owned_count, place_of, with_kind, with_size, with_owned, zeros};
+ghost use Rattle.pv_inodes.specs.Layout.{home, kind_at, size_at, pointer_at, pointer_count, pointer_of, after_index, most_owned, owned_at, owned_count, position_of_block, with_kind, with_size, with_owned, zeros};
 ghost use Rattle.pv_inodes.specs.Sound.{pushed};
 
 use crate::fields::{byte_at, put, put_u16, put_u32, u16_at, u32_at};
@@ -59,7 +59,7 @@ fn pointer(blocks: &Blocks, version: Version, slot: u16, p: u16) -> u16
 }
 
 /// Returns the i-th block that an inode owns, index blocks included.
-#[tactic(auto, using(std::proofs::lemmas::Bool::Decides::nat_tests, crate::proofs::Layouts::has_pointer), unfolding(crate::specs::Layout::owned_at))]
+#[tactic(auto, using(std::proofs::lemmas::Bool::Decides::nat_tests, crate::proofs::InodeLayouts::has_pointer), unfolding(crate::specs::Layout::owned_at))]
 pub(crate) fn owned_by(blocks: &Blocks, version: Version, slot: u16, i: u16) -> u16
     requires block { home version slot < length blocks.now.blocks }
     requires owned { i < most_owned version }
@@ -78,9 +78,9 @@ pub(crate) fn owned_by(blocks: &Blocks, version: Version, slot: u16, i: u16) -> 
 /// Returns block number `block` of an inode's contents.
 pub(crate) fn content_block(blocks: &Blocks, version: Version, slot: u16, block: u16) -> u16
     requires block { home version slot < length blocks.now.blocks }
-    requires owned { place_of block < most_owned version }
-    requires index { after_index (place_of block) ≢ 0 → pointer_at version blocks.now.blocks slot (pointer_of (place_of block)) < length blocks.now.blocks }
-    ensures { result ≡ owned_at version blocks.now.blocks slot (place_of block) }
+    requires owned { position_of_block block < most_owned version }
+    requires index { after_index (position_of_block block) ≢ 0 → pointer_at version blocks.now.blocks slot (pointer_of (position_of_block block)) < length blocks.now.blocks }
+    ensures { result ≡ owned_at version blocks.now.blocks slot (position_of_block block) }
 {
     if block < DIRECT {
         pointer(blocks, version, slot, block)
@@ -115,7 +115,7 @@ pub(crate) fn set_size(blocks: &mut Blocks, version: Version, slot: u16, size: u
 }
 
 /// Makes block `k` the i-th block that an inode owns.
-#[tactic(auto, using(std::proofs::lemmas::Bool::Decides::nat_tests, crate::proofs::Layouts::has_pointer), unfolding(crate::specs::Layout::with_owned))]
+#[tactic(auto, using(std::proofs::lemmas::Bool::Decides::nat_tests, crate::proofs::InodeLayouts::has_pointer), unfolding(crate::specs::Layout::with_owned))]
 pub(crate) fn set_owned(blocks: &mut Blocks, version: Version, slot: u16, i: u16, k: u16)
     requires block { home version slot < length blocks.old.blocks }
     requires owned { i < most_owned version }

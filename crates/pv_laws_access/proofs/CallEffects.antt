@@ -17,9 +17,9 @@ use Rattle.pv_model.specs.Machine.{Attempt, ◌>>=◌, ◌>>◌, Bytes, with_con
 use Rattle.pv_model.specs.Calls.Descriptors.{if_mode}
 use Rattle.pv_model.specs.Touch.{HasDescriptor}
 use Rattle.pv_laws_states.specs.States.{is_call, IsValid}
-use Rattle.pv_laws_states.proofs.Attempts.{Leads, leads-after_walks, leads-walk}
+use Rattle.pv_laws_states.proofs.AttemptValues.{Leads, leads-after_walks, leads-walk}
 use Rattle.pv_laws_states.proofs.ChangedStates.{IsFinePlace}
-use Rattle.pv_laws_access.specs.Growth.{MayDoNoMore}
+use Rattle.pv_laws_access.specs.Growth.{HasNoMoreRights}
 use Rattle.pv_laws_access.specs.Justice.{changes_bytes}
 
 -- a reply after which the process continues
@@ -53,7 +53,7 @@ module _ (s : State) (pid : ℕ) (me : Process) (call : Call) where
     -- nothing changes, or the process ends; or a wait waits
     stays : (r : Reply) → (r ≡ waits → call ≡ Wait) → HasEffect s r
     -- the process narrows its restraints, or changes its directory
-    restrains : (q : Process) (r : Reply) → MayDoNoMore me q → q.descriptors ≡ me.descriptors → q.parent ≡ me.parent → (is_unveil call ≡ false → (q.table ≡ me.table) × (q.locked ≡ me.locked)) → continues r ≡ true
+    restrains : (q : Process) (r : Reply) → HasNoMoreRights me q → q.descriptors ≡ me.descriptors → q.parent ≡ me.parent → (is_unveil call ≡ false → (q.table ≡ me.table) × (q.locked ≡ me.locked)) → continues r ≡ true
         → HasEffect (with_process s pid q) r
     begins : (path : Bytes) (program : Program) → call ≡ Execve path → HasEffect (with_process s pid (with_program s pid me program)) (returns 0)
     -- a descriptor is removed, or one for the same open file is added

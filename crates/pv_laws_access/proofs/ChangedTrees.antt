@@ -5,13 +5,13 @@ use Rattle.std.proofs.lemmas.Bool.{cases_eq}
 use Rattle.pv_model.specs.Machine.{Bytes, with_content_of, with_content, among, collect, Numbered, with_number, keep_if, is_file, State, Node, directory_node, file_node, link_node, Tree, node_at, entries_of, entries_at, is_directory, is_directory_at, find_entry, with_node, with_entry, without_entry, new_number, with_new_node}
 use Rattle.pv_laws_trees.specs.Preserved.{numbers_wanted}
 use Rattle.pv_laws_states.specs.States.{IsTree}
-use Rattle.pv_laws_trees.proofs.Changes.{cases_name, node_at-same, node_at-other, directory-below, entries-beside, found-with_beside, found-with_other, found-without_beside, found-without_other}
-use Rattle.pv_laws_trees.proofs.Edits.{new_number-free}
+use Rattle.pv_laws_trees.proofs.TreeChanges.{cases_name, node_at-same, node_at-other, directory-below, entries-other, found-with_elsewhere, found-with_other, found-without_elsewhere, found-without_other}
+use Rattle.pv_laws_trees.proofs.WellFormedChanges.{new_number-free}
 use Rattle.pv_laws_states.proofs.GrownTrees.{directory-no_file}
-use Rattle.pv_laws_trees.proofs.Numbered.{at_number-below, at_number-keep}
-use Rattle.pv_laws_trees.proofs.Entries.{by_name}
+use Rattle.pv_laws_trees.proofs.NumberedMaps.{at_number-below, at_number-keep}
+use Rattle.pv_laws_trees.proofs.DirectoryEntries.{by_name}
 use Rattle.pv_laws_trees.proofs.Trees.{sound}
-use Rattle.pv_laws_states.proofs.Collect.{held_after, tree-collect}
+use Rattle.pv_laws_states.proofs.CollectedStates.{held_after, tree-collect}
 use Rattle.pv_laws_trees.proofs.Collection.{find-only, wanted-covers}
 
 -- an entry is this one, or another
@@ -46,8 +46,8 @@ entries-content t f bytes d = by (node_at t f) refl
 -- ---- entries
 
 -- a directory's node is not a file
-pub file-beside : (t : Tree) (d : ℕ) (node : Node) (f : ℕ) → is_directory_at t d ≡ true → is_file (node_at t f) ≡ true → node_at (with_node t d node) f ≡ node_at t f
-file-beside t d node f dir file =
+pub file-other : (t : Tree) (d : ℕ) (node : Node) (f : ℕ) → is_directory_at t d ≡ true → is_file (node_at t f) ≡ true → node_at (with_node t d node) f ≡ node_at t f
+file-other t d node f dir file =
     node_at-other t d node f (directory-below t d dir) (λ same. let isnt : is_file (node_at t f) ≡ false = ap (λ n. is_file (node_at t n)) same ∙ directory-no_file (node_at t d) dir in cc)
 
 pub entry-with_other : (t : Tree) (d : ℕ) (name : Bytes) (n : ℕ) → is_directory_at t d ≡ true → (e : ℕ) (q : Bytes) → ((e ≡ d) → (q ≡ name) → ⊥)
@@ -55,14 +55,14 @@ pub entry-with_other : (t : Tree) (d : ℕ) (name : Bytes) (n : ℕ) → is_dire
 entry-with_other t d name n dir e q other =
     ⊎_elim
     (λ here. ap (λ k. find_entry (with_entry t d name n) k q) here ∙ found-with_other t d name dir n q (other here) ∙ ap (λ k. find_entry t k q) (sym here))
-    (λ away. found-with_beside t d name dir n e q away) (cases_eq e d)
+    (λ away. found-with_elsewhere t d name dir n e q away) (cases_eq e d)
 
 pub entry-without_other : (t : Tree) (d : ℕ) (name : Bytes) → is_directory_at t d ≡ true → (e : ℕ) (q : Bytes) → ((e ≡ d) → (q ≡ name) → ⊥)
     → find_entry (without_entry t d name) e q ≡ find_entry t e q
 entry-without_other t d name dir e q other =
     ⊎_elim
     (λ here. ap (λ k. find_entry (without_entry t d name) k q) here ∙ found-without_other t d name dir q (other here) ∙ ap (λ k. find_entry t k q) (sym here))
-    (λ away. found-without_beside t d name dir e q away) (cases_eq e d)
+    (λ away. found-without_elsewhere t d name dir e q away) (cases_eq e d)
 
 -- ---- a new node
 
@@ -102,7 +102,7 @@ module _ (t : Tree) (p : ℕ × Bytes) (node : Node) (dir : is_directory_at t p.
   entries_one e =
       ⊎_elim
       (λ same. ap (entries_at t1) same ∙ ap entries_of (node_at-same t m node below) ∙ bare ∙ sym (ap (entries_at t) same ∙ ap entries_of (new_number-free t)))
-      (λ other. entries-beside t m node e below other) (cases_eq e m)
+      (λ other. entries-other t m node e below other) (cases_eq e m)
 
   pub entry-new_other : (e : ℕ) (q : Bytes) → ((e ≡ p.0) → (q ≡ p.1) → ⊥) → find_entry (with_new_node t p.0 p.1 node) e q ≡ find_entry t e q
   entry-new_other e q other = entry-with_other t1 p.0 p.1 m dir_one e q other ∙ ap (λ es. find by_name q es) (entries_one e)
@@ -111,7 +111,7 @@ module _ (t : Tree) (p : ℕ × Bytes) (node : Node) (dir : is_directory_at t p.
   file-new f file =
       let old : node_at t1 f ≡ node_at t f =
       node_at-other t m node f below (λ same. let isnt : is_file (node_at t f) ≡ false = ap (λ n. is_file (node_at t n)) same ∙ ap is_file (new_number-free t) in cc) in
-      file-beside t1 p.0 _ f dir_one (ap is_file old ∙ file) ∙ old
+      file-other t1 p.0 _ f dir_one (ap is_file old ∙ file) ∙ old
 
 -- ---- collection
 

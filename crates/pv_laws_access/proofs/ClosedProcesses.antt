@@ -31,11 +31,11 @@ use Rattle.pv_model.specs.Touch.{change_by_descriptor, change_by_open}
 use Rattle.pv_laws_states.specs.States.{IsValid}
 use Rattle.pv_laws_trees.specs.Tree.{IsSoundTree}
 use Rattle.pv_laws_trees.specs.Walk
-use Rattle.pv_laws_trees.proofs.Entries.{by_name, tied-same}
-use Rattle.pv_laws_states.proofs.Members.{live-found, find_number_cases}
-use Rattle.pv_laws_trees.proofs.Places.{parent-directory}
+use Rattle.pv_laws_trees.proofs.DirectoryEntries.{by_name, tied-same}
+use Rattle.pv_laws_states.proofs.ReferenceMembers.{live-found, find_number_cases}
+use Rattle.pv_laws_trees.proofs.WalkPlaces.{parent-directory}
 use Rattle.pv_laws_trees.proofs.Trees.{sound}
-use Rattle.pv_laws_trees.proofs.Walks.{resolve-resolves}
+use Rattle.pv_laws_trees.proofs.WalkRelations.{resolve-resolves}
 use Rattle.pv_laws_access.specs.Secrets.{StepsDifferInFile}
 use Rattle.pv_laws_access.proofs.JustifiedChanges.{files-justified}
 use Rattle.pv_laws_access.proofs.JustifiedReads.{reads-justified, alike-or_read}

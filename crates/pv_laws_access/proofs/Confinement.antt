@@ -14,17 +14,17 @@ use Rattle.pv_model.specs.declared.promise.Promise.TheVariants.{Rpath, Wpath, Cp
 use Rattle.pv_model.specs.declared.target.Target.TheVariants.{Name}
 use Rattle.pv_model.specs.Machine.{Bytes, GovernsName, node_of, needs, needs_cpath, permissions_of_open, covers, no_permissions, permission_r, permission_c, Need, missing_promise, Program, Process, State, reads, writes, process_at, step, Tree, node_at, is_directory_at, find_entry, IsAtOrAbove, is_file, Table, entry_for, permissions_at, Governs, directory_rights, judge_entry, governing_entry, judgement}
 use Rattle.pv_model.specs.Closed.{Lacks, GivesName, GivesAbove, opens_or_moves, IsClosed, IsFrozenTo}
-use Rattle.pv_model.proofs.Rights.{Governs-directory_rights}
-use Rattle.pv_laws_trees.proofs.Edits.{new_number-free}
+use Rattle.pv_model.proofs.GoverningEntries.{Governs-directory_rights}
+use Rattle.pv_laws_trees.proofs.WellFormedChanges.{new_number-free}
 use Rattle.pv_laws_states.specs.States.{IsValid}
-use Rattle.pv_laws_states.proofs.ByTree.{named-place}
+use Rattle.pv_laws_states.proofs.ValidByTree.{named-place}
 use Rattle.pv_laws_states.proofs.ChangedStates.{IsFinePlace}
 use Rattle.pv_laws_access.proofs.ClosedProcesses.{allowed-by, covers-r, covers-w, or_one, file-plain}
 use Rattle.pv_laws_access.proofs.JustifiedChanges.{needs-open, entries-edited}
 use Rattle.pv_laws_access.proofs.PromiseLimits.{no-cpath, no-rpath, no-wpath, equal-or_not, without-cpath}
 use Rattle.pv_laws_access.proofs.Verdicts.{one, found-governs}
 use Rattle.pv_laws_access.proofs.NameOrigins.{names-moved}
-use Rattle.pv_laws_access.proofs.Provenance.{IsGained}
+use Rattle.pv_laws_access.proofs.ProcessOrigins.{IsGained}
 
 -- ---- permissions
 

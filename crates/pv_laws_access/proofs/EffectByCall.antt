@@ -5,7 +5,7 @@ use Rattle.pv_model.specs.declared.call.Call.TheVariants.{Exit, GetPid, GetPpid,
 use Rattle.pv_model.specs.declared.follow.Follow.TheVariants.{Last, Keep}
 use Rattle.pv_model.specs.Machine.{effect, Bytes, returns, ends, Program, Process, State}
 use Rattle.pv_model.specs.Calls.Processes.{exit_status}
-use Rattle.pv_laws_states.proofs.Attempts.{Leads}
+use Rattle.pv_laws_states.proofs.AttemptValues.{Leads}
 use Rattle.pv_laws_access.proofs.CallEffects.{stays, Did}
 use Rattle.pv_laws_access.proofs.EffectByOpen.{does-open, does-open_at}
 use Rattle.pv_laws_access.proofs.EffectByProcess.{does-fork, does-wait, does-pledge, does-unveil, does-execve, does-chdir, does-stat, does-readlink, does-fstat, does-fchdir, does-close, does-dup, does-dup2, does-lseek, does-read, does-getdents}

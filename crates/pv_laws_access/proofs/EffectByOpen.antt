@@ -12,8 +12,8 @@ use Rattle.pv_model.specs.declared.place.Place.{Place}
 use Rattle.pv_model.specs.Machine.{◌>>=◌, refuse_if, ◌>>◌, Bytes, is_link, contradicts, with_content, with_open_file, open_node, open_at, check_start, Effect, answers, node_of, name_of, start_directory, end_of, permissions_of_open, least_free, Process, State, writes, flags_of, place_found, places, IsAllowed, Node, file_node, Tree, node_at, is_directory, new_number, with_new_node, Walk, follow_of, open_walk}
 use Rattle.pv_model.specs.Calls.Descriptors.{open_here}
 use Rattle.pv_laws_states.specs.States.{is_start, is_text, is_call}
-use Rattle.pv_laws_states.proofs.Attempts.{Leads, leads-after_walks, leads-then, leads-refuse_if, leads-room, leads-following}
-use Rattle.pv_laws_states.proofs.CallRests
+use Rattle.pv_laws_states.proofs.AttemptValues.{Leads, leads-after_walks, leads-then, leads-refuse_if, leads-room, leads-following}
+use Rattle.pv_laws_states.proofs.CallRemainders
 use Rattle.pv_laws_states.proofs.ChangedStates.{resolve-fine, my-placed}
 use Rattle.pv_laws_access.proofs.CallEffects.{opens, creates, IsFine, Did, first-place, leads-judged}
 use Rattle.pv_laws_states.proofs.WalkStarts.{StartsWell, leads-start}
@@ -35,36 +35,36 @@ module _ (s : State) (pid : ℕ) (me : Process) (call : Call) (path : Bytes) (f 
   D = Did s pid me call
 
   does-node : (place : Place) → IsAllowed s me call (permissions_of_open f) place → IsFine s pid me call place → (f.truncate ≡ true → writes f.mode ≡ true)
-      → (is_none (option_and_then (node_at s.tree) (node_of place)) && not f.create) ≡ false → (name : Option (ℕ × Bytes)) (node : Option ℕ) → name_of place ≡ name → node_of place ≡ node → Leads D (open_node s pid me f name node >>= CallRests.open_7 s pid me)
+      → (is_none (option_and_then (node_at s.tree) (node_of place)) && not f.create) ≡ false → (name : Option (ℕ × Bytes)) (node : Option ℕ) → name_of place ≡ name → node_of place ≡ node → Leads D (open_node s pid me f name node >>= CallRemainders.open_7 s pid me)
   does-node place allowed fine written made name (Some n) named is =
       let t : Tree = if f.truncate then with_content s.tree n [] else s.tree in
-      leads-after_walks D 0 (CallRests.open_7 s pid me (with_open_file s pid me f n t))
+      leads-after_walks D 0 (CallRemainders.open_7 s pid me (with_open_file s pid me f n t))
       (leads-room D (with_open_file s pid me f n t) (λ roomy. answers roomy (least_free me.descriptors)) (λ short fit. opens f place n (least_free me.descriptors) flagged allowed is fine written))
   does-node place allowed fine written made (Some p) None named is =
       let t : Tree = with_new_node s.tree p.0 p.1 (file_node false []) in
-      leads-after_walks D 0 (CallRests.open_7 s pid me (with_open_file s pid me f (new_number s.tree) t))
+      leads-after_walks D 0 (CallRemainders.open_7 s pid me (with_open_file s pid me f (new_number s.tree) t))
       (leads-room D (with_open_file s pid me f (new_number s.tree) t) (λ roomy. answers roomy (least_free me.descriptors)) (λ short fit.
       creates f place p (least_free me.descriptors) flagged allowed
       (none_made (option_and_then (node_at s.tree) (node_of place)) f.create made (ap (option_and_then (node_at s.tree)) is)) named is fine))
   does-node place allowed fine written made None None named is = tt
 
   abbrev there : Place → Option Node
-  there place = CallRests.node_there s pid me place
+  there place = CallRemainders.node_there s pid me place
 
   pub does-open_by : (start : Start) → (is_call call ≡ true → is_text path ≡ true)
       → ((place : Place) → end_of s me (open_walk start path f) ≡ Ok place → Contains (places s me call) place) → Leads D (open_at s pid me start path f)
   does-open_by start text among =
       let directory : ℕ = start_directory s me start path in
-      leads-refuse_if D EINVAL (contradicts f) (check_start s pid me start path >> CallRests.open_a s pid me path f directory) (λ sensible.
-      leads-following D (StartsWell s pid me directory) (check_start s pid me start path) (CallRests.open_a s pid me path f directory) (leads-start s pid me start path) (λ well.
-      leads-then D (refuse_if EMFILE (nat_le 16 (least_free me.descriptors))) (CallRests.open_b s pid me path f directory) (
-      leads-then D (refuse_if ENFILE (nat_le 128 (least_free s.files))) (CallRests.open_c s pid me path f directory) (
-      leads-judged D s me directory (follow_of f) path (permissions_of_open f) (CallRests.open_1 s pid me f) (λ place found allowed.
-      leads-then D (refuse_if EEXIST (f.create && f.exclusive && is_some (there place))) (CallRests.open_2 s pid me f place) (
-      leads-refuse_if D ENOENT (is_none (there place) && not f.create) (CallRests.open_3 s pid me f place) (λ made.
-      leads-then D (refuse_if ELOOP (is_link (there place))) (CallRests.open_4 s pid me f place) (
-      leads-then D (refuse_if ENOTDIR (f.directory && not (is_directory (there place)))) (CallRests.open_5 s pid me f place) (
-      leads-then D (refuse_if EISDIR (is_directory (there place) && writes f.mode)) (CallRests.open_6 s pid me f place) (
+      leads-refuse_if D EINVAL (contradicts f) (check_start s pid me start path >> CallRemainders.open_a s pid me path f directory) (λ sensible.
+      leads-following D (StartsWell s pid me directory) (check_start s pid me start path) (CallRemainders.open_a s pid me path f directory) (leads-start s pid me start path) (λ well.
+      leads-then D (refuse_if EMFILE (nat_le 16 (least_free me.descriptors))) (CallRemainders.open_b s pid me path f directory) (
+      leads-then D (refuse_if ENFILE (nat_le 128 (least_free s.files))) (CallRemainders.open_c s pid me path f directory) (
+      leads-judged D s me directory (follow_of f) path (permissions_of_open f) (CallRemainders.open_1 s pid me f) (λ place found allowed.
+      leads-then D (refuse_if EEXIST (f.create && f.exclusive && is_some (there place))) (CallRemainders.open_2 s pid me f place) (
+      leads-refuse_if D ENOENT (is_none (there place) && not f.create) (CallRemainders.open_3 s pid me f place) (λ made.
+      leads-then D (refuse_if ELOOP (is_link (there place))) (CallRemainders.open_4 s pid me f place) (
+      leads-then D (refuse_if ENOTDIR (f.directory && not (is_directory (there place)))) (CallRemainders.open_5 s pid me f place) (
+      leads-then D (refuse_if EISDIR (is_directory (there place) && writes f.mode)) (CallRemainders.open_6 s pid me f place) (
       does-node place (among place found, allowed)
       (λ whole at is. resolve-fine s.tree whole.tree (follow_of f) directory path place (well (my-placed s pid me whole at).directory) (text is) found)
       (writes-cut f sensible) made (name_of place) (node_of place) refl refl))))))))))

@@ -8,12 +8,12 @@ use Rattle.pv_model.specs.declared.errno.Errno.TheVariants.{EAGAIN, ECHILD, ENOE
 use Rattle.pv_model.specs.declared.follow.Follow.{Follow}
 use Rattle.pv_model.specs.declared.follow.Follow.TheVariants.{Last, Keep}
 use Rattle.pv_model.specs.Machine.{Attempt, ◌>>=◌, ◌>>◌, refuse_if, demand, Bytes, is_empty, little_endian, with_descriptor, is_number, within, close, dup, dup2, fstat, fchdir, directory_of, read, seek_base, lseek, next_name, list_name, getdents, open_file_for, link_text, chdir, stat_at, readlink, parent_of, statuses, child, fork, children, reap, wait, executable_bytes, execve, asked_promises, unless_refused, entries_of_table, add_target, refuse_if_locked, pledge, unveil, Effect, returns, returns_bytes, waits, answers, answers_bytes, walk_from, node_of, descriptor_at, open_file, status, with_number, least_free, permission_r, permission_x, read_permissions, narrow_promises, is_lenient, OpenFile, Program, Process, ProcessRecord, State, reads, with_process, node_at, entries_at, is_directory_at, Table, entry_for, target_of, from_here}
-use Rattle.pv_laws_states.proofs.Attempts.{Leads, leads-after_walks, leads-bind, leads-then, leads-demand, leads-walk, leads-place, leads-any}
-use Rattle.pv_laws_states.proofs.ByFile.{open_file-at, open_file_for-at}
-use Rattle.pv_laws_states.proofs.ByTable.{first-ended}
-use Rattle.pv_laws_states.proofs.CallRests
-use Rattle.pv_laws_access.specs.Growth.{MayDoNoMore, KeepsEntries}
-use Rattle.pv_laws_access.proofs.Narrowing.{narrows, leads-unless_refused, leads-add_entry, table-itself, gains-self, keeps-of_table, no_more-same}
+use Rattle.pv_laws_states.proofs.AttemptValues.{Leads, leads-after_walks, leads-bind, leads-then, leads-demand, leads-walk, leads-place, leads-any}
+use Rattle.pv_laws_states.proofs.ValidByFile.{open_file-at, open_file_for-at}
+use Rattle.pv_laws_states.proofs.ValidByTable.{first-ended}
+use Rattle.pv_laws_states.proofs.CallRemainders
+use Rattle.pv_laws_access.specs.Growth.{HasNoMoreRights, KeepsEntries}
+use Rattle.pv_laws_access.proofs.NarrowedRestraints.{narrows, leads-unless_refused, leads-add_table_entry, table-itself, gains-self, keeps-of_table, no_more-same}
 use Rattle.pv_laws_access.proofs.CallEffects.{HasEffect, stays, restrains, begins, closes, copies, forks, reaps, moves, Did, open_file_for-is}
 
 -- an attempt after the check for a lock
@@ -49,9 +49,9 @@ module _ (s : State) (pid : ℕ) (me : Process) where
 
     pub does-pledge : Leads (D L) (pledge s pid me promises execpromises)
     does-pledge =
-        leads-bind (D L) (λ _. Unit {0}) (asked_promises promises) (CallRests.pledge_1 s pid me execpromises) (leads-any (asked_promises promises)) (λ asked _.
-        leads-bind (D L) (λ _. Unit {0}) (asked_promises execpromises) (CallRests.pledge_2 s pid me asked) (leads-any (asked_promises execpromises)) (λ exec_asked _.
-        leads-bind (D L) (λ preserved. narrow_promises (is_lenient me.promises) me.promises asked ≡ Ok preserved) (unless_refused (narrow_promises (is_lenient me.promises) me.promises asked)) (CallRests.pledge_3 s pid me exec_asked)
+        leads-bind (D L) (λ _. Unit {0}) (asked_promises promises) (CallRemainders.pledge_1 s pid me execpromises) (leads-any (asked_promises promises)) (λ asked _.
+        leads-bind (D L) (λ _. Unit {0}) (asked_promises execpromises) (CallRemainders.pledge_2 s pid me asked) (leads-any (asked_promises execpromises)) (λ exec_asked _.
+        leads-bind (D L) (λ preserved. narrow_promises (is_lenient me.promises) me.promises asked ≡ Ok preserved) (unless_refused (narrow_promises (is_lenient me.promises) me.promises asked)) (CallRemainders.pledge_3 s pid me exec_asked)
         (leads-unless_refused (narrow_promises (is_lenient me.promises) me.promises asked)) (λ preserved narrowed.
         leads-bind (D L) (λ preserved. narrow_promises (is_lenient me.promises) me.execpromises exec_asked ≡ Ok preserved) (unless_refused (narrow_promises (is_lenient me.promises) me.execpromises exec_asked))
         (λ exec_preserved. answers (with_process s pid (record me { promises = preserved; execpromises = exec_preserved })) 0)
@@ -65,7 +65,7 @@ module _ (s : State) (pid : ℕ) (me : Process) where
           closed = λ is. refl;
         }) refl refl (λ no. (refl, refl)) refl))))
 
-  with_table : (table : Table) → me.locked ≡ false → KeepsEntries (entries_of_table me.table) table → MayDoNoMore me (record me { table = Some table })
+  with_table : (table : Table) → me.locked ≡ false → KeepsEntries (entries_of_table me.table) table → HasNoMoreRights me (record me { table = Some table })
   with_table table unlocked keeps = record {
     promises = gains-self me.promises;
     execpromises = gains-self me.execpromises;
@@ -82,20 +82,20 @@ module _ (s : State) (pid : ℕ) (me : Process) where
   does-unveil (Some path) None = tt
   does-unveil (Some path) (Some text) =
       let C : Call = TheCall.Unveil (Some path) (Some text) in
-      leads-demand (D C) EINVAL (read_permissions text) (CallRests.unveil_1 s pid me path) (λ permissions read.
-      leads-unlocked (D C) me.locked (walk_from s me.directory Last path >>= CallRests.unveil_2 s pid me permissions) (λ unlocked.
-      leads-walk (D C) s me.directory Last path (CallRests.unveil_2 s pid me permissions) (λ place found.
-      leads-bind (D C) (KeepsEntries (entries_of_table me.table)) (add_target s pid me (target_of s.tree place) permissions) (CallRests.unveil_3 s pid me)
-      (leads-add_entry (entries_of_table me.table) (target_of s.tree place) permissions (entry_for (entries_of_table me.table) (target_of s.tree place)) refl) (λ table keeps.
+      leads-demand (D C) EINVAL (read_permissions text) (CallRemainders.unveil_1 s pid me path) (λ permissions read.
+      leads-unlocked (D C) me.locked (walk_from s me.directory Last path >>= CallRemainders.unveil_2 s pid me permissions) (λ unlocked.
+      leads-walk (D C) s me.directory Last path (CallRemainders.unveil_2 s pid me permissions) (λ place found.
+      leads-bind (D C) (KeepsEntries (entries_of_table me.table)) (add_target s pid me (target_of s.tree place) permissions) (CallRemainders.unveil_3 s pid me)
+      (leads-add_table_entry (entries_of_table me.table) (target_of s.tree place) permissions (entry_for (entries_of_table me.table) (target_of s.tree place)) refl) (λ table keeps.
       restrains (record me { table = Some table }) (returns 0) (with_table table unlocked keeps) refl refl (λ no. cc no) refl))))
 
   pub does-execve : (program_of : Bytes → Option Program) (path : Bytes) → Leads (D (TheCall.Execve path)) (execve s pid me program_of path)
   does-execve program_of path =
       let C : Call = TheCall.Execve path in
-      leads-place (D C) s me me.directory Last path permission_x (CallRests.execve_1 s pid me program_of) (λ place found.
-      leads-demand (D C) ENOENT (node_of place) (CallRests.execve_2 s pid me program_of) (λ n is.
-      leads-demand (D C) EACCES (executable_bytes (node_at s.tree n)) (CallRests.execve_3 s pid me program_of) (λ bytes file.
-      leads-demand (D C) ENOEXEC (program_of bytes) (CallRests.execve_4 s pid me) (λ program encoded. begins path program refl))))
+      leads-place (D C) s me me.directory Last path permission_x (CallRemainders.execve_1 s pid me program_of) (λ place found.
+      leads-demand (D C) ENOENT (node_of place) (CallRemainders.execve_2 s pid me program_of) (λ n is.
+      leads-demand (D C) EACCES (executable_bytes (node_at s.tree n)) (CallRemainders.execve_3 s pid me program_of) (λ bytes file.
+      leads-demand (D C) ENOEXEC (program_of bytes) (CallRemainders.execve_4 s pid me) (λ program encoded. begins path program refl))))
 
   -- paths
 
@@ -105,20 +105,20 @@ module _ (s : State) (pid : ℕ) (me : Process) where
   pub does-chdir : (path : Bytes) → Leads (D (TheCall.Chdir path)) (chdir s pid me path)
   does-chdir path =
       let C : Call = TheCall.Chdir path in
-      leads-place (D C) s me me.directory Last path permission_r (CallRests.chdir_1 s pid me) (λ place found.
-      leads-demand (D C) ENOENT (node_of place) (CallRests.chdir_2 s pid me) (λ n is.
+      leads-place (D C) s me me.directory Last path permission_r (CallRemainders.chdir_1 s pid me) (λ place found.
+      leads-demand (D C) ENOENT (node_of place) (CallRemainders.chdir_2 s pid me) (λ n is.
       leads-then (D C) (refuse_if ENOTDIR (not (is_directory_at s.tree n))) (answers (with_process s pid (record me { directory = n })) 0) (goes C n)))
 
   pub does-stat : (call : Call) (follow : Follow) (path : Bytes) → Leads (D call) (stat_at s pid me (from_here follow path permission_r))
   does-stat call follow path =
-      leads-place (D call) s me me.directory follow path permission_r (CallRests.stat_1 s pid me) (λ place found.
+      leads-place (D call) s me me.directory follow path permission_r (CallRemainders.stat_1 s pid me) (λ place found.
       leads-demand (D call) ENOENT (node_of place) (λ n. answers_bytes s 0 (status s.tree n)) (λ n is. stays (returns_bytes 0 (status s.tree n)) (λ no. cc no)))
 
   pub does-readlink : (path : Bytes) → Leads (D (TheCall.Readlink path)) (readlink s pid me path)
   does-readlink path =
       let C : Call = TheCall.Readlink path in
-      leads-place (D C) s me me.directory Keep path permission_r (CallRests.readlink_1 s pid me) (λ place found.
-      leads-demand (D C) ENOENT (node_of place) (CallRests.readlink_2 s pid me) (λ n is.
+      leads-place (D C) s me me.directory Keep path permission_r (CallRemainders.readlink_1 s pid me) (λ place found.
+      leads-demand (D C) ENOENT (node_of place) (CallRemainders.readlink_2 s pid me) (λ n is.
       leads-demand (D C) EINVAL (link_text (node_at s.tree n)) (λ text. answers_bytes s (length text) text) (λ text link. stays (returns_bytes (length text) text) (λ no. cc no))))
 
   -- descriptors
@@ -140,14 +140,14 @@ module _ (s : State) (pid : ℕ) (me : Process) where
   pub does-dup : (d : ℤ) → Leads (D (TheCall.Dup d)) (dup s pid me d)
   does-dup d =
       let C : Call = TheCall.Dup d in
-      leads-demand (D C) EBADF (descriptor_at me d) (CallRests.dup_1 s pid me) (λ x is.
+      leads-demand (D C) EBADF (descriptor_at me d) (CallRemainders.dup_1 s pid me) (λ x is.
       leads-then (D C) (refuse_if EMFILE (nat_le 16 (least_free me.descriptors))) (answers (with_descriptor s pid me s x.file false) (least_free me.descriptors)) (copies d x (least_free me.descriptors) is))
 
   pub does-dup2 : (d e : ℤ) → Leads (D (TheCall.Dup2 d e)) (dup2 s pid me d e)
   does-dup2 d e =
       let C : Call = TheCall.Dup2 d e in
-      leads-demand (D C) EBADF (descriptor_at me d) (CallRests.dup2_1 s pid me d e) (λ x is.
-      leads-demand (D C) EBADF (within 15 e) (CallRests.dup2_2 s pid me d x) (λ number low.
+      leads-demand (D C) EBADF (descriptor_at me d) (CallRemainders.dup2_1 s pid me d e) (λ x is.
+      leads-demand (D C) EBADF (within 15 e) (CallRemainders.dup2_2 s pid me d x) (λ number low.
       elim (is_number d number) as (λ b. HasEffect s pid me C (if b then s else with_process s pid (record me { descriptors = with_number me.descriptors number (record x { close_on_exec = false }) })) (returns number)) [
         | true ↦ stays (returns number) (λ no. cc no)
         | false ↦ copies d x number is
@@ -158,25 +158,25 @@ module _ (s : State) (pid : ℕ) (me : Process) where
   pub does-lseek : (d by : ℤ) (whence : Whence) → Leads (D (TheCall.Lseek d by whence)) (lseek s pid me d by whence)
   does-lseek d by whence =
       let C : Call = TheCall.Lseek d by whence in
-      leads-demand (D C) EBADF (open_file s me d) (CallRests.lseek_1 s pid me by whence) (λ (k, file) is.
-      leads-then (D C) (refuse_if EINVAL (is_directory_at s.tree file.node)) (CallRests.lseek_2 s pid me by whence k file) (
-      leads-demand (D C) EINVAL (within 2147483647 (pos (seek_base s pid me file whence) +ℤ by)) (CallRests.lseek_3 s pid me k file) (λ offset low.
+      leads-demand (D C) EBADF (open_file s me d) (CallRemainders.lseek_1 s pid me by whence) (λ (k, file) is.
+      leads-then (D C) (refuse_if EINVAL (is_directory_at s.tree file.node)) (CallRemainders.lseek_2 s pid me by whence k file) (
+      leads-demand (D C) EINVAL (within 2147483647 (pos (seek_base s pid me file whence) +ℤ by)) (CallRemainders.lseek_3 s pid me k file) (λ offset low.
       moves k file (record file { offset = offset }) (returns offset) (open_file-at s me d k file is) refl refl (d, refl, is) refl)))
 
   pub does-read : (d n : ℤ) → Leads (D (TheCall.Read d n)) (read s pid me d n)
   does-read d n =
       let C : Call = TheCall.Read d n in
-      leads-demand (D C) EBADF (open_file_for s pid me reads d) (CallRests.read_1 s pid me n) (λ (k, file) is.
-      leads-demand (D C) EINVAL (within 4096 n) (CallRests.read_2 s pid me k file) (λ count low.
-      leads-then (D C) (refuse_if EISDIR (is_directory_at s.tree file.node)) (CallRests.read_3 s pid me k file count)
-      (moves k file (record file { offset = file.offset + length (CallRests.read_bytes s pid me count file) })
-      (returns_bytes (length (CallRests.read_bytes s pid me count file)) (CallRests.read_bytes s pid me count file)) (open_file_for-at s pid me reads d k file is).0 refl refl (d, refl, (open_file_for-is s pid me reads d k file is).0) refl)))
+      leads-demand (D C) EBADF (open_file_for s pid me reads d) (CallRemainders.read_1 s pid me n) (λ (k, file) is.
+      leads-demand (D C) EINVAL (within 4096 n) (CallRemainders.read_2 s pid me k file) (λ count low.
+      leads-then (D C) (refuse_if EISDIR (is_directory_at s.tree file.node)) (CallRemainders.read_3 s pid me k file count)
+      (moves k file (record file { offset = file.offset + length (CallRemainders.read_bytes s pid me count file) })
+      (returns_bytes (length (CallRemainders.read_bytes s pid me count file)) (CallRemainders.read_bytes s pid me count file)) (open_file_for-at s pid me reads d k file is).0 refl refl (d, refl, (open_file_for-is s pid me reads d k file is).0) refl)))
 
   pub does-getdents : (d : ℤ) → Leads (D (TheCall.Getdents d)) (getdents s pid me d)
   does-getdents d =
       let C : Call = TheCall.Getdents d in
-      leads-demand (D C) EBADF (open_file s me d) (CallRests.getdents_1 s pid me) (λ (k, file) is.
-      leads-then (D C) (refuse_if EINVAL (not (is_directory_at s.tree file.node))) (CallRests.getdents_2 s pid me k file)
+      leads-demand (D C) EBADF (open_file s me d) (CallRemainders.getdents_1 s pid me) (λ (k, file) is.
+      leads-then (D C) (refuse_if EINVAL (not (is_directory_at s.tree file.node))) (CallRemainders.getdents_2 s pid me k file)
       (listed k file is (open_file-at s me d k file is) (next_name file.listed (entries_at s.tree file.node))))
     where
       listed : (k : ℕ) (file : OpenFile) → open_file s me d ≡ Some (k, file) → Rattle.pv_model.specs.Numbered.at_number s.files k ≡ Some file → (o : Option Bytes) → Leads (D (TheCall.Getdents d)) (list_name s pid me k file o)

@@ -11,7 +11,7 @@ use Rattle.pv_model.specs.declared.promise.Promise.TheVariants.{Stdio, Rpath, Wp
 use Rattle.pv_model.specs.Machine.{needs, needs_of_mode, needs_cpath, all_promises, Promises, Need, contains, is_met, missing_promise}
 use Rattle.pv_model.specs.Promise.{promise_bit}
 use Rattle.pv_model.specs.Promises.{first_increase}
-use Rattle.pv_laws_trees.proofs.Members.{In}
+use Rattle.pv_laws_trees.proofs.ListMembers.{In}
 use Rattle.pv_laws_access.specs.Promises.{IsFirstMissing, IsFirstIncrease}
 
 -- ---- the order of promises

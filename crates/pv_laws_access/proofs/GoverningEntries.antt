@@ -6,8 +6,8 @@ use Rattle.pv_model.specs.declared.perms.Perms.{Perms}
 use Rattle.pv_model.specs.Machine.{Bytes, GovernsName, Process, State, Tree, root, is_directory_at, entries_at, find_entry, parent, IsAtOrAbove, IsWellFormed, Table, Governs, own, from_above}
 use Rattle.pv_model.specs.Closed.{by_name, by_directory, GivesName, GivesAbove}
 use Rattle.pv_model.specs.Tree.{itself, above}
-use Rattle.pv_laws_trees.proofs.Changes.{has_entry-directory}
-use Rattle.pv_laws_trees.proofs.Entries.{by_name as name_order}
+use Rattle.pv_laws_trees.proofs.TreeChanges.{has_entry-directory}
+use Rattle.pv_laws_trees.proofs.DirectoryEntries.{by_name as name_order}
 use Rattle.pv_laws_trees.proofs.Trees.{parent-entry, ordered, sound, entry-parent}
 
 -- ---- ancestors

@@ -9,16 +9,16 @@ use Rattle.pv_model.specs.declared.errno.Errno.TheVariants.{ENOSYS}
 use Rattle.pv_model.specs.declared.outcome.Cause.TheVariants.{Promise as ByPromise}
 use Rattle.pv_model.specs.declared.outcome.Outcome.TheVariants.{Value, Gone}
 use Rattle.pv_model.specs.Machine.{Answered, answer, answer_by_attempt, at_next_line, with_front, update, effect, Attempt, done, refused, Bytes, with_program, with_result, child, end_process, Effect, Reply, returns, returns_bytes, ends, waits, errno_number, collect, calls_for, next, Program, Process, live, ended_record, State, process_at, with_process, is_unveil}
-use Rattle.pv_laws_states.proofs.Attempts.{Leads}
+use Rattle.pv_laws_states.proofs.AttemptValues.{Leads}
 use Rattle.pv_laws_states.proofs.ValidEnds.{filtered-found}
-use Rattle.pv_laws_states.proofs.Members.{live-found, found-live}
-use Rattle.pv_laws_states.proofs.Outcomes.{at_call, by_answer}
+use Rattle.pv_laws_states.proofs.ReferenceMembers.{live-found, found-live}
+use Rattle.pv_laws_states.proofs.CallOutcomes.{at_call, by_answer}
 use Rattle.pv_laws_states.proofs.Processes.{process_at-same, process_at-other}
-use Rattle.pv_laws_access.specs.Growth.{MayDoNoMore, HasTheSame, IsLeftAlone, IsInOrder, begins_image}
+use Rattle.pv_laws_access.specs.Growth.{HasNoMoreRights, HasSameRights, IsUnchangedExceptParent, IsInOrder, begins_image}
 use Rattle.pv_laws_access.proofs.CallEffects.{HasEffect, stays, restrains, begins, closes, copies, forks, reaps, moves, cuts, writes_bytes, makes, links, unlinks, renames, opens, creates, Did, ends-stays}
 use Rattle.pv_laws_access.proofs.EffectByCall.{does-effect}
-use Rattle.pv_laws_access.proofs.Ends.{alone-itself, process_at-collect, update-live, update-other, not_next, in_order-call, ended-not_live, ended-others}
-use Rattle.pv_laws_access.proofs.Narrowing.{no_more-along, no_more-same, no_more-of_same}
+use Rattle.pv_laws_access.proofs.ProcessesAfterEnds.{alone-itself, process_at-collect, update-live, update-other, not_next, in_order-call, ended-not_live, ended-others}
+use Rattle.pv_laws_access.proofs.NarrowedRestraints.{no_more-along, no_more-same, no_more-of_same}
 
 -- ---- the caller after a call
 
@@ -32,13 +32,13 @@ LeavesTable call p q = is_unveil call ≡ false → (q.table ≡ p.table) × (q.
 
 -- the caller is live, and gains nothing unless it started a new image
 abbrev HasNoMore : Process → ℕ → Call → State → Reply → Type 0
-HasNoMore me pid call after r = (q : Process) × (process_at after pid ≡ Some q) × (IsQuiet call r → MayDoNoMore me q × LeavesTable call me q)
+HasNoMore me pid call after r = (q : Process) × (process_at after pid ≡ Some q) × (IsQuiet call r → HasNoMoreRights me q × LeavesTable call me q)
 
 module _ (s : State) (pid : ℕ) (me : Process) (call : Call) (order : IsInOrder s) (at : process_at s pid ≡ Some me) where
   itself : (r : Reply) → HasNoMore me pid call s r
   itself r = (me, at, λ quiet. (no_more-same me me refl refl refl refl, λ no. (refl, refl)))
 
-  becomes : (x : State) (q : Process) (r : Reply) → MayDoNoMore me q → LeavesTable call me q → HasNoMore me pid call (with_process x pid q) r
+  becomes : (x : State) (q : Process) (r : Reply) → HasNoMoreRights me q → LeavesTable call me q → HasNoMore me pid call (with_process x pid q) r
   becomes x q r no_more leaves = (q, process_at-same x pid q, λ quiet. (no_more, leaves))
 
   -- a live process is not a record to be removed
@@ -94,7 +94,7 @@ module _ (s : State) (pid : ℕ) (me : Process) (call : Call) (order : IsInOrder
 -- ---- calls
 
 -- a property of a process that does not depend on its result registers and buffer
-reported : (call : Call) (me q : Process) (f : Process → Process) → HasTheSame q (f q) → MayDoNoMore me q × LeavesTable call me q → MayDoNoMore me (f q) × LeavesTable call me (f q)
+reported : (call : Call) (me q : Process) (f : Process → Process) → HasSameRights q (f q) → HasNoMoreRights me q × LeavesTable call me q → HasNoMoreRights me (f q) × LeavesTable call me (f q)
 reported call me q f same both =
     (no_more-along me q (f q) both.0 (no_more-of_same q (f q) same), λ no. let preserved = both.1 no in (same.table ∙ preserved.0, same.locked ∙ preserved.1))
 
@@ -113,18 +113,18 @@ module _ (program_of : Bytes → Option Program) (s : State) (pid : ℕ) (order 
 
   -- the caller after its answer
   abbrev Keeps : Answered → Type 0
-  Keeps a = (q : Process) → process_at a.after pid ≡ Some q → begins_image (calls_for call) a.outcome ≡ false → MayDoNoMore me q × LeavesTable call me q
+  Keeps a = (q : Process) → process_at a.after pid ≡ Some q → begins_image (calls_for call) a.outcome ≡ false → HasNoMoreRights me q × LeavesTable call me q
 
   abbrev Leaves : Process → Type 0
-  Leaves q = MayDoNoMore me q × LeavesTable call me q
+  Leaves q = HasNoMoreRights me q × LeavesTable call me q
 
-  as-was : (q : Process) → HasTheSame me q → Leaves q
+  as-was : (q : Process) → HasSameRights me q → Leaves q
   as-was q same = (no_more-of_same me q same, λ no. (same.table, same.locked))
 
-  since : (q : Process) → MayDoNoMore now q × LeavesTable call now q → Leaves q
+  since : (q : Process) → HasNoMoreRights now q × LeavesTable call now q → Leaves q
   since q both = (no_more-along me now q (no_more-same me now refl refl refl refl) both.0, both.1)
 
-  preserved-reported : (after : State) (r : Reply) (f : Process → Process) → ((p : Process) → HasTheSame p (f p)) → HasNoMore now pid call after r → IsQuiet call r
+  preserved-reported : (after : State) (r : Reply) (f : Process → Process) → ((p : Process) → HasSameRights p (f p)) → HasNoMore now pid call after r → IsQuiet call r
       → (q : Process) → process_at (collect (update after pid f)) pid ≡ Some q → Leaves q
   preserved-reported after r f same has quiet q there =
       let is : Some (f has.0) ≡ Some q = sym (process_at-collect (update after pid f) pid ∙ update-live after pid f has.0 has.1) ∙ there in
@@ -167,7 +167,7 @@ module _ (program_of : Bytes → Option Program) (s : State) (pid : ℕ) (order 
 
   -- another process after the answer
   abbrev KeepsOther : ℕ → Process → Answered → Type 0
-  KeepsOther k p a = (q : Process) × (process_at a.after k ≡ Some q) × IsLeftAlone p q
+  KeepsOther k p a = (q : Process) × (process_at a.after k ≡ Some q) × IsUnchangedExceptParent p q
 
   module _ (k : ℕ) (p : Process) (apart : k ≢ pid) (there : process_at s k ≡ Some p) where
     x_there : process_at x k ≡ Some p

@@ -1,4 +1,4 @@
--- What justifies changes of entries and of files.
+-- The justification of changes of entries and files.
 use Rattle.std.proofs.Common.{◌≡◌, ◌≢◌, ℕ, suc, Bool, true, false, cond, if◌then◌else◌, List, [], ◌++◌, length, Option, None, Some, refl, ap, sym, subst, ◌∙◌, ◌⊎◌, inl, inr, ⊎_elim}
 use Rattle.std.proofs.lemmas.Bool.{cases_eq}
 use Rattle.std.specs.FinMap.Entries.{find}
@@ -12,18 +12,18 @@ use Rattle.pv_model.specs.Machine.{at_next_line, update, Bytes, with_content, en
 use Rattle.pv_model.specs.Needs.{permissions_of_mode}
 use Rattle.pv_model.specs.Touch.{change_entry, change_by_descriptor, change_by_open, entry_by_place}
 use Rattle.pv_laws_states.specs.States.{is_call, IsTree, IsValid}
-use Rattle.pv_laws_states.proofs.ByTree.{FineName, named-place}
+use Rattle.pv_laws_states.proofs.ValidByTree.{FineName, named-place}
 use Rattle.pv_laws_states.proofs.ChangedStates.{IsFinePlace}
-use Rattle.pv_laws_trees.proofs.Changes.{shape-without_entry}
+use Rattle.pv_laws_trees.proofs.TreeChanges.{shape-without_entry}
 use Rattle.pv_laws_states.proofs.ValidEnds.{tree-end}
-use Rattle.pv_laws_trees.proofs.Entries.{by_name}
-use Rattle.pv_laws_states.proofs.Outcomes.{at_call}
+use Rattle.pv_laws_trees.proofs.DirectoryEntries.{by_name}
+use Rattle.pv_laws_states.proofs.CallOutcomes.{at_call}
 use Rattle.pv_laws_states.proofs.Processes.{process_at-same, tree-update}
-use Rattle.pv_laws_states.proofs.Replies.{whole-at_call}
+use Rattle.pv_laws_states.proofs.ValidReplies.{valid-at_call}
 use Rattle.pv_laws_access.specs.Justice.{changes_bytes, ChangesBytes, HasEffectNext, IsExplained}
-use Rattle.pv_laws_access.proofs.ChangedTrees.{cases_entry, content-other, entries-content, file-beside, entry-with_other, entry-without_other, new-within, entry-new_other, file-new, entry-collect, file-collect}
+use Rattle.pv_laws_access.proofs.ChangedTrees.{cases_entry, content-other, entries-content, file-other, entry-with_other, entry-without_other, new-within, entry-new_other, file-new, entry-collect, file-collect}
 use Rattle.pv_laws_access.proofs.CallEffects
-use Rattle.pv_laws_access.proofs.Narrowing.{covers-along}
+use Rattle.pv_laws_access.proofs.NarrowedRestraints.{covers-along}
 use Rattle.pv_laws_access.proofs.TouchingCalls.{touched, allowed-back}
 
 -- ---- fewer permissions
@@ -230,12 +230,12 @@ module _ (s : State) (pid : ℕ) (me : Process) (call : Call) (whole : IsValid s
     files-by _ _ (CallEffects.cuts g bytes has) tree changes = cut-by g bytes (inl has) changes
     files-by _ _ (CallEffects.writes_bytes g bytes k old new n has there node mode named) tree changes = cut-by g bytes (inl has) changes
     files-by _ _ (CallEffects.makes place p node change free bare) tree changes = made-file p node _ refl tree (fine-name place p change).directory bare changes
-    files-by _ _ (CallEffects.links place p old n change from_old is fine) tree changes = stays-same (with_entry s.tree p.0 p.1 n) (file-beside s.tree p.0 _ f (fine-name place p change).directory file) changes
-    files-by _ _ (CallEffects.unlinks place p change) tree changes = stays-same (without_entry s.tree p.0 p.1) (file-beside s.tree p.0 _ f (fine-name place p change).directory file) changes
+    files-by _ _ (CallEffects.links place p old n change from_old is fine) tree changes = stays-same (with_entry s.tree p.0 p.1 n) (file-other s.tree p.0 _ f (fine-name place p change).directory file) changes
+    files-by _ _ (CallEffects.unlinks place p change) tree changes = stays-same (without_entry s.tree p.0 p.1) (file-other s.tree p.0 _ f (fine-name place p change).directory file) changes
     files-by _ _ (CallEffects.renames place p there q n from into is) tree changes =
         let dir = (fine-name place p from).directory in
-        let first = file-beside s.tree p.0 _ f dir file in
-        stays-same (with_entry (without_entry s.tree p.0 p.1) q.0 q.1 n) (file-beside (without_entry s.tree p.0 p.1) q.0 _ f (between-directory p dir q.0 (fine-name there q into).directory) (ap is_file first ∙ file) ∙ first) changes
+        let first = file-other s.tree p.0 _ f dir file in
+        stays-same (with_entry (without_entry s.tree p.0 p.1) q.0 q.1 n) (file-other (without_entry s.tree p.0 p.1) q.0 _ f (between-directory p dir q.0 (fine-name there q into).directory) (ap is_file first ∙ file) ∙ first) changes
     files-by _ _ (CallEffects.opens flags place n m flagged allowed is fine written) tree changes = by flags.truncate refl changes
       where
         by : (b : Bool) → flags.truncate ≡ b → Changes (if b then with_content s.tree n [] else s.tree) → W f
@@ -267,7 +267,7 @@ entries-edited program_of s pid d name whole changes =
     let same : find_entry (collect (update t.after pid t.reported)).tree d name ≡ find_entry t.after.tree d name =
     entry-collect (update t.after pid t.reported) (subst IsTree (sym (tree-update t.after pid t.reported)) t.tree) d name ∙ ap (λ (u : Tree). find_entry u d name) (tree-update t.after pid t.reported) in
     let by =
-    entries-by (at_call s pid t.me) pid (at_next_line t.me) t.call (whole-at_call s pid t.me whole t.at) (process_at-same s pid (at_next_line t.me)) t.is d name t.after t.reply t.does t.tree
+    entries-by (at_call s pid t.me) pid (at_next_line t.me) t.call (valid-at_call s pid t.me whole t.at) (process_at-same s pid (at_next_line t.me)) t.is d name t.after t.reply t.does t.tree
     (λ eq. t.touch (same ∙ eq)) in
     record {
       me = t.me;
@@ -329,7 +329,7 @@ files-written program_of s pid f whole changes =
       next_is = t.next_is;
       held = t.held;
       written = written-back s pid t.me t.call f
-          (files-by (at_call s pid t.me) pid (at_next_line t.me) t.call (whole-at_call s pid t.me whole t.at) (process_at-same s pid (at_next_line t.me)) t.is f changes.0 t.after t.reply t.does t.tree
+          (files-by (at_call s pid t.me) pid (at_next_line t.me) t.call (valid-at_call s pid t.me whole t.at) (process_at-same s pid (at_next_line t.me)) t.is f changes.0 t.after t.reply t.does t.tree
           (λ eq. t.touch.1 (ap bytes_of same ∙ eq)));
     }
 

@@ -1,4 +1,4 @@
--- What justifies new descriptors.
+-- The justification of new descriptors.
 use Rattle.std.proofs.Common.{◌≡◌, ℕ, zero, suc, ℤ, pos, negsuc, true, false, not, ◌==◌, [], ◌∷◌, Option, None, Some, option_map, refl, ap, sym, subst, ◌∙◌, ⊎_elim, ◌⊎◌, inl, inr}
 use Rattle.std.proofs.lemmas.Bool.{cases_eq}
 use Rattle.std.specs.FinMap.Entries.{where_key}
@@ -11,16 +11,16 @@ use Rattle.pv_model.specs.Machine.{at_next_line, update, Bytes, new_open_file, c
 use Rattle.pv_model.specs.Touch.{HasOpen, gain_by_open}
 use Rattle.pv_laws_states.specs.Held.{used}
 use Rattle.pv_laws_states.specs.States.{is_call, IsValid}
-use Rattle.pv_laws_states.proofs.ByProcess.{preserved_descriptor}
-use Rattle.pv_laws_trees.proofs.Numbered.{at_number-below, with_number-same, with_number-other, without_number-same, without_number-other, least_free-free, keep-some}
-use Rattle.pv_laws_states.proofs.Outcomes.{at_call}
+use Rattle.pv_laws_states.proofs.ValidByProcess.{preserved_descriptor}
+use Rattle.pv_laws_trees.proofs.NumberedMaps.{at_number-below, with_number-same, with_number-other, without_number-same, without_number-other, least_free-free, keep-some}
+use Rattle.pv_laws_states.proofs.CallOutcomes.{at_call}
 use Rattle.pv_laws_states.proofs.Processes.{process_at-same, process_at-other, files-update}
-use Rattle.pv_laws_states.proofs.Collect.{files-collect}
+use Rattle.pv_laws_states.proofs.CollectedStates.{files-collect}
 use Rattle.pv_laws_access.specs.Growth.{IsInOrder}
 use Rattle.pv_laws_access.specs.Justice.{IsExplained}
 use Rattle.pv_laws_access.proofs.ImageGrowth.{spared, caller}
 use Rattle.pv_laws_access.proofs.CallEffects
-use Rattle.pv_laws_access.proofs.Ends.{process_at-collect, update-live, whole-in_order, not_next, in_order-call, ended-not_live}
+use Rattle.pv_laws_access.proofs.ProcessesAfterEnds.{process_at-collect, update-live, valid-in_order, not_next, in_order-call, ended-not_live}
 use Rattle.pv_laws_access.proofs.TouchingCalls.{touched, back}
 
 -- ---- open files
@@ -205,7 +205,7 @@ gains-opened program_of s pid n mode whole gains =
     gains in
     let x : State = at_call s pid t.me in
     let now : Process = at_next_line t.me in
-    let order = in_order-call s pid t.me (whole-in_order s whole) t.at in
+    let order = in_order-call s pid t.me (valid-in_order s whole) t.at in
     let x_at = process_at-same s pid now in
     let left = caller x pid now t.call order x_at t.after t.reply t.does in
     let z : State = update t.after pid t.reported in

@@ -1,4 +1,4 @@
--- What justifies that a step depends on the bytes of a file.
+-- The justification of steps that depend on the bytes of a file.
 use Rattle.std.proofs.Common.{◌≡◌, ℕ, pos, negsuc, true, false, if◌then◌else◌, length, Option, None, Some, refl, ap, sym, subst, ◌⊎◌, inl, inr, ⊎_elim}
 use Rattle.pv_model.specs.declared.call.Call.{Call}
 use Rattle.pv_model.specs.declared.errno.Errno.{Errno}
@@ -9,7 +9,7 @@ use Rattle.pv_model.specs.declared.promise.Promise.{Promise}
 use Rattle.pv_model.specs.Machine.{Answered, answer, answer_of, answer_where, answer_by_attempt, at_next_line, with_front, update_live, update, effect, Attempt, done, refused, Bytes, with_result, end_process, Effect, Reply, returns, returns_bytes, ends, waits, errno_number, collect, needs, Numbered, Next, inside, calls_for, next, missing_promise, is_lenient, Program, Process, State, process_at, Stepped, step, step_of, step_by, read_file, change_file, report_node, gain_descriptor, with_bytes, file_bytes, Touches, call_lines, Node}
 use Rattle.pv_model.specs.Touch.{change_entry, IsJustified}
 use Rattle.pv_laws_states.specs.States.{IsValid}
-use Rattle.pv_laws_states.proofs.Outcomes.{at_call}
+use Rattle.pv_laws_states.proofs.CallOutcomes.{at_call}
 use Rattle.pv_laws_states.proofs.OtherInsidesCalls.{lines-alike}
 use Rattle.pv_laws_access.specs.Justice.{ReadsBytes, HasEffectNext, IsExplained}
 use Rattle.pv_laws_access.specs.Secrets.{StepsDifferInFile}

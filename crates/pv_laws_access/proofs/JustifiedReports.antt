@@ -1,4 +1,4 @@
--- What justifies reports of nodes.
+-- The justification of reports of nodes.
 use Rattle.std.proofs.Common.{◌≡◌, ℕ, zero, suc, ◌<◌, ℤ, Bool, true, false, not, [], ◌∷◌, Option, None, Some, Ok, refl, ap, sym, subst, ◌∙◌, ⊎_elim, arith}
 use Rattle.std.specs.List.{cons_option}
 use Rattle.std.specs.Prelude.{Contains, filter_map, slice_index_or}
@@ -15,13 +15,13 @@ use Rattle.pv_model.specs.declared.place.Place.{Place}
 use Rattle.pv_model.specs.Machine.{answer, answer_by_attempt, at_next_line, effect, Attempt, done, refused, ◌>>=◌, ◌>>◌, Bytes, getdents, chdir, stat_at, readlink, Effect, walk_from, judge_for, open_file, end_of, needs, permission_r, calls_for, next, missing_promise, OpenFile, Program, Process, State, reads, writes, process_at, Stepped, step, step_by, place_found, places, has_succeeded, report_node, Touches, Justifies, is_directory_at, judgement, resolve, Walk, from_here}
 use Rattle.pv_model.specs.Touch.{reports_of_place, reports_of_descriptor, IsNodeOfPlace, IsNodeOfDescriptor, report_by_descriptor, report_by_place}
 use Rattle.pv_laws_states.specs.States.{IsValid}
-use Rattle.pv_laws_states.proofs.Attempts.{Leads, leads-demand, leads-refuse_if}
-use Rattle.pv_laws_states.proofs.ByFile.{open_file-at}
-use Rattle.pv_laws_states.proofs.Outcomes.{at_call, by_answer}
-use Rattle.pv_laws_states.proofs.CallRests
+use Rattle.pv_laws_states.proofs.AttemptValues.{Leads, leads-demand, leads-refuse_if}
+use Rattle.pv_laws_states.proofs.ValidByFile.{open_file-at}
+use Rattle.pv_laws_states.proofs.CallOutcomes.{at_call, by_answer}
+use Rattle.pv_laws_states.proofs.CallRemainders
 use Rattle.pv_laws_access.specs.Justice.{IsExplained}
 use Rattle.pv_laws_access.proofs.CallEffects.{leads-judged}
-use Rattle.pv_laws_access.proofs.Ends.{step-is}
+use Rattle.pv_laws_access.proofs.ProcessesAfterEnds.{step-is}
 
 -- ---- an attempt that succeeds
 
@@ -94,10 +94,10 @@ module _ (program_of : Bytes → Option Program) (s : State) (pid : ℕ) (me : P
 
   pub by_place : (call : Call) (n : ℕ) → reports_of_place call ≡ true → IsNodeOfPlace s me call n → is_done (effect program_of x pid now call) ≡ true → Justifies s me call (report_node n)
   unfolding effect
-  by_place (Stat path) n reports is did = reported_place s me (Stat path) Last path n (known (IsFound x now Last path) (stat_at x pid now (from_here Last path permission_r)) did (looked x now Last path (CallRests.stat_1 x pid now))) (λ place among. among) is
-  by_place (Lstat path) n reports is did = reported_place s me (Lstat path) Keep path n (known (IsFound x now Keep path) (stat_at x pid now (from_here Keep path permission_r)) did (looked x now Keep path (CallRests.stat_1 x pid now))) (λ place among. among) is
-  by_place (Readlink path) n reports is did = reported_place s me (Readlink path) Keep path n (known (IsFound x now Keep path) (readlink x pid now path) did (looked x now Keep path (CallRests.readlink_1 x pid now))) (λ place among. among) is
-  by_place (Chdir path) n reports is did = reported_place s me (Chdir path) Last path n (known (IsFound x now Last path) (chdir x pid now path) did (looked x now Last path (CallRests.chdir_1 x pid now))) (λ place among. among) is
+  by_place (Stat path) n reports is did = reported_place s me (Stat path) Last path n (known (IsFound x now Last path) (stat_at x pid now (from_here Last path permission_r)) did (looked x now Last path (CallRemainders.stat_1 x pid now))) (λ place among. among) is
+  by_place (Lstat path) n reports is did = reported_place s me (Lstat path) Keep path n (known (IsFound x now Keep path) (stat_at x pid now (from_here Keep path permission_r)) did (looked x now Keep path (CallRemainders.stat_1 x pid now))) (λ place among. among) is
+  by_place (Readlink path) n reports is did = reported_place s me (Readlink path) Keep path n (known (IsFound x now Keep path) (readlink x pid now path) did (looked x now Keep path (CallRemainders.readlink_1 x pid now))) (λ place among. among) is
+  by_place (Chdir path) n reports is did = reported_place s me (Chdir path) Last path n (known (IsFound x now Last path) (chdir x pid now path) did (looked x now Last path (CallRemainders.chdir_1 x pid now))) (λ place among. among) is
   by_place call n reports is did = cc
 
   -- ---- by a descriptor
@@ -107,9 +107,9 @@ module _ (program_of : Bytes → Option Program) (s : State) (pid : ℕ) (me : P
 
   listed : (d : ℤ) → Leads (λ e. IsListed d) (getdents x pid now d)
   listed d =
-      leads-demand (λ e. IsListed d) EBADF (open_file x now d) (CallRests.getdents_1 x pid now) (λ (f : ℕ × OpenFile) is.
-      leads-refuse_if (λ e. IsListed d) EINVAL (not (is_directory_at x.tree f.1.node)) (CallRests.getdents_2 x pid now f.0 f.1) (λ dir.
-      leads-known (IsListed d) (CallRests.getdents_2 x pid now f.0 f.1) (f, is, not-false (is_directory_at x.tree f.1.node) dir)))
+      leads-demand (λ e. IsListed d) EBADF (open_file x now d) (CallRemainders.getdents_1 x pid now) (λ (f : ℕ × OpenFile) is.
+      leads-refuse_if (λ e. IsListed d) EINVAL (not (is_directory_at x.tree f.1.node)) (CallRemainders.getdents_2 x pid now f.0 f.1) (λ dir.
+      leads-known (IsListed d) (CallRemainders.getdents_2 x pid now f.0 f.1) (f, is, not-false (is_directory_at x.tree f.1.node) dir)))
 
   read_only : (m : Mode) → writes m ≡ false → reads m ≡ true
   read_only ReadMode is = refl

@@ -1,26 +1,27 @@
 -- Lemmas about access control.
--- - Rights: Narrowing (promises and tables), Ends, ImageGrowth (the caller and other processes after a call),
---   ProgramImages (one program image), OtherOpenFiles and OpenFilesAfterSteps (open files), PromiseLimits and
---   MissingPromises (missing promises), RefusedSteps, Inheritance (descendants), StatesAfterEnds (exit and kills).
--- - Effects: CallEffects (the possible effects of a call, in sixteen cases), EffectByProcess, EffectByTree, EffectByOpen,
---   EffectByCall; TouchingCalls (from a touch to an effect), ChangedTrees (changes of trees).
+-- - Rights: NarrowedRestraints (promises and tables), ProcessesAfterEnds, ImageGrowth (the caller and other processes
+--   after a call), ProgramImages (one program image), OtherOpenFiles and OpenFilesAfterSteps (open files),
+--   PromiseLimits and MissingPromises (missing promises), RefusedSteps, DescendantLimits (descendants), StatesAfterEnds
+--   (exit and kills).
+-- - Effects: CallEffects (the possible effects of a call, in sixteen cases), EffectByProcess, EffectByTree,
+--   EffectByOpen, EffectByCall; TouchingCalls (from a touch to an effect), ChangedTrees (changes of trees).
 -- - Justification: JustifiedChanges, JustifiedGains, JustifiedReports, JustifiedReads.
 -- - Secrecy: SimilarTrees and SimilarCalls (states that differ in one file's bytes), ClosedProcesses, Verdicts
---   (audits), NameOrigins (new names), Provenance, Confinement, GoverningEntries (governing entries), SealedSteps (one
---   step), SealedRuns (runs), OwnRuns (runs of one process).
--- - Refusals: Judgements (decisions), Decisions (the last walk decides), TableLines (UNVL lines), FirstMissing (orders
---   of promises), PledgeRefusals and PromiseRefusals (promises).
--- - Names: NamingCalls, MovedPermissions (permissions that come with names), NextNames and Ascending (getdents),
---   ListingOrder (listings).
+--   (audits), NameOrigins (new names), ProcessOrigins, Confinement, GoverningEntries (governing entries), SealedSteps
+--   (one step), SealedRuns (runs), OwnRuns (runs of one process).
+-- - Refusals: JudgementRelation (decisions), WalkDecisions (the last walk decides), TableLines (UNVL lines),
+--   FirstMissing (orders of promises), PledgeRefusals and PromiseRefusals (promises).
+-- - Names: NamingCalls, MovedPermissions (permissions that come with names), NextNames and AscendingListings
+--   (getdents), ListingOrder (listings).
 -- - Examples by computation: ExampleRuns, EndExampleRuns, DescentExampleRuns, RefusalExampleRuns, NameExampleRuns,
 --   NamesExampleRuns.
-pub mod Narrowing
+pub mod NarrowedRestraints
 pub mod CallEffects
 pub mod EffectByProcess
 pub mod EffectByTree
 pub mod EffectByOpen
 pub mod EffectByCall
-pub mod Ends
+pub mod ProcessesAfterEnds
 pub mod ImageGrowth
 pub mod ProgramImages
 pub mod ChangedTrees
@@ -42,20 +43,20 @@ pub mod OpenFilesAfterSteps
 pub mod EndExampleRuns
 -- ---- secrecy along runs
 pub mod NameOrigins
-pub mod Provenance
+pub mod ProcessOrigins
 pub mod Confinement
 pub mod GoverningEntries
 pub mod SealedSteps
 pub mod SealedRuns
 pub mod OwnRuns
 -- ---- the sandbox
-pub mod Judgements
-pub mod Inheritance
+pub mod JudgementRelation
+pub mod DescendantLimits
 pub mod MissingPromises
 pub mod RefusedSteps
 pub mod DescentExampleRuns
 -- ---- refusals
-pub mod Decisions
+pub mod WalkDecisions
 pub mod TableLines
 pub mod FirstMissing
 pub mod PledgeRefusals
@@ -65,7 +66,7 @@ pub mod RefusalExampleRuns
 pub mod NamingCalls
 pub mod MovedPermissions
 pub mod NextNames
-pub mod Ascending
+pub mod AscendingListings
 pub mod ListingOrder
 pub mod NameExampleRuns
 pub mod NamesExampleRuns

@@ -15,8 +15,8 @@ use Rattle.pv_model.specs.Tree.{itself, above}
 use Rattle.pv_model.specs.Grammar.Entries.{path_of_names}
 use Rattle.pv_laws_trees.specs.Tree.{IsSoundTree}
 use Rattle.pv_laws_trees.proofs.Ancestors.{none-above_itself, ancestors-above}
-use Rattle.pv_laws_trees.proofs.Changes.{entries-good, directory-below, some-below, has_entry-directory}
-use Rattle.pv_laws_trees.proofs.Entries.{by_name, tied-same, tied_itself, find_after}
+use Rattle.pv_laws_trees.proofs.TreeChanges.{entries-good, directory-below, some-below, has_entry-directory}
+use Rattle.pv_laws_trees.proofs.DirectoryEntries.{by_name, tied-same, tied_itself, find_after}
 use Rattle.pv_laws_trees.proofs.Trees.{sound, entry-parent}
 use Rattle.pv_laws_trees.proofs.NameOrder.{less_from}
 use Rattle.pv_laws_states.proofs.ProcessInsides.{list_all-both}

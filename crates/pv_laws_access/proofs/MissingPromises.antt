@@ -16,23 +16,23 @@ use Rattle.pv_model.specs.Machine.{answer, at_next_line, update, Bytes, with_con
 use Rattle.pv_model.specs.Sealed.{has_none_of, is_pledged_without}
 use Rattle.pv_model.specs.Touch.{Touch, HasDescriptor, change_by_descriptor, change_by_open, entry_by_place, report_by_descriptor, report_by_place, gain_by_open}
 use Rattle.pv_laws_states.specs.States.{is_call, IsValid}
-use Rattle.pv_laws_trees.proofs.Changes.{node_at-same, node_at-other}
-use Rattle.pv_laws_trees.proofs.Numbered.{at_number-below}
+use Rattle.pv_laws_trees.proofs.TreeChanges.{node_at-same, node_at-other}
+use Rattle.pv_laws_trees.proofs.NumberedMaps.{at_number-below}
 use Rattle.pv_laws_states.proofs.ValidEnds.{tree-end}
-use Rattle.pv_laws_states.proofs.Outcomes.{at_call, by_answer}
+use Rattle.pv_laws_states.proofs.CallOutcomes.{at_call, by_answer}
 use Rattle.pv_laws_states.proofs.Processes.{process_at-same, tree-update}
-use Rattle.pv_laws_states.proofs.Replies.{whole-at_call}
+use Rattle.pv_laws_states.proofs.ValidReplies.{valid-at_call}
 use Rattle.pv_laws_access.specs.Growth.{begins_image, HasExecuted}
 use Rattle.pv_laws_access.proofs.CallEffects
-use Rattle.pv_laws_access.proofs.Ends.{process_at-collect, update-live, whole-in_order, ended-not_live, step-is}
+use Rattle.pv_laws_access.proofs.ProcessesAfterEnds.{process_at-collect, update-live, valid-in_order, ended-not_live, step-is}
 use Rattle.pv_laws_access.proofs.ProgramImages.{execve-leaves, tables-stay}
 use Rattle.pv_laws_access.proofs.JustifiedChanges.{needs-open, AsksCpath, files-written}
 use Rattle.pv_laws_access.proofs.JustifiedReads.{all-justified}
 use Rattle.pv_laws_access.proofs.PromiseLimits.{missed, no-cpath, no-rpath, no-wpath}
 use Rattle.pv_laws_access.proofs.TouchingCalls.{touched}
-use Rattle.pv_laws_access.proofs.Provenance.{valued, heirs}
+use Rattle.pv_laws_access.proofs.ProcessOrigins.{valued, heirs}
 use Rattle.pv_laws_access.proofs.SealedSteps.{collect-there}
-use Rattle.pv_laws_access.specs.Lacking.{KeepsItsTable, HasNoTable, ByOwnDescriptor, reads_by, changes_by, reports_by, is_pledged_to_stdio}
+use Rattle.pv_laws_access.specs.Lacking.{KeepsTableAndLock, HasNoTable, ByOwnDescriptor, reads_by, changes_by, reports_by, is_pledged_to_stdio}
 
 -- ---- bytes
 
@@ -112,7 +112,7 @@ no-node_made program_of s pid p n whole at none there = by (is_some (node_at s.t
         let same : node_at (collect (update t.after pid t.reported)).tree n ≡ node_at t.after.tree n =
         collect-there (update t.after pid t.reported) n t.touch ∙ ap (λ (u : Tree). node_at u n) (tree-update t.after pid t.reported) in
         let asks =
-        made-by (at_call s pid t.me) pid (at_next_line t.me) t.call (whole-at_call s pid t.me whole t.at) (process_at-same s pid (at_next_line t.me)) t.is n fresh t.after t.reply t.does
+        made-by (at_call s pid t.me) pid (at_next_line t.me) t.call (valid-at_call s pid t.me whole t.at) (process_at-same s pid (at_next_line t.me)) t.is n fresh t.after t.reply t.does
         (ap is_some (sym same) ∙ t.touch) in
         let mine = one-of p t.me s pid t.at at in
         absurd (no-cpath t.me.promises asks.0 (ap (is_pledged_without (Cpath ∷ [])) mine ∙ none) (ap (missing_promise t.me.promises) (sym asks.1) ∙ t.held))
@@ -159,7 +159,7 @@ unveils next = false
 module _ (program_of : Bytes → Option Program) (s : State) (pid : ℕ) (p q : Process) (whole : IsValid s) (at : process_at s pid ≡ Some p) (none : is_pledged_without (Unveil ∷ []) p ≡ true)
     (there : process_at (step program_of s pid).after pid ≡ Some q) where
   abbrev Preserved : Type 0
-  Preserved = KeepsItsTable p q
+  Preserved = KeepsTableAndLock p q
 
   -- an unveil is refused, or kills
   refused-unveil : (call : Call) → is_unveil call ≡ true → process_at (answer program_of s pid call).after pid ≡ Some q → Preserved
@@ -186,7 +186,7 @@ module _ (program_of : Bytes → Option Program) (s : State) (pid : ℕ) (p q : 
   quiet-preserved : begins_image (next p) (step program_of s pid).outcome ≡ false → (b : Bool) → unveils (next p) ≡ b → Preserved
   quiet-preserved quiet true asks = by-unveil (next p) refl asks
   quiet-preserved quiet false other =
-      let both = tables-stay program_of s pid p q (whole-in_order s whole) at there quiet (λ call is. ap unveils (sym is) ∙ other) in
+      let both = tables-stay program_of s pid p q (valid-in_order s whole) at there quiet (λ call is. ap unveils (sym is) ∙ other) in
       record { table = both.0; locked = both.1 }
 
   by-execve : (n : Next) → next p ≡ n → (o : Outcome) → (step program_of s pid).outcome ≡ o → begins_image n o ≡ true → Preserved ⊎ HasNoTable q

@@ -8,18 +8,18 @@ use Rattle.pv_model.specs.declared.judgement.Judgement.TheVariants.{Allowed}
 use Rattle.pv_model.specs.Machine.{Bytes, GovernsName, covers, permission_r, permission_c, Next, calls_for, next, Promises, is_file, Program, Process, State, process_at, step, Node, Tree, node_at, is_directory_at, find_entry, parent, IsAtOrAbove, Table, permissions_at, Governs, own, from_above, judgement}
 use Rattle.pv_model.specs.Closed.{by_name, by_directory}
 use Rattle.pv_model.specs.Tree.{itself, above}
-use Rattle.pv_laws_trees.proofs.Changes.{has_entry-directory, directory_is_some}
+use Rattle.pv_laws_trees.proofs.TreeChanges.{has_entry-directory, directory_is_some}
 use Rattle.pv_laws_trees.proofs.Trees.{IsOrdered, parent-entry, ordered, sound, entry-parent}
 use Rattle.pv_laws_states.specs.States.{EncodesPrograms, IsValid}
-use Rattle.pv_laws_states.proofs.BySteps.{step-keeps_whole}
+use Rattle.pv_laws_states.proofs.ValidBySteps.{step-keeps_valid}
 use Rattle.pv_laws_access.specs.Growth.{begins_image}
-use Rattle.pv_laws_access.proofs.Ends.{whole-in_order}
+use Rattle.pv_laws_access.proofs.ProcessesAfterEnds.{valid-in_order}
 use Rattle.pv_laws_access.proofs.ProgramImages.{grows-never, execve-leaves}
 use Rattle.pv_laws_access.proofs.PromiseLimits.{equal-or_not}
 use Rattle.pv_laws_access.proofs.NameOrigins.{IsMovedBy, names-moved}
 use Rattle.pv_laws_access.proofs.Confinement.{governed, governed-directory}
 use Rattle.pv_laws_access.proofs.NamingCalls.{names-given}
-use Rattle.pv_laws_access.specs.Moves.{IsRenamedTo, IsGivenName, by_rename, by_link, ComesFrom, it_governed, it_was_given, one_above_was_renamed, gives_any, GivesNothing, IsLeftWithout}
+use Rattle.pv_laws_access.specs.Moves.{IsRenamedTo, IsGivenName, by_rename, by_link, ComesFrom, it_governed, it_was_given, one_above_was_renamed, gives_any, GivesNothing, StillGrantsNothing}
 
 module _ (program_of : Bytes → Option Program) (encodes : EncodesPrograms program_of) (s : State) (pid : ℕ) (whole : IsValid s) (table : Table) where
   abbrev t : Tree
@@ -29,7 +29,7 @@ module _ (program_of : Bytes → Option Program) (encodes : EncodesPrograms prog
   t' = (step program_of s pid).after.tree
 
   whole' : IsValid (step program_of s pid).after
-  whole' = step-keeps_whole program_of encodes s pid whole
+  whole' = step-keeps_valid program_of encodes s pid whole
 
   rank' : IsOrdered t'
   rank' = ordered t' (sound t' whole'.tree.well_formed).each_node
@@ -212,8 +212,8 @@ module _ (program_of : Bytes → Option Program) (encodes : EncodesPrograms prog
       begun n is o reported begins set = cc begins
 
       by : (b : Bool) → begins_image (next p) (step program_of s pid).outcome ≡ b → q.table ≡ Some table
-      by false quiet = (grows-never program_of s pid p q (whole-in_order s whole) at there quiet).closed locked ∙ in_force
+      by false quiet = (grows-never program_of s pid p q (valid-in_order s whole) at there quiet).closed locked ∙ in_force
       by true begins = ⊎_elim (λ quiet. absurd (not-both (begins_image (next p) (step program_of s pid).outcome) quiet begins)) (λ set. begun (next p) refl (step program_of s pid).outcome refl begins set) how
 
-  pub left-without : (q : Process) → process_at (step program_of s pid).after pid ≡ Some q → begins_image (next p) (step program_of s pid).outcome ≡ false ⊎ (is_some p.execpromises ≡ true) → IsLeftWithout table f (step program_of s pid).after q
+  pub left-without : (q : Process) → process_at (step program_of s pid).after pid ≡ Some q → begins_image (next p) (step program_of s pid).outcome ≡ false ⊎ (is_some p.execpromises ≡ true) → StillGrantsNothing table f (step program_of s pid).after q
   left-without q there how = record { in_force = table-stays q there how; nothing = nothing-following }

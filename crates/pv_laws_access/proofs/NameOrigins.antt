@@ -5,15 +5,15 @@ use Rattle.pv_model.specs.declared.call.Call.{Call}
 use Rattle.pv_model.specs.declared.place.Place.{Place}
 use Rattle.pv_model.specs.Machine.{at_next_line, update, Bytes, with_content, end_process, Reply, node_of, collect, needs, permission_r, permission_c, calls_for, next, missing_promise, Program, Process, State, process_at, step, IsAllowed, Node, file_node, Tree, node_at, entries_of, is_directory_at, find_entry, with_node, with_entry, without_entry, new_number, with_new_node}
 use Rattle.pv_laws_states.specs.States.{is_call, IsTree, IsValid}
-use Rattle.pv_laws_states.proofs.ByTree.{named-place}
+use Rattle.pv_laws_states.proofs.ValidByTree.{named-place}
 use Rattle.pv_laws_states.proofs.ValidEnds.{tree-end}
-use Rattle.pv_laws_states.proofs.Outcomes.{at_call}
+use Rattle.pv_laws_states.proofs.CallOutcomes.{at_call}
 use Rattle.pv_laws_states.proofs.Processes.{process_at-same, tree-update}
-use Rattle.pv_laws_states.proofs.Replies.{whole-at_call}
+use Rattle.pv_laws_states.proofs.ValidReplies.{valid-at_call}
 use Rattle.pv_laws_states.proofs.ChangedStates.{IsFinePlace}
-use Rattle.pv_laws_trees.proofs.Changes.{node_at-other, found-with, found-without}
-use Rattle.pv_laws_trees.proofs.Edits.{new_number-free}
-use Rattle.pv_laws_trees.proofs.Entries.{by_name}
+use Rattle.pv_laws_trees.proofs.TreeChanges.{node_at-other, found-with, found-without}
+use Rattle.pv_laws_trees.proofs.WellFormedChanges.{new_number-free}
+use Rattle.pv_laws_trees.proofs.DirectoryEntries.{by_name}
 use Rattle.pv_laws_access.proofs.ChangedTrees.{cases_entry, entries-content, entry-with_other, entry-without_other, new-within, entry-new_other, entry-collect}
 use Rattle.pv_laws_access.proofs.CallEffects
 use Rattle.pv_laws_access.proofs.JustifiedChanges.{fine-name, many, between-directory}
@@ -129,6 +129,6 @@ names-moved program_of s pid d name n whole there has new =
     let same : find_entry (collect (update t.after pid t.reported)).tree d name ≡ find_entry t.after.tree d name =
     entry-collect (update t.after pid t.reported) (subst IsTree (sym (tree-update t.after pid t.reported)) t.tree) d name ∙ ap (λ (u : Tree). find_entry u d name) (tree-update t.after pid t.reported) in
     let by =
-    moved-by (at_call s pid t.me) pid (at_next_line t.me) t.call (whole-at_call s pid t.me whole t.at) (process_at-same s pid (at_next_line t.me)) t.is n there d name new t.after t.reply t.does t.tree
+    moved-by (at_call s pid t.me) pid (at_next_line t.me) t.call (valid-at_call s pid t.me whole t.at) (process_at-same s pid (at_next_line t.me)) t.is n there d name new t.after t.reply t.does t.tree
     (sym same ∙ t.touch) in
     record { me = t.me; call = t.call; at = t.at; next_is = t.next_is; held = t.held; moved = record { place = by.place; allowed = by.allowed; node = by.node; fine = by.fine } }

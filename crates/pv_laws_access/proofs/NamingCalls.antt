@@ -13,19 +13,19 @@ use Rattle.pv_model.specs.declared.place.Place.{Place}
 use Rattle.pv_model.specs.declared.promise.Promise.{Promise}
 use Rattle.pv_model.specs.Machine.{Answered, answer, answer_by_attempt, at_next_line, update, effect, Attempt, done, refused, ◌>>=◌, ◌>>◌, refuse_if, Bytes, is_empty, same_node, contains_directory, is_directory_there, entries_there, ends_in_dot, link, move_entry, rename, with_result, Effect, returns, returns_bytes, ends, waits, answers, judge_for, walk_from, node_of, name_of, end_of, errno_number, collect, needs, permission_r, permission_c, calls_for, next, missing_promise, Program, Process, State, process_at, with_tree, Stepped, step, step_by, place_found, places, Tree, node_at, is_directory_at, find_entry, with_entry, without_entry, Walk, walks_of, rename_walk}
 use Rattle.pv_model.specs.Walks.{linked_walk, new_link_walk}
-use Rattle.pv_laws_trees.proofs.Changes.{with_entry-cases, without_entry-was}
+use Rattle.pv_laws_trees.proofs.TreeChanges.{with_entry-cases, without_entry-was}
 use Rattle.pv_laws_states.specs.States.{is_text, is_call, EncodesPrograms, IsTree, IsValid}
-use Rattle.pv_laws_states.proofs.Attempts.{Leads, leads-then, leads-refuse_if, leads-demand, leads-room}
-use Rattle.pv_laws_states.proofs.BySteps.{IsGoodNext, good-effect, good-next}
-use Rattle.pv_laws_states.proofs.ByTree.{FineName, fine-place, named-place}
-use Rattle.pv_laws_states.proofs.Outcomes.{at_call, by_answer}
+use Rattle.pv_laws_states.proofs.AttemptValues.{Leads, leads-then, leads-refuse_if, leads-demand, leads-room}
+use Rattle.pv_laws_states.proofs.ValidBySteps.{IsGoodNext, good-effect, good-next}
+use Rattle.pv_laws_states.proofs.ValidByTree.{FineName, fine-place, named-place}
+use Rattle.pv_laws_states.proofs.CallOutcomes.{at_call, by_answer}
 use Rattle.pv_laws_states.proofs.Processes.{process_at-same, tree-update}
-use Rattle.pv_laws_states.proofs.Replies.{IsEffect, whole-at_call}
-use Rattle.pv_laws_states.proofs.CallRests
+use Rattle.pv_laws_states.proofs.ValidReplies.{IsEffect, valid-at_call}
+use Rattle.pv_laws_states.proofs.CallRemainders
 use Rattle.pv_laws_states.proofs.ChangedStates.{IsFinePlace}
 use Rattle.pv_laws_access.proofs.ChangedTrees.{entry-collect}
 use Rattle.pv_laws_access.proofs.CallEffects.{leads-judged}
-use Rattle.pv_laws_access.proofs.Ends.{step-is}
+use Rattle.pv_laws_access.proofs.ProcessesAfterEnds.{step-is}
 use Rattle.pv_laws_access.proofs.JustifiedChanges.{entries-edited, between-directory}
 use Rattle.pv_laws_access.proofs.NameOrigins.{IsMovedBy, names-moved}
 use Rattle.pv_laws_access.specs.Moves.{LeadsToAllowed, IsGivenName, by_rename, by_link}
@@ -103,12 +103,12 @@ module _ (x : State) (pid : ℕ) (me : Process) (whole : IsValid x) (at : proces
   performed-link : (path to : Bytes) → is_text path ≡ true → is_text to ≡ true → Leads (Gives x me n d name (Linked x me n d name path to)) (link x pid me path to)
   performed-link path to text_path text_to =
       let D : Effect → Type 0 = Gives x me n d name (Linked x me n d name path to) in
-      leads-judged D x me me.directory Last path permission_r (CallRests.link_1 x pid me to) (λ old_place old_found old_allowed.
-      leads-judged D x me me.directory Keep to permission_c (CallRests.link_2 x pid me old_place) (λ new_place new_found allowed.
-      leads-demand D ENOENT (node_of old_place) (CallRests.link_3 x pid me new_place) (λ m is.
-      leads-refuse_if D EPERM (is_directory_at x.tree m) (CallRests.link_4 x pid me new_place m) (λ plain.
-      leads-then D (refuse_if EEXIST (is_some (node_of new_place))) (CallRests.link_5 x pid me new_place m) (
-      leads-demand D EEXIST (name_of new_place) (CallRests.link_6 x pid me m) (λ p named.
+      leads-judged D x me me.directory Last path permission_r (CallRemainders.link_1 x pid me to) (λ old_place old_found old_allowed.
+      leads-judged D x me me.directory Keep to permission_c (CallRemainders.link_2 x pid me old_place) (λ new_place new_found allowed.
+      leads-demand D ENOENT (node_of old_place) (CallRemainders.link_3 x pid me new_place) (λ m is.
+      leads-refuse_if D EPERM (is_directory_at x.tree m) (CallRemainders.link_4 x pid me new_place m) (λ plain.
+      leads-then D (refuse_if EEXIST (is_some (node_of new_place))) (CallRemainders.link_5 x pid me new_place m) (
+      leads-demand D EEXIST (name_of new_place) (CallRemainders.link_6 x pid me m) (λ p named.
       leads-room D (with_tree x (with_entry x.tree p.0 p.1 m)) (λ after. answers after 0) (λ short fit. (
         refl,
         λ found.
@@ -134,10 +134,10 @@ module _ (x : State) (pid : ℕ) (me : Process) (whole : IsValid x) (at : proces
       → Leads (Gives x me n d name (Renamed x me n d name path to)) (move_entry x pid me m p.0 p.1 q.0 q.1 there)
   performed-move path to old_place new_place m p q there from into is named dir into_dir =
       let D : Effect → Type 0 = Gives x me n d name (Renamed x me n d name path to) in
-      leads-then D (refuse_if EINVAL (contains_directory x.tree m q.0)) (CallRests.move_2 x pid me m p.0 p.1 q.0 q.1 there) (
-      leads-then D (refuse_if EISDIR (is_directory_there x.tree there && not (is_directory_at x.tree m))) (CallRests.move_3 x pid me m p.0 p.1 q.0 q.1 there) (
-      leads-then D (refuse_if ENOTDIR (is_directory_at x.tree m && is_some there && not (is_directory_there x.tree there))) (CallRests.move_4 x pid me m p.0 p.1 q.0 q.1 there) (
-      leads-then D (refuse_if ENOTEMPTY (not (is_empty (entries_there x.tree there)))) (CallRests.move_5 x pid me m p.0 p.1 q.0 q.1) (
+      leads-then D (refuse_if EINVAL (contains_directory x.tree m q.0)) (CallRemainders.move_2 x pid me m p.0 p.1 q.0 q.1 there) (
+      leads-then D (refuse_if EISDIR (is_directory_there x.tree there && not (is_directory_at x.tree m))) (CallRemainders.move_3 x pid me m p.0 p.1 q.0 q.1 there) (
+      leads-then D (refuse_if ENOTDIR (is_directory_at x.tree m && is_some there && not (is_directory_there x.tree there))) (CallRemainders.move_4 x pid me m p.0 p.1 q.0 q.1 there) (
+      leads-then D (refuse_if ENOTEMPTY (not (is_empty (entries_there x.tree there)))) (CallRemainders.move_5 x pid me m p.0 p.1 q.0 q.1) (
       leads-room D (with_tree x (with_entry (without_entry x.tree p.0 p.1) q.0 q.1 m)) (λ after. answers after 0) (λ short fit. (
         refl,
         λ found.
@@ -151,12 +151,12 @@ module _ (x : State) (pid : ℕ) (me : Process) (whole : IsValid x) (at : proces
   performed-rename : (path to : Bytes) → is_call (TheCall.Rename path to) ≡ true → Leads (Gives x me n d name (Renamed x me n d name path to)) (rename x pid me path to)
   performed-rename path to texts =
       let D : Effect → Type 0 = Gives x me n d name (Renamed x me n d name path to) in
-      leads-then D (refuse_if EINVAL (ends_in_dot path || ends_in_dot to)) (walk_from x me.directory Keep path >>= (λ old_place. judge_for x me old_place permission_c >> CallRests.rename_1 x pid me to old_place)) (
-      leads-judged D x me me.directory Keep path permission_c (CallRests.rename_1 x pid me to) (λ old_place old_found old_allowed.
-      leads-judged D x me me.directory Keep to permission_c (CallRests.rename_2 x pid me old_place) (λ new_place new_found new_allowed.
-      leads-demand D ENOENT (node_of old_place) (CallRests.rename_3 x pid me old_place new_place) (λ m is.
-      leads-demand D EBUSY (name_of old_place) (CallRests.rename_4 x pid me new_place m) (λ p old_named.
-      leads-demand D EBUSY (name_of new_place) (CallRests.rename_5 x pid me new_place m p) (λ q new_named.
+      leads-then D (refuse_if EINVAL (ends_in_dot path || ends_in_dot to)) (walk_from x me.directory Keep path >>= (λ old_place. judge_for x me old_place permission_c >> CallRemainders.rename_1 x pid me to old_place)) (
+      leads-judged D x me me.directory Keep path permission_c (CallRemainders.rename_1 x pid me to) (λ old_place old_found old_allowed.
+      leads-judged D x me me.directory Keep to permission_c (CallRemainders.rename_2 x pid me old_place) (λ new_place new_found new_allowed.
+      leads-demand D ENOENT (node_of old_place) (CallRemainders.rename_3 x pid me old_place new_place) (λ m is.
+      leads-demand D EBUSY (name_of old_place) (CallRemainders.rename_4 x pid me new_place m) (λ p old_named.
+      leads-demand D EBUSY (name_of new_place) (CallRemainders.rename_5 x pid me new_place m p) (λ q new_named.
       let both = and_parts (is_text path) (is_text to) texts in
       let dir = (fine-name old_place p (fine-place x pid me whole at Keep path old_place both.0 old_found) old_named).directory in
       let into = (fine-name new_place q (fine-place x pid me whole at Keep to new_place both.1 new_found) new_named).directory in
@@ -177,7 +177,7 @@ module _ (program_of : Bytes → Option Program) (encodes : EncodesPrograms prog
   now = at_next_line me
 
   whole_x : IsValid x
-  whole_x = whole-at_call s pid me whole at
+  whole_x = valid-at_call s pid me whole at
 
   at_x : process_at x pid ≡ Some now
   at_x = process_at-same s pid now
@@ -252,7 +252,7 @@ module _ (program_of : Bytes → Option Program) (encodes : EncodesPrograms prog
       let C : Call = TheCall.Link path to in
       let x : State = at_call s pid m.me in
       let now : Process = at_next_line m.me in
-      let whole_x = whole-at_call s pid m.me whole m.at in
+      let whole_x = valid-at_call s pid m.me whole m.at in
       let at_x = process_at-same s pid now in
       let texts = and_parts (is_text path) (is_text to) (good m C is) in
       let by =
@@ -276,7 +276,7 @@ module _ (program_of : Bytes → Option Program) (encodes : EncodesPrograms prog
       let C : Call = TheCall.Rename path to in
       let x : State = at_call s pid m.me in
       let now : Process = at_next_line m.me in
-      let whole_x = whole-at_call s pid m.me whole m.at in
+      let whole_x = valid-at_call s pid m.me whole m.at in
       let at_x = process_at-same s pid now in
       let by =
       answered program_of encodes s pid m.me whole m.at C (comes m C is) n d name new (Renamed x now n d name path to) (held m C is)

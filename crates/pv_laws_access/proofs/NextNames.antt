@@ -7,19 +7,19 @@ use Rattle.pv_model.specs.declared.call.Call.{Call}
 use Rattle.pv_model.specs.declared.call.Call.TheVariants as TheCall
 use Rattle.pv_model.specs.declared.errno.Errno.TheVariants.{EBADF, EINVAL}
 use Rattle.pv_model.specs.Machine.{Answered, answer, answer_of, answer_where, answer_by_attempt, at_next_line, with_front, update, effect, ◌>>=◌, ◌>>◌, refuse_if, demand, after_walks, Bytes, is_past, next_name, list_name, getdents, with_result, open_file_of, open_file, with_file, among, collect, needs, at_number, calls_for, missing_promise, OpenFile, Descriptor, Program, Process, State, process_at, Stepped, step, step_by, Entries, entries_at, is_directory_at}
-use Rattle.pv_laws_trees.proofs.Changes.{entries-good}
-use Rattle.pv_laws_trees.proofs.Entries.{by_name, tied-same, tied_itself, find_after}
-use Rattle.pv_laws_trees.proofs.Numbered.{at_number-below, with_number-same, keep-passes}
+use Rattle.pv_laws_trees.proofs.TreeChanges.{entries-good}
+use Rattle.pv_laws_trees.proofs.DirectoryEntries.{by_name, tied-same, tied_itself, find_after}
+use Rattle.pv_laws_trees.proofs.NumberedMaps.{at_number-below, with_number-same, keep-passes}
 use Rattle.pv_laws_trees.proofs.NameOrder.{less_from}
 use Rattle.pv_laws_states.specs.Held.{used}
 use Rattle.pv_laws_states.specs.States.{IsValid}
-use Rattle.pv_laws_states.proofs.ByFile.{open_file-at}
-use Rattle.pv_laws_states.proofs.Members.{among-used}
-use Rattle.pv_laws_states.proofs.Outcomes.{at_call}
+use Rattle.pv_laws_states.proofs.ValidByFile.{open_file-at}
+use Rattle.pv_laws_states.proofs.ReferenceMembers.{among-used}
+use Rattle.pv_laws_states.proofs.CallOutcomes.{at_call}
 use Rattle.pv_laws_states.proofs.Processes.{process_at-same, files-update}
-use Rattle.pv_laws_states.proofs.CallRests
-use Rattle.pv_laws_states.proofs.Collect.{files-collect}
-use Rattle.pv_laws_access.proofs.Ends.{step-is, process_at-collect, update-live}
+use Rattle.pv_laws_states.proofs.CallRemainders
+use Rattle.pv_laws_states.proofs.CollectedStates.{files-collect}
+use Rattle.pv_laws_access.proofs.ProcessesAfterEnds.{step-is, process_at-collect, update-live}
 use Rattle.pv_laws_access.specs.Origins.{MakesCall}
 use Rattle.pv_laws_access.specs.Order.{IsSmallerName, IsAfterName, IsReported, ReportsTheNext, a_name, none_left}
 
@@ -140,8 +140,8 @@ module _ (program_of : Bytes → Option Program) (s : State) (pid : ℕ) (me : P
 
   listed-by : getdents x pid now d ≡ after_walks 0 (after_walks 0 (list_name x pid now k file (next_name file.listed (entries_at s.tree file.node))))
   listed-by =
-      ap (λ o. demand EBADF o >>= CallRests.getdents_1 x pid now) (same-open s pid me d ∙ open_is)
-      ∙ ap (λ b. after_walks 0 (refuse_if EINVAL (not b) >> CallRests.getdents_2 x pid now k file)) directory
+      ap (λ o. demand EBADF o >>= CallRemainders.getdents_1 x pid now) (same-open s pid me d ∙ open_is)
+      ∙ ap (λ b. after_walks 0 (refuse_if EINVAL (not b) >> CallRemainders.getdents_2 x pid now k file)) directory
 
   stepped : step program_of s pid ≡ step_by program_of s pid me (calls_for (TheCall.Getdents d))
   stepped = step-is program_of s pid me made.at ∙ ap (step_by program_of s pid me) made.next_is

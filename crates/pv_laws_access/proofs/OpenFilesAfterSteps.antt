@@ -7,18 +7,18 @@ use Rattle.pv_model.specs.declared.open_flags.OpenFlags.{OpenFlags}
 use Rattle.pv_model.specs.declared.outcome.Cause.TheVariants.{Promise as ByPromise}
 use Rattle.pv_model.specs.Machine.{answer, answer_by_attempt, at_next_line, with_front, update, effect, Attempt, done, refused, Bytes, new_open_file, with_result, end_process, Effect, Reply, returns, returns_bytes, ends, waits, errno_number, among, collect, Numbered, at_number, with_number, least_free, Next, inside, calls_for, next, OpenFile, Descriptor, Program, Process, State, process_at, Stepped, step, step_by, flags_of}
 use Rattle.pv_laws_states.specs.Held.{used}
-use Rattle.pv_laws_states.proofs.Attempts.{Leads}
-use Rattle.pv_laws_states.proofs.Outcomes.{at_call, by_answer}
+use Rattle.pv_laws_states.proofs.AttemptValues.{Leads}
+use Rattle.pv_laws_states.proofs.CallOutcomes.{at_call, by_answer}
 use Rattle.pv_laws_states.proofs.Processes.{process_at-same, process_at-other, files-update}
-use Rattle.pv_laws_states.proofs.Collect.{files-collect}
-use Rattle.pv_laws_trees.proofs.Numbered.{at_number-below, with_number-same, with_number-other, with_number-same_within, with_number-other_within, least_free-within, keep-some}
+use Rattle.pv_laws_states.proofs.CollectedStates.{files-collect}
+use Rattle.pv_laws_trees.proofs.NumberedMaps.{at_number-below, with_number-same, with_number-other, with_number-same_within, with_number-other_within, least_free-within, keep-some}
 use Rattle.pv_laws_access.specs.Growth.{IsInOrder}
 use Rattle.pv_laws_access.proofs.CallEffects
 use Rattle.pv_laws_access.proofs.EffectByCall.{does-effect}
 use Rattle.pv_laws_access.proofs.ImageGrowth.{other}
-use Rattle.pv_laws_access.proofs.Ends.{process_at-collect, update-other, in_order-call, step-is, step-gone}
+use Rattle.pv_laws_access.proofs.ProcessesAfterEnds.{process_at-collect, update-other, in_order-call, step-is, step-gone}
 use Rattle.pv_laws_access.proofs.OtherOpenFiles.{others-files}
-use Rattle.pv_laws_access.specs.Frame.{CameOf, as_it_was, moved, opened, is_end}
+use Rattle.pv_laws_access.specs.Frame.{HasOrigin, as_it_was, moved, opened, is_end}
 
 -- an open file that remains after collection existed before
 collected : (y : State) (k : ℕ) (left : OpenFile) → at_number (collect y).files k ≡ Some left → at_number y.files k ≡ Some left
@@ -30,7 +30,7 @@ files-end y pid me status = refl
 
 module _ (s : State) (pid k : ℕ) (left : OpenFile) where
   abbrev Came : Type 0
-  Came = CameOf s pid k left
+  Came = HasOrigin s pid k left
 
   module _ (me : Process) (call : Call) (at : process_at s pid ≡ Some me) (made : next me ≡ calls_for call) where
     abbrev y : State

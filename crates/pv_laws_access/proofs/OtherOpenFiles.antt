@@ -5,18 +5,18 @@ use Rattle.pv_model.specs.declared.call.Call.{Call}
 use Rattle.pv_model.specs.declared.errno.Errno.TheVariants.{ENOSYS}
 use Rattle.pv_model.specs.declared.outcome.Cause.TheVariants.{Promise as ByPromise}
 use Rattle.pv_model.specs.Machine.{answer, answer_by_attempt, at_next_line, with_front, update, effect, Attempt, done, refused, Bytes, with_result, end_process, Effect, Reply, returns, returns_bytes, ends, waits, open_file, errno_number, among, collect, Numbered, at_number, with_number, least_free, Next, inside, calls_for, next, OpenFile, Descriptor, Program, Process, State, process_at, Stepped, step, step_by, descriptor_of}
-use Rattle.pv_laws_trees.proofs.Numbered.{at_number-below, with_number-same, with_number-other, with_number-other_within, least_free-free, least_free-within, keep-passes}
+use Rattle.pv_laws_trees.proofs.NumberedMaps.{at_number-below, with_number-same, with_number-other, with_number-other_within, least_free-free, least_free-within, keep-passes}
 use Rattle.pv_laws_states.specs.Held.{used}
-use Rattle.pv_laws_states.proofs.Attempts.{Leads}
-use Rattle.pv_laws_states.proofs.Members.{among-used}
-use Rattle.pv_laws_states.proofs.Outcomes.{at_call, by_answer}
+use Rattle.pv_laws_states.proofs.AttemptValues.{Leads}
+use Rattle.pv_laws_states.proofs.ReferenceMembers.{among-used}
+use Rattle.pv_laws_states.proofs.CallOutcomes.{at_call, by_answer}
 use Rattle.pv_laws_states.proofs.Processes.{process_at-same, process_at-other, files-update}
-use Rattle.pv_laws_states.proofs.Collect.{files-collect}
+use Rattle.pv_laws_states.proofs.CollectedStates.{files-collect}
 use Rattle.pv_laws_access.specs.Growth.{IsInOrder, IsSameFile, IsNamedBy}
 use Rattle.pv_laws_access.proofs.ImageGrowth.{other}
 use Rattle.pv_laws_access.proofs.CallEffects.{HasEffect, stays, restrains, begins, closes, copies, forks, reaps, moves, cuts, writes_bytes, makes, links, unlinks, renames, opens, creates, Did}
 use Rattle.pv_laws_access.proofs.EffectByCall.{does-effect}
-use Rattle.pv_laws_access.proofs.Ends.{update-other, in_order-call, ended-others, step-is, step-gone}
+use Rattle.pv_laws_access.proofs.ProcessesAfterEnds.{update-other, in_order-call, ended-others, step-is, step-gone}
 
 -- an open file stays under its number
 abbrev IsLeft : Type 0 → Numbered OpenFile → ℕ → OpenFile → Type 0
@@ -44,8 +44,8 @@ module _ (Named : Type 0) where
       (cases_eq k j)
 
   -- a new open file under the least free number
-  left-beside : (files : Numbered OpenFile) (new : OpenFile) (k : ℕ) (file : OpenFile) → at_number files k ≡ Some file → IsLeft Named (with_number files (least_free files) new) k file
-  left-beside files new k file there =
+  left-other : (files : Numbered OpenFile) (new : OpenFile) (k : ℕ) (file : OpenFile) → at_number files k ≡ Some file → IsLeft Named (with_number files (least_free files) new) k file
+  left-other files new k file there =
       left-as_was (with_number files (least_free files) new) k file
       (with_number-other_within files (least_free files) new k (least_free-within files) (λ same. let none = ap (at_number files) same ∙ least_free-free files in cc) ∙ there)
 
@@ -79,8 +79,8 @@ module _ (s : State) (pid : ℕ) (me : Process) (call : Call) (k : ℕ) (file : 
   left-does _ _ (links place q old n change from_old is fine) = as_it_is
   left-does _ _ (unlinks place q change) = as_it_is
   left-does _ _ (renames place q next r n from into is) = as_it_is
-  left-does _ _ (opens flags place n m flagged allowed is fine written) = left-beside Own s.files _ k file there
-  left-does _ _ (creates flags place q m flagged allowed create named none fine) = left-beside Own s.files _ k file there
+  left-does _ _ (opens flags place n m flagged allowed is fine written) = left-other Own s.files _ k file there
+  left-does _ _ (creates flags place q m flagged allowed create named none fine) = left-other Own s.files _ k file there
 
 -- an open file that a live process uses is not collected
 left-collect : (Named : Type 0) (s : State) (pid : ℕ) (p : Process) (d : ℕ) (x : Descriptor) (file : OpenFile) → process_at s pid ≡ Some p → at_number p.descriptors d ≡ Some x → IsLeft Named s.files x.file file

@@ -3,21 +3,21 @@ use Rattle.std.proofs.Common.{◌≡◌, ◌≢◌, ◌⊎◌, inl, inr, ⊎_eli
 use Rattle.std.specs.List.{AllByRecursion}
 use Rattle.pv_model.specs.declared.promise.Promise.TheVariants.{Wpath, Cpath, Exec as ExecPromise}
 use Rattle.pv_model.specs.Machine.{Bytes, is_empty, with_content_of, is_file, Program, Process, State, Run, writes, process_at, with_tree, step, run, change_file, file_bytes, with_bytes, trace_bytes, Touches, Node, node_at, Table}
-use Rattle.pv_model.specs.Closed.{HasOn, IsClosed, IsPledgedFrom, IsFrozenTo}
+use Rattle.pv_model.specs.Closed.{HasOn, IsClosed, IsFixedByPledge, IsFrozenTo}
 use Rattle.pv_model.specs.Touch.{SameButFile}
 use Rattle.pv_laws_states.specs.States.{EncodesPrograms, IsValid}
-use Rattle.pv_laws_states.proofs.BySteps.{step-keeps_whole}
-use Rattle.pv_laws_trees.proofs.Changes.{cases_name}
-use Rattle.pv_laws_access.specs.Growth.{MayDoNoMore}
+use Rattle.pv_laws_states.proofs.ValidBySteps.{step-keeps_valid}
+use Rattle.pv_laws_trees.proofs.TreeChanges.{cases_name}
+use Rattle.pv_laws_access.specs.Growth.{HasNoMoreRights}
 use Rattle.pv_laws_access.specs.Origins.{origin}
-use Rattle.pv_laws_access.specs.OwnRuns.{AreOwnSteps, ClosedRunsAlike, IsThereThroughout, IsUnveiledFixed, IsUnveiledInPlace, IsPledgedInPlace, IsFixed, FixedRunsKeep}
+use Rattle.pv_laws_access.specs.OwnRuns.{AreOwnSteps, ClosedRunsAreEqual, IsThereThroughout, IsUnveiledFixed, IsUnveiledInPlace, IsPledgedInPlace, IsFixed, FixedRunsKeep}
 use Rattle.pv_laws_access.specs.Sealing.{RunsDifferInFile}
 use Rattle.pv_laws_access.specs.Secrets.{StepsDifferInFile}
 use Rattle.pv_laws_access.proofs.ClosedProcesses.{closed-answers_alike}
 use Rattle.pv_laws_access.proofs.Confinement.{KeepsInPlace, closed-keeps, links_or_moves, no-writer}
 use Rattle.pv_laws_access.proofs.JustifiedChanges.{files-written}
 use Rattle.pv_laws_access.proofs.JustifiedGains.{has-opens}
-use Rattle.pv_laws_access.proofs.Provenance.{IsCalled, IsExecve, IsHeir, heirs}
+use Rattle.pv_laws_access.proofs.ProcessOrigins.{IsCalled, IsExecve, IsHeir, heirs}
 use Rattle.pv_laws_access.proofs.SealedSteps.{closed-heir, file-stays, gave_above, gave_name, had, lacks-no_more, no-exec, unveiled-heir, unwritten-heir}
 use Rattle.pv_laws_access.proofs.SimilarTrees.{IsNear, as_is, near-bytes, near-itself, near-length_of, same-but_file}
 use Rattle.pv_laws_access.proofs.Verdicts.{leaks-closed}
@@ -89,7 +89,7 @@ module _ (first : State) (pid : ℕ) where
             → RunsDifferInFile f (run program_of pids (step program_of s j).after) (run program_of pids (step program_of (with_bytes s f bytes) j).after)
         by true there alike rest =
             subst (λ (z : State). RunsDifferInFile f (run program_of pids (step program_of s j).after) (run program_of pids z)) alike.after
-            (rest (file_bytes (step program_of (with_bytes s f bytes) j).after f) (step-keeps_whole program_of encodes s j whole) (file-stays program_of s j f whole file there)
+            (rest (file_bytes (step program_of (with_bytes s f bytes) j).after f) (step-keeps_valid program_of encodes s j whole) (file-stays program_of s j f whole file there)
             (closed-own s j whole file own.0 each) own.1 alike.as_many)
         by false gone alike rest =
             subst (λ (z : State). RunsDifferInFile f (run program_of pids (step program_of s j).after) (run program_of pids z))
@@ -123,13 +123,13 @@ module _ (first : State) (pid : ℕ) where
       fixed-run [] s whole file each own there = refl
       fixed-run (j ∷ pids) s whole file each own there =
           let still = file-stays program_of s j f whole file there.0 in
-          fixed-run pids (step program_of s j).after (step-keeps_whole program_of encodes s j whole) still (fixed-own s j whole file own.0 each) own.1 there.1
+          fixed-run pids (step program_of s j).after (step-keeps_valid program_of encodes s j whole) still (fixed-own s j whole file own.0 each) own.1 there.1
           ∙ ⊎_elim (λ same. same) (λ differ. absurd (unchanged s j whole file (λ p at. frozen s p (each j p own.0 at)) (file, still, differ)))
           (cases_name (file_bytes (step program_of s j).after f) (file_bytes s f))
 
     -- the promises of a process prevent it from opening anything for writing
     abbrev Pledged : State → Process → Type 0
-    Pledged s p = ((d : ℕ) → ¬ HasOn s p f writes d) × IsPledgedFrom s p f
+    Pledged s p = ((d : ℕ) → ¬ HasOn s p f writes d) × IsFixedByPledge s p f
 
     pledged-frozen : (s : State) (p : Process) → Pledged s p → IsFrozenTo s p f
     pledged-frozen s p is = record { descriptors = is.0; restraints = inl is.1 }
@@ -177,7 +177,7 @@ module _ (first : State) (pid : ℕ) where
 
 -- ---- the laws
 
-pub closed-runs_alike : ClosedRunsAlike
+pub closed-runs_alike : ClosedRunsAreEqual
 closed-runs_alike program_of encodes s pid p pids f bytes whole file at closed own long =
     closed-run s pid program_of encodes f pids s bytes whole file (own-first s pid (λ t q. IsClosed t q f) p at closed) own long
 

@@ -18,7 +18,7 @@ use Rattle.pv_model.specs.declared.promise.Promise.{Promise}
 use Rattle.pv_model.specs.declared.target.Target.{Target}
 use Rattle.pv_model.specs.Machine.{answer_by_attempt, effect, Attempt, done, refused, after_walks, ◌>>=◌, ◌>>◌, give, refuse, refuse_if, demand, Bytes, check_start, open_node, open_at, write, list_name, reap, entries_of_table, add_target, refuse_if_locked, unveil, Effect, returns, returns_bytes, ends, waits, place_or_refusal, walk, judgement_or_refusal, judge, with_room, end_of, collect, covers, is_too_long, fits, OpenFile, Program, Process, State, Node, directory_node, Table, entry_for, permissions_at, with_permissions, judgement, Walked, Walk}
 use Rattle.pv_model.specs.Calls.Paths.{make}
-use Rattle.pv_model.specs.Calls.Restraints.{add_entry}
+use Rattle.pv_model.specs.Calls.Restraints.{add_table_entry}
 use Rattle.pv_model.specs.declared.limits.TheConstants.{UNVEILS}
 use Rattle.pv_model.specs.Walks.{mkdir_walk}
 
@@ -127,7 +127,7 @@ module _ (s : State) (pid : ℕ) (me : Process) where
       added : (target : Target) (permissions : Perms) → Spared (add_target s pid me target permissions)
       added target permissions = by (entries_of_table me.table) (entry_for (entries_of_table me.table) target)
         where
-          by : (table : Table) (o : Option ℕ) → Spared (add_entry table target permissions o)
+          by : (table : Table) (o : Option ℕ) → Spared (add_table_entry table target permissions o)
           by table None = cond-spared (nat_le UNVEILS (length table)) (refuse E2BIG) (give (table ++ (target, permissions) ∷ [])) (record { spares = refl }) (done-spared _ _)
           by table (Some k) = cond-spared (covers (permissions_at table k) permissions) (give (with_permissions table k target permissions)) (refused 0 EPERM (ByUnveil (Some k))) (done-spared _ _) (record { spares = refl })
 

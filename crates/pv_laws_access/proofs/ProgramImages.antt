@@ -8,26 +8,26 @@ use Rattle.pv_model.specs.declared.follow.Follow.TheVariants.{Last}
 use Rattle.pv_model.specs.declared.outcome.Outcome.TheVariants.{Value}
 use Rattle.pv_model.specs.Machine.{Answered, answer, answer_by_attempt, at_next_line, update, effect, Attempt, done, refused, ◌>>◌, refuse_if, Bytes, with_result, child, fork, with_program, executable_bytes, execve, Effect, returns, returns_bytes, ends, waits, answers, node_of, collect, permission_x, Next, inside, calls_for, next, Program, Process, State, process_at, with_process, Stepped, step, step_by, run, node_at, is_unveil}
 use Rattle.pv_laws_states.specs.States.{EncodesPrograms, IsValid}
-use Rattle.pv_laws_states.proofs.Attempts.{Leads, leads-demand, leads-place}
-use Rattle.pv_laws_states.proofs.BySteps.{step-keeps_whole}
-use Rattle.pv_laws_states.proofs.Outcomes.{at_call, by_answer}
+use Rattle.pv_laws_states.proofs.AttemptValues.{Leads, leads-demand, leads-place}
+use Rattle.pv_laws_states.proofs.ValidBySteps.{step-keeps_valid}
+use Rattle.pv_laws_states.proofs.CallOutcomes.{at_call, by_answer}
 use Rattle.pv_laws_states.proofs.Processes.{process_at-same, process_at-other}
-use Rattle.pv_laws_states.proofs.CallRests
-use Rattle.pv_laws_access.specs.Growth.{MayDoNoMore, HasTheSame, IsInOrder, IsLeftAlone, begins_image, HasExecuted, StaysInImage}
+use Rattle.pv_laws_states.proofs.CallRemainders
+use Rattle.pv_laws_access.specs.Growth.{HasNoMoreRights, HasSameRights, IsInOrder, IsUnchangedExceptParent, begins_image, HasExecuted, StaysInImage}
 use Rattle.pv_laws_access.proofs.ImageGrowth.{preserved, other-preserved}
-use Rattle.pv_laws_access.proofs.Ends.{alone-itself, alone-same, process_at-collect, update-live, update-other, whole-in_order, IsSameNext, same-next, step-is, step-gone}
-use Rattle.pv_laws_access.proofs.Narrowing.{no_more-along, no_more-same, no_more-of_same}
+use Rattle.pv_laws_access.proofs.ProcessesAfterEnds.{alone-itself, alone-same, process_at-collect, update-live, update-other, valid-in_order, IsSameNext, same-next, step-is, step-gone}
+use Rattle.pv_laws_access.proofs.NarrowedRestraints.{no_more-along, no_more-same, no_more-of_same}
 
 -- ---- steps
 
 pub grows-never : (program_of : Bytes → Option Program) (s : State) (pid : ℕ) (p q : Process) → IsInOrder s → process_at s pid ≡ Some p → process_at (step program_of s pid).after pid ≡ Some q
-    → begins_image (next p) (step program_of s pid).outcome ≡ false → MayDoNoMore p q
+    → begins_image (next p) (step program_of s pid).outcome ≡ false → HasNoMoreRights p q
 grows-never program_of s pid p q order at there quiet =
     let is = step-is program_of s pid p at in
     by (next p) (same-next p) (subst (λ (w : Stepped). process_at w.after pid ≡ Some q) is there) (subst (λ (w : Stepped). begins_image (next p) w.outcome ≡ false) is quiet)
   where
-    by : (n : Next) → IsSameNext p n → process_at (step_by program_of s pid p n).after pid ≡ Some q → begins_image n (step_by program_of s pid p n).outcome ≡ false → MayDoNoMore p q
-    by (inside r) same left none = let now : Some r ≡ Some q = sym (process_at-same s pid r) ∙ left in let eq : r ≡ q = cc now in subst (MayDoNoMore p) eq (no_more-of_same p r same.0)
+    by : (n : Next) → IsSameNext p n → process_at (step_by program_of s pid p n).after pid ≡ Some q → begins_image n (step_by program_of s pid p n).outcome ≡ false → HasNoMoreRights p q
+    by (inside r) same left none = let now : Some r ≡ Some q = sym (process_at-same s pid r) ∙ left in let eq : r ≡ q = cc now in subst (HasNoMoreRights p) eq (no_more-of_same p r same.0)
     by (calls_for call) same left none = (preserved program_of s pid order p at call q left none).0
 
 -- a call other than unveil leaves the table and the lock unchanged
@@ -44,16 +44,16 @@ tables-stay program_of s pid p q order at there quiet others =
     by (calls_for call) which same left none = (preserved program_of s pid order p at call q left none).1 (others call which)
 
 pub others-keep : (program_of : Bytes → Option Program) (s : State) (pid other : ℕ) (p : Process) → IsInOrder s → other ≢ pid → process_at s other ≡ Some p
-    → (q : Process) × (process_at (step program_of s pid).after other ≡ Some q) × IsLeftAlone p q
+    → (q : Process) × (process_at (step program_of s pid).after other ≡ Some q) × IsUnchangedExceptParent p q
 others-keep program_of s pid other p order apart there = of (process_at s pid) refl
   where
-    by : (me : Process) → process_at s pid ≡ Some me → (n : Next) → (q : Process) × (process_at (step_by program_of s pid me n).after other ≡ Some q) × IsLeftAlone p q
+    by : (me : Process) → process_at s pid ≡ Some me → (n : Next) → (q : Process) × (process_at (step_by program_of s pid me n).after other ≡ Some q) × IsUnchangedExceptParent p q
     by me at (inside r) = (p, process_at-other s pid r other apart ∙ there, alone-itself p)
     by me at (calls_for call) = other-preserved program_of s pid order me at call other p apart there
 
-    of : (o : Option Process) → process_at s pid ≡ o → (q : Process) × (process_at (step program_of s pid).after other ≡ Some q) × IsLeftAlone p q
+    of : (o : Option Process) → process_at s pid ≡ o → (q : Process) × (process_at (step program_of s pid).after other ≡ Some q) × IsUnchangedExceptParent p q
     of None none = (p, ap (λ (w : Stepped). process_at w.after other) (step-gone program_of s pid none) ∙ there, alone-itself p)
-    of (Some me) at = subst (λ (w : Stepped). (q : Process) × (process_at w.after other ≡ Some q) × IsLeftAlone p q) (sym (step-is program_of s pid me at)) (by me at (next me))
+    of (Some me) at = subst (λ (w : Stepped). (q : Process) × (process_at w.after other ≡ Some q) × IsUnchangedExceptParent p q) (sym (step-is program_of s pid me at)) (by me at (next me))
 
 -- a step that makes a call
 step-calls : (program_of : Bytes → Option Program) (s : State) (pid : ℕ) (p : Process) (call : Call) → process_at s pid ≡ Some p → next p ≡ calls_for call
@@ -71,9 +71,9 @@ module _ (before x : State) (pid : ℕ) (now : Process) where
 
   -- the child is live under its number, even if that is the parent's own
   abbrev HasChild : ℕ → Answered → Type 0
-  HasChild n a = a.outcome ≡ Value n → (c : Process) × (process_at a.after n ≡ Some c) × HasTheSame now c
+  HasChild n a = a.outcome ≡ Value n → (c : Process) × (process_at a.after n ≡ Some c) × HasSameRights now c
 
-  born : (f : Process → Process) → ((p : Process) → HasTheSame p (f p)) → (c : Process) × (process_at (collect (update forked pid f)) number ≡ Some c) × HasTheSame now c
+  born : (f : Process → Process) → ((p : Process) → HasSameRights p (f p)) → (c : Process) × (process_at (collect (update forked pid f)) number ≡ Some c) × HasSameRights now c
   born f same =
       let there : process_at forked number ≡ Some (child x pid now) = process_at-same x number (child x pid now) in
       ⊎_elim
@@ -101,18 +101,18 @@ module _ (before x : State) (pid : ℕ) (now : Process) where
           (c.0, ap (process_at (collect (update forked pid (λ p. with_result p (pos number) 0)))) (sym same) ∙ c.1, c.2)
 
 pub child-same : (program_of : Bytes → Option Program) (s : State) (pid n : ℕ) (p : Process) → process_at s pid ≡ Some p → next p ≡ calls_for Fork → (step program_of s pid).outcome ≡ Value n
-    → (c : Process) × (process_at (step program_of s pid).after n ≡ Some c) × HasTheSame p c
+    → (c : Process) × (process_at (step program_of s pid).after n ≡ Some c) × HasSameRights p c
 unfolding effect
 child-same program_of s pid n p at is answered =
     let by_call = step-calls program_of s pid p Fork at is in
-    subst (λ (w : Stepped). (c : Process) × (process_at w.after n ≡ Some c) × HasTheSame p c) (sym by_call) (forks (subst (λ (w : Stepped). w.outcome ≡ Value n) by_call answered))
+    subst (λ (w : Stepped). (c : Process) × (process_at w.after n ≡ Some c) × HasSameRights p c) (sym by_call) (forks (subst (λ (w : Stepped). w.outcome ≡ Value n) by_call answered))
   where
-    since : (me c : Process) → me ≡ p → HasTheSame (at_next_line me) c → HasTheSame p c
-    since me c same has = subst (λ (y : Process). HasTheSame y c) same (record { promises = has.promises; execpromises = has.execpromises; table = has.table; locked = has.locked; descriptors = has.descriptors })
+    since : (me c : Process) → me ≡ p → HasSameRights (at_next_line me) c → HasSameRights p c
+    since me c same has = subst (λ (y : Process). HasSameRights y c) same (record { promises = has.promises; execpromises = has.execpromises; table = has.table; locked = has.locked; descriptors = has.descriptors })
 
-    forks : (answer program_of s pid Fork).outcome ≡ Value n → (c : Process) × (process_at (answer program_of s pid Fork).after n ≡ Some c) × HasTheSame p c
+    forks : (answer program_of s pid Fork).outcome ≡ Value n → (c : Process) × (process_at (answer program_of s pid Fork).after n ≡ Some c) × HasSameRights p c
     forks =
-        by_answer (λ a. a.outcome ≡ Value n → (c : Process) × (process_at a.after n ≡ Some c) × HasTheSame p c) program_of s pid Fork
+        by_answer (λ a. a.outcome ≡ Value n → (c : Process) × (process_at a.after n ≡ Some c) × HasSameRights p c) program_of s pid Fork
         (λ none. cc)
         (λ me found missing reported. let c = has_child s (at_call s pid me) pid (at_next_line me) n reported in (c.0, c.1, since me c.0 (cc) c.2))
         (λ me lacks found missing lenient reported. cc)
@@ -126,13 +126,13 @@ Executes s pid me (after, r) = (program : Program) × (after ≡ with_process s 
 
 pub executes : (program_of : Bytes → Option Program) (s : State) (pid : ℕ) (me : Process) (path : Bytes) → Leads (Executes s pid me) (execve s pid me program_of path)
 executes program_of s pid me path =
-    leads-place (Executes s pid me) s me me.directory Last path permission_x (CallRests.execve_1 s pid me program_of) (λ place found.
-    leads-demand (Executes s pid me) ENOENT (node_of place) (CallRests.execve_2 s pid me program_of) (λ n is.
-    leads-demand (Executes s pid me) EACCES (executable_bytes (node_at s.tree n)) (CallRests.execve_3 s pid me program_of) (λ bytes file.
-    leads-demand (Executes s pid me) ENOEXEC (program_of bytes) (CallRests.execve_4 s pid me) (λ program encoded. (program, refl, refl)))))
+    leads-place (Executes s pid me) s me me.directory Last path permission_x (CallRemainders.execve_1 s pid me program_of) (λ place found.
+    leads-demand (Executes s pid me) ENOENT (node_of place) (CallRemainders.execve_2 s pid me program_of) (λ n is.
+    leads-demand (Executes s pid me) EACCES (executable_bytes (node_at s.tree n)) (CallRemainders.execve_3 s pid me program_of) (λ bytes file.
+    leads-demand (Executes s pid me) ENOEXEC (program_of bytes) (CallRemainders.execve_4 s pid me) (λ program encoded. (program, refl, refl)))))
 
 -- the restraints after an execve
-executed : (s : State) (pid : ℕ) (me q : Process) (program : Program) → HasTheSame (with_program s pid me program) q → HasExecuted me q
+executed : (s : State) (pid : ℕ) (me q : Process) (program : Program) → HasSameRights (with_program s pid me program) q → HasExecuted me q
 executed s pid me q program same = record {
   promises = same.promises;
   execpromises = same.execpromises;
@@ -149,7 +149,7 @@ executed s pid me q program same = record {
 abbrev Executed : Process → ℕ → ℕ → Answered → Type 0
 Executed p pid n a = a.outcome ≡ Value n → (n ≡ 0) × ((q : Process) × (process_at a.after pid ≡ Some q) × HasExecuted p q)
 
-executed-attempt : (s x : State) (pid n : ℕ) (me now : Process) → HasTheSame me now → (a : Attempt Effect) → Leads (Executes x pid now) a → Executed me pid n (answer_by_attempt s x pid now a)
+executed-attempt : (s x : State) (pid n : ℕ) (me now : Process) → HasSameRights me now → (a : Attempt Effect) → Leads (Executes x pid now) a → Executed me pid n (answer_by_attempt s x pid now a)
 executed-attempt s x pid n me now same (done walks (after, returns m)) does reported =
     let value : m ≡ n = cc reported in
     let zero_reply : returns m ≡ returns 0 = does.2 in
@@ -195,23 +195,23 @@ execve-leaves program_of s pid n p path at is answered =
 -- ---- runs
 
 pub runs-without : (program_of : Bytes → Option Program) → EncodesPrograms program_of → (s : State) (pid : ℕ) (pids : List ℕ) (p q : Process) → IsValid s → process_at s pid ≡ Some p
-    → StaysInImage program_of pid pids s → process_at (run program_of pids s).final pid ≡ Some q → MayDoNoMore p q
-runs-without program_of encodes s pid [] p q whole at stays there = let is : Some p ≡ Some q = sym at ∙ there in let same : p ≡ q = cc is in subst (MayDoNoMore p) same (no_more-same p p refl refl refl refl)
+    → StaysInImage program_of pid pids s → process_at (run program_of pids s).final pid ≡ Some q → HasNoMoreRights p q
+runs-without program_of encodes s pid [] p q whole at stays there = let is : Some p ≡ Some q = sym at ∙ there in let same : p ≡ q = cc is in subst (HasNoMoreRights p) same (no_more-same p p refl refl refl refl)
 runs-without program_of encodes s pid (k ∷ ks) p q whole at stays there =
     let live = lives (process_at (step program_of s k).after pid) refl stays.1 in
     no_more-along p live.0 q (first live.0 live.1)
-    (runs-without program_of encodes (step program_of s k).after pid ks live.0 q (step-keeps_whole program_of encodes s k whole) live.1 stays.2 there)
+    (runs-without program_of encodes (step program_of s k).after pid ks live.0 q (step-keeps_valid program_of encodes s k whole) live.1 stays.2 there)
   where
     lives : (o : Option Process) → process_at (step program_of s k).after pid ≡ o → is_some o ≡ true → (r : Process) × (process_at (step program_of s k).after pid ≡ Some r)
     lives None none is = cc
     lives (Some r) found is = (r, found)
 
-    first : (r : Process) → process_at (step program_of s k).after pid ≡ Some r → MayDoNoMore p r
+    first : (r : Process) → process_at (step program_of s k).after pid ≡ Some r → HasNoMoreRights p r
     first r found =
         ⊎_elim
-        (λ same. grows-never program_of s pid p r (whole-in_order s whole) at (ap (λ j. process_at (step program_of s j).after pid) (sym same) ∙ found) (stays.0 same p at))
+        (λ same. grows-never program_of s pid p r (valid-in_order s whole) at (ap (λ j. process_at (step program_of s j).after pid) (sym same) ∙ found) (stays.0 same p at))
         (λ other.
-        let preserved = others-keep program_of s k pid p (whole-in_order s whole) (λ same. other (sym same)) at in
+        let preserved = others-keep program_of s k pid p (valid-in_order s whole) (λ same. other (sym same)) at in
         let is : Some preserved.0 ≡ Some r = sym preserved.1 ∙ found in
-        let same : preserved.0 ≡ r = cc is in subst (MayDoNoMore p) same (no_more-of_same p preserved.0 (alone-same p preserved.0 preserved.2)))
+        let same : preserved.0 ≡ r = cc is in subst (HasNoMoreRights p) same (no_more-of_same p preserved.0 (alone-same p preserved.0 preserved.2)))
         (cases_eq k pid)

@@ -1,4 +1,4 @@
--- What a process cannot do without a promise.
+-- The limits of a process without a promise.
 use Rattle.std.proofs.Common.{◌≡◌, ◌≢◌, ◌⊎◌, inl, inr, ⊎_elim, ℕ, Bool, true, false, not, ◌||◌, if◌then◌else◌, List, [], ◌∷◌, ◌++◌, Option, None, Some, refl, ap, sym, subst, ◌∙◌}
 use Rattle.std.proofs.lemmas.Bool.{and_parts, cases_eq}
 use Rattle.pv_model.specs.declared.call.Call.{Call}
@@ -15,7 +15,7 @@ use Rattle.pv_laws_access.proofs.JustifiedGains.{gains-justified}
 
 -- ---- promises that are held
 
--- if all needs are met, so are those after the first
+-- if all needs are met, the needs after the first are met
 met-following : (o : Option Promises) (others more : List Need) → missing_promise o (others ++ more) ≡ None → missing_promise o more ≡ None
 met-following o [] more met = met
 met-following o ([] ∷ others) more met = met-following o others more met

@@ -9,9 +9,9 @@ use Rattle.pv_model.specs.declared.outcome.Outcome.TheVariants.{Failed, Killed}
 use Rattle.pv_model.specs.declared.promise.Promise.{Promise}
 use Rattle.pv_model.specs.Machine.{answer, answer_by_attempt, at_next_line, effect, Attempt, done, refused, after_walks, ◌>>=◌, give, demand, Bytes, asked_promises, unless_refused, pledge, Effect, returns, returns_bytes, ends, waits, answers, needs, Promises, narrow_promises, is_lenient, missing_promise, Program, Process, State, process_at, with_process}
 use Rattle.pv_model.specs.Promises.{read_promises, first_increase, unless_increase}
-use Rattle.pv_laws_states.proofs.Outcomes.{at_call, by_answer, answered-always}
-use Rattle.pv_laws_states.proofs.CallRests
-use Rattle.pv_laws_access.proofs.Ends.{not-killed}
+use Rattle.pv_laws_states.proofs.CallOutcomes.{at_call, by_answer, answered-always}
+use Rattle.pv_laws_states.proofs.CallRemainders
+use Rattle.pv_laws_access.proofs.ProcessesAfterEnds.{not-killed}
 use Rattle.pv_laws_access.specs.Promises.{IsFirstMissing, Asks, Increases, IncreasesNothing, IsIncrease, IsRefusedByPromise, missing, increase}
 use Rattle.pv_laws_access.proofs.FirstMissing.{first-missing-named, first-increase-named}
 use Rattle.pv_laws_access.proofs.PledgeRefusals.{is_pledge, not-by-promise}
@@ -104,7 +104,7 @@ module _ (me : Process) (promises execpromises : Option Bytes) (errno : Errno) (
           let more = increased lenient now.execpromises exec_asked a (narrows ∙ ap Err named) in
           reported more.0 (inr (none more.0, more.1)) (sym error)
 
-      first : (r : Result (Option Promises) Promise) → narrow_promises lenient now.promises asked ≡ r → Names (unless_refused r >>= CallRests.pledge_3 x pid now exec_asked) → Increase
+      first : (r : Result (Option Promises) Promise) → narrow_promises lenient now.promises asked ≡ r → Names (unless_refused r >>= CallRemainders.pledge_3 x pid now exec_asked) → Increase
       first (Ok preserved) narrows is =
           second preserved (λ strict. no-increase now.promises asked preserved (ap (λ b. narrow_promises b now.promises asked) (sym strict) ∙ narrows)) (narrow_promises lenient now.execpromises exec_asked) refl
           (sym (outcome-after before x pid now 0 (unless_refused (narrow_promises lenient now.execpromises exec_asked) >>= last preserved)) ∙ is)
@@ -116,13 +116,13 @@ module _ (me : Process) (promises execpromises : Option Bytes) (errno : Errno) (
 
     -- the attempt of a pledge whose arguments are valid
     abbrev course : Option Promises → Option Promises → Attempt Effect
-    course asked exec_asked = unless_refused (narrow_promises lenient now.promises asked) >>= CallRests.pledge_3 x pid now exec_asked
+    course asked exec_asked = unless_refused (narrow_promises lenient now.promises asked) >>= CallRemainders.pledge_3 x pid now exec_asked
 
     outcome-is : (asked exec_asked : Option Promises) → Asks promises asked → Asks execpromises exec_asked
         → (answer_by_attempt before x pid now (pledge x pid now promises execpromises)).outcome ≡ (answer_by_attempt before x pid now (course asked exec_asked)).outcome
     outcome-is asked exec_asked asks exec_asks =
-        ap (λ p. (answer_by_attempt before x pid now (p >>= CallRests.pledge_1 x pid now execpromises)).outcome) (asked-is promises asked asks)
-        ∙ ap (λ p. (answer_by_attempt before x pid now (after_walks 0 (p >>= CallRests.pledge_2 x pid now asked))).outcome) (asked-is execpromises exec_asked exec_asks)
+        ap (λ p. (answer_by_attempt before x pid now (p >>= CallRemainders.pledge_1 x pid now execpromises)).outcome) (asked-is promises asked asks)
+        ∙ ap (λ p. (answer_by_attempt before x pid now (after_walks 0 (p >>= CallRemainders.pledge_2 x pid now asked))).outcome) (asked-is execpromises exec_asked exec_asks)
         ∙ outcome-after before x pid now 0 (after_walks 0 (course asked exec_asked))
         ∙ outcome-after before x pid now 0 (course asked exec_asked)
 
@@ -135,13 +135,13 @@ module _ (me : Process) (promises execpromises : Option Bytes) (errno : Errno) (
         first some.0 exec_some.0 some.1 exec_some.1 (narrow_promises lenient now.promises some.0) refl (sym (outcome-is some.0 exec_some.0 some.1 exec_some.1) ∙ is))
         (λ (bad : asked_promises execpromises ≡ refused 0 EINVAL Plain).
         let plain : (answer_by_attempt before x pid now (pledge x pid now promises execpromises)).outcome ≡ Failed EINVAL Plain =
-        ap (λ p. (answer_by_attempt before x pid now (p >>= CallRests.pledge_1 x pid now execpromises)).outcome) (asked-is promises some.0 some.1)
-        ∙ ap (λ p. (answer_by_attempt before x pid now (after_walks 0 (p >>= CallRests.pledge_2 x pid now some.0))).outcome) bad in
+        ap (λ p. (answer_by_attempt before x pid now (p >>= CallRemainders.pledge_1 x pid now execpromises)).outcome) (asked-is promises some.0 some.1)
+        ∙ ap (λ p. (answer_by_attempt before x pid now (after_walks 0 (p >>= CallRemainders.pledge_2 x pid now some.0))).outcome) bad in
         let both : Failed EINVAL Plain ≡ Failed errno (ByPromise a) = sym plain ∙ is in absurd (cc both))
         (asks-or execpromises))
         (λ (bad : asked_promises promises ≡ refused 0 EINVAL Plain).
         let plain : (answer_by_attempt before x pid now (pledge x pid now promises execpromises)).outcome ≡ Failed EINVAL Plain =
-        ap (λ p. (answer_by_attempt before x pid now (p >>= CallRests.pledge_1 x pid now execpromises)).outcome) bad in
+        ap (λ p. (answer_by_attempt before x pid now (p >>= CallRemainders.pledge_1 x pid now execpromises)).outcome) bad in
         let both : Failed EINVAL Plain ≡ Failed errno (ByPromise a) = sym plain ∙ is in absurd (cc both))
         (asks-or promises)
 
@@ -152,7 +152,7 @@ module _ (before x : State) (pid : ℕ) (now : Process) (a : Promise) (promises 
   reported-by attempt = (answer_by_attempt before x pid now attempt).outcome ≡ Failed EPERM (ByPromise a)
 
   abbrev by_narrowing : Result (Option Promises) Promise → Attempt Effect
-  by_narrowing r = unless_refused r >>= CallRests.pledge_3 x pid now exec_asked
+  by_narrowing r = unless_refused r >>= CallRemainders.pledge_3 x pid now exec_asked
 
   abbrev then_narrowing : Option Promises → Result (Option Promises) Promise → Attempt Effect
   then_narrowing preserved r = unless_refused r >>= (λ exec_preserved. answers (with_process x pid (record now { promises = preserved; execpromises = exec_preserved })) 0)

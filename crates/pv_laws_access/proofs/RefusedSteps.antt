@@ -9,9 +9,9 @@ use Rattle.pv_model.specs.declared.outcome.Outcome.TheVariants.{Failed, Killed}
 use Rattle.pv_model.specs.declared.promise.Promise.{Promise}
 use Rattle.pv_model.specs.Machine.{answer, answer_by_attempt, at_next_line, effect, Attempt, done, refused, after_walks, ◌>>=◌, demand, Bytes, asked_promises, unless_refused, pledge, Effect, returns, returns_bytes, ends, waits, needs, Next, inside, calls_for, next, Promises, narrow_promises, is_lenient, missing_promise, Program, Process, State, process_at, Stepped, step, step_by}
 use Rattle.pv_model.specs.Promises.{read_promises}
-use Rattle.pv_laws_states.proofs.Outcomes.{at_call, by_answer}
-use Rattle.pv_laws_access.proofs.Ends.{step-is, not-killed}
-use Rattle.pv_laws_access.specs.Lacking.{MissingDecides}
+use Rattle.pv_laws_states.proofs.CallOutcomes.{at_call, by_answer}
+use Rattle.pv_laws_access.proofs.ProcessesAfterEnds.{step-is, not-killed}
+use Rattle.pv_laws_access.specs.Lacking.{MissingPromiseDecides}
 
 module _ (program_of : Bytes → Option Program) (s : State) (pid : ℕ) (p : Process) (at : process_at s pid ≡ Some p) where
   one : (me : Process) → process_at s pid ≡ Some me → me ≡ p
@@ -51,7 +51,7 @@ module _ (program_of : Bytes → Option Program) (s : State) (pid : ℕ) (p : Pr
   by-call : (call : Call) → next p ≡ calls_for call → (step program_of s pid).outcome ≡ (answer program_of s pid call).outcome
   by-call call is = ap (λ (w : Stepped). w.outcome) (step-is program_of s pid p at ∙ ap (step_by program_of s pid p) is)
 
-  pub missing-decides : (call : Call) → next p ≡ calls_for call → MissingDecides program_of s pid p call
+  pub missing-decides : (call : Call) → next p ≡ calls_for call → MissingPromiseDecides program_of s pid p call
   missing-decides call is = record {
     reported = λ a lacks lenient. by-call call is ∙ missing-reported call a lacks lenient;
     killed = λ a lacks strict. by-call call is ∙ missing-kills call a lacks strict;

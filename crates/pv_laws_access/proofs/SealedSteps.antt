@@ -11,33 +11,33 @@ use Rattle.pv_model.specs.declared.perms.Perms.{Perms}
 use Rattle.pv_model.specs.declared.promise.Promise.{Promise}
 use Rattle.pv_model.specs.declared.promise.Promise.TheVariants.{Rpath, Wpath, Cpath, Exec as ExecPromise}
 use Rattle.pv_model.specs.Machine.{at_next_line, update, Bytes, is_empty, with_content_of, with_content, end_process, Reply, among, collect, live_processes, needs, keep_if, Promises, contains, missing_promise, is_file, leaks, Program, Process, ProcessRecord, live, ended_record, State, reads, writes, process_at, step, file_bytes, Node, directory_node, file_node, link_node, Tree, node_at, entries_of, is_directory_at, find_entry, without_entry, with_new_node, names_of, Table}
-use Rattle.pv_model.specs.Closed.{Lacks, HasOn, GivesName, GivesAbove, opens_or_moves, IsHeldOverExec, IsPledgedShut, IsUnveiledShut, IsClosed, IsPledgedFrom, IsUnveiledFrom, IsFrozenTo}
+use Rattle.pv_model.specs.Closed.{Lacks, HasOn, GivesName, GivesAbove, opens_or_moves, IsHeldOverExec, IsClosedByPledge, IsClosedByTable, IsClosed, IsFixedByPledge, IsFixedByTable, IsFrozenTo}
 use Rattle.pv_model.specs.Sealed.{is_frozen_to, is_sealed, is_frozen}
 use Rattle.pv_laws_trees.specs.Preserved.{numbers_wanted}
 use Rattle.pv_laws_states.specs.States.{EncodesPrograms, is_call, IsTree, IsValid}
-use Rattle.pv_laws_trees.proofs.Changes.{node_at-same, node_at-other}
-use Rattle.pv_laws_trees.proofs.Numbered.{at_number-below, at_number-keep}
+use Rattle.pv_laws_trees.proofs.TreeChanges.{node_at-same, node_at-other}
+use Rattle.pv_laws_trees.proofs.NumberedMaps.{at_number-below, at_number-keep}
 use Rattle.pv_laws_trees.proofs.Trees.{ordered, sound}
-use Rattle.pv_laws_states.proofs.ByTree.{named-place}
-use Rattle.pv_laws_states.proofs.BySteps.{step-keeps_whole}
+use Rattle.pv_laws_states.proofs.ValidByTree.{named-place}
+use Rattle.pv_laws_states.proofs.ValidBySteps.{step-keeps_valid}
 use Rattle.pv_laws_states.proofs.ValidEnds.{tree-end}
-use Rattle.pv_laws_states.proofs.Members.{live-found, found-live, find_number_after}
-use Rattle.pv_laws_states.proofs.Outcomes.{at_call}
+use Rattle.pv_laws_states.proofs.ReferenceMembers.{live-found, found-live, find_number_after}
+use Rattle.pv_laws_states.proofs.CallOutcomes.{at_call}
 use Rattle.pv_laws_states.proofs.Processes.{number-itself, process_at-same, tree-update}
-use Rattle.pv_laws_states.proofs.Replies.{whole-at_call}
-use Rattle.pv_laws_states.proofs.Collect.{held_after, tree-collect}
-use Rattle.pv_laws_access.specs.Growth.{MayDoNoMore, HasExecuted, GainsNone}
-use Rattle.pv_laws_access.proofs.ChangedTrees.{file-beside, new-within, file-new}
+use Rattle.pv_laws_states.proofs.ValidReplies.{valid-at_call}
+use Rattle.pv_laws_states.proofs.CollectedStates.{held_after, tree-collect}
+use Rattle.pv_laws_access.specs.Growth.{HasNoMoreRights, HasExecuted, GainsNone}
+use Rattle.pv_laws_access.proofs.ChangedTrees.{file-other, new-within, file-new}
 use Rattle.pv_laws_access.proofs.ClosedProcesses.{live-passes, lacking, frozen-not_changed}
 use Rattle.pv_laws_access.proofs.CallEffects
 use Rattle.pv_laws_access.proofs.JustifiedChanges.{fine-name, many, between-directory}
 use Rattle.pv_laws_access.proofs.JustifiedGains.{Opens}
-use Rattle.pv_laws_trees.proofs.Members.{In, entry-in, in-entry}
+use Rattle.pv_laws_trees.proofs.ListMembers.{In, entry-in, in-entry}
 use Rattle.pv_laws_access.proofs.TouchingCalls.{touched}
 use Rattle.pv_laws_access.proofs.Verdicts.{leaks-closed, frozen-tested}
-use Rattle.pv_laws_access.specs.Sealing.{IsSealedFile, IsFrozenFile, IsLeftFrozen}
+use Rattle.pv_laws_access.specs.Sealing.{IsSealedFile, IsFrozenFile, StaysFrozen}
 use Rattle.pv_laws_access.proofs.Confinement.{KeepsInPlace, closed-keeps, no-reader, no-writer, name-stays, above-stays, name-was}
-use Rattle.pv_laws_access.proofs.Provenance.{IsCalled, IsExecve, IsHeir, heirs}
+use Rattle.pv_laws_access.proofs.ProcessOrigins.{IsCalled, IsExecve, IsHeir, heirs}
 use Rattle.pv_laws_access.proofs.GoverningEntries.{gave-name, gave-above}
 
 -- ---- a file stays a file
@@ -78,13 +78,13 @@ module _ (s : State) (pid : ℕ) (me : Process) (call : Call) (whole : IsValid s
   still-by _ _ (CallEffects.writes_bytes g bytes k old new m own was node mode named) tree = file-content s.tree g bytes f file
   still-by _ _ (CallEffects.makes place p node change free bare) tree =
       still-new p node (with_new_node s.tree p.0 p.1 node) refl tree (fine-name s pid me call whole at is_good place p change).directory bare
-  still-by _ _ (CallEffects.links place p old n change allowed is fine) tree = ap is_file (file-beside s.tree p.0 _ f (fine-name s pid me call whole at is_good place p change).directory file) ∙ file
-  still-by _ _ (CallEffects.unlinks place p change) tree = ap is_file (file-beside s.tree p.0 _ f (fine-name s pid me call whole at is_good place p change).directory file) ∙ file
+  still-by _ _ (CallEffects.links place p old n change allowed is fine) tree = ap is_file (file-other s.tree p.0 _ f (fine-name s pid me call whole at is_good place p change).directory file) ∙ file
+  still-by _ _ (CallEffects.unlinks place p change) tree = ap is_file (file-other s.tree p.0 _ f (fine-name s pid me call whole at is_good place p change).directory file) ∙ file
   still-by _ _ (CallEffects.renames place p next q n from into is) tree =
       let dir = (fine-name s pid me call whole at is_good place p from).directory in
-      let first : is_file (node_at (without_entry s.tree p.0 p.1) f) ≡ true = ap is_file (file-beside s.tree p.0 _ f dir file) ∙ file in
+      let first : is_file (node_at (without_entry s.tree p.0 p.1) f) ≡ true = ap is_file (file-other s.tree p.0 _ f dir file) ∙ file in
       let into_dir = between-directory s pid me call whole at is_good p dir q.0 (fine-name s pid me call whole at is_good next q into).directory in
-      ap is_file (file-beside (without_entry s.tree p.0 p.1) q.0 _ f into_dir first) ∙ first
+      ap is_file (file-other (without_entry s.tree p.0 p.1) q.0 _ f into_dir first) ∙ first
   still-by _ _ (CallEffects.opens flags place n m flagged allowed is fine written) tree = by flags.truncate
     where
       by : (b : Bool) → IsStill (if b then with_content s.tree n [] else s.tree)
@@ -123,7 +123,7 @@ file-stays program_of s pid f whole file there = by (is_file (node_at (step prog
         let same : node_at (collect (update t.after pid t.reported)).tree f ≡ node_at t.after.tree f =
         collect-there (update t.after pid t.reported) f t.touch.0 ∙ ap (λ (u : Tree). node_at u f) (tree-update t.after pid t.reported) in
         let still =
-        still-by (at_call s pid t.me) pid (at_next_line t.me) t.call (whole-at_call s pid t.me whole t.at) (process_at-same s pid (at_next_line t.me)) t.is f file t.after t.reply t.does t.tree in
+        still-by (at_call s pid t.me) pid (at_next_line t.me) t.call (valid-at_call s pid t.me whole t.at) (process_at-same s pid (at_next_line t.me)) t.is f file t.after t.reply t.does t.tree in
         let no : is_file (node_at t.after.tree f) ≡ false = ap is_file (sym same) ∙ t.touch.1 in
         let bad : true ≡ false = sym still ∙ no in cc bad
 
@@ -148,7 +148,7 @@ some-no_more None u gains is = cc is
 some-no_more (Some held) None gains is = absurd gains
 some-no_more (Some held) (Some preserved) gains is = refl
 
-pub held-no_more : (p q : Process) → MayDoNoMore p q → IsHeldOverExec p → IsHeldOverExec q
+pub held-no_more : (p q : Process) → HasNoMoreRights p q → IsHeldOverExec p → IsHeldOverExec q
 held-no_more p q no_more held =
     ⊎_elim (λ l. inl (lacks-no_more p q ExecPromise no_more.promises l)) (λ set. inr (some-no_more p.execpromises q.execpromises no_more.execpromises set)) held
 
@@ -188,7 +188,7 @@ opened s f test q d on = record { number = d; descriptor = on.0; file = on.1; th
 pub had : (s : State) (f : ℕ) (test : Mode → Bool) (p : Process) (mode : Mode) → test mode ≡ true → Opens s.files p.descriptors f mode → (d : ℕ) × HasOn s p f test d
 had s f test p mode passes o = (o.number, (o.descriptor, o.file, o.there, o.opened, o.node, ap test o.mode_is ∙ passes))
 
--- what comes from a process that neither has nor gets a descriptor for writing the file has none
+-- a process derived from one that neither has nor gets a descriptor for writing the file has none
 pub unwritten-heir : (s after : State) (pid : ℕ) (whole : IsValid s) (f : ℕ) → is_file (node_at s.tree f) ≡ true → (k : ℕ) (q : Process) → (h : IsHeir s after pid k q) → IsFrozenTo s h.p f
     → (d : ℕ) → ¬ HasOn after q f writes d
 unwritten-heir s after pid whole f file k q h before d on =
@@ -201,7 +201,7 @@ module _ (program_of : Bytes → Option Program) (encodes : EncodesPrograms prog
   after = (step program_of s pid).after
 
   whole' : IsValid after
-  whole' = step-keeps_whole program_of encodes s pid whole
+  whole' = step-keeps_valid program_of encodes s pid whole
 
   pub gave_name : (p q : Process) (table : Table) (test : Perms → Bool) (k : ℕ)
       → GivesName after q f table test k → GivesName s p f table test k
@@ -214,7 +214,7 @@ module _ (program_of : Bytes → Option Program) (encodes : EncodesPrograms prog
       gave-above s.tree after.tree whole.tree.well_formed whole'.tree.well_formed f (name-stays program_of s pid whole f file keeps) (above-stays program_of s pid whole f file keeps)
       (name-was program_of s pid whole f file keeps) s after p q table k refl refl
 
-  unveiled-shut : (p q : Process) (table : Table) → IsUnveiledShut s p f table → q.table ≡ p.table → q.locked ≡ true → IsHeldOverExec q → IsUnveiledShut after q f table
+  unveiled-shut : (p q : Process) (table : Table) → IsClosedByTable s p f table → q.table ≡ p.table → q.locked ≡ true → IsHeldOverExec q → IsClosedByTable after q f table
   unveiled-shut p q table u same locked held = record {
     in_force = same ∙ u.in_force;
     locked = locked;
@@ -223,16 +223,16 @@ module _ (program_of : Bytes → Option Program) (encodes : EncodesPrograms prog
     over_exec = held;
   }
 
-  unveiled-from : (p q : Process) (table : Table) → IsUnveiledFrom s p f table → q.table ≡ p.table → q.locked ≡ true → IsHeldOverExec q → IsUnveiledFrom after q f table
+  unveiled-from : (p q : Process) (table : Table) → IsFixedByTable s p f table → q.table ≡ p.table → q.locked ≡ true → IsHeldOverExec q → IsFixedByTable after q f table
   unveiled-from p q table u same locked held = record { in_force = same ∙ u.in_force; locked = locked; names = λ k gives. u.names k (gave_name p q table (λ permissions. permissions.w) k gives); over_exec = held }
 
-  -- a table that is kept is what it was
-  pub unveiled-heir : (p q : Process) (table : Table) → (MayDoNoMore p q ⊎ IsCalled s pid p (IsExecve p q)) → IsUnveiledFrom s p f table → IsUnveiledFrom after q f table
+  -- a table that is kept is unchanged
+  pub unveiled-heir : (p q : Process) (table : Table) → (HasNoMoreRights p q ⊎ IsCalled s pid p (IsExecve p q)) → IsFixedByTable s p f table → IsFixedByTable after q f table
   unveiled-heir p q table how u =
       ⊎_elim (λ no_more. unveiled-from p q table u (no_more.closed u.locked) (no_more.lock u.locked) (held-no_more p q no_more u.over_exec))
       (λ e. let c = carried s pid p q e u.over_exec in unveiled-from p q table u c.table (c.locked ∙ u.locked) c.held) how
 
-  -- what comes from a closed process is closed
+  -- a process derived from a closed process is closed
   pub closed-heir : (k : ℕ) (q : Process) → (h : IsHeir s after pid k q) → IsClosed s h.p f → IsClosed after q f
   closed-heir k q h before = record {
     descriptors = λ d on.
@@ -241,7 +241,7 @@ module _ (program_of : Bytes → Option Program) (encodes : EncodesPrograms prog
     restraints = by h.p before h.restraints;
   }
     where
-      by : (p : Process) → IsClosed s p f → (MayDoNoMore p q ⊎ IsCalled s pid p (IsExecve p q)) → IsPledgedShut after q f ⊎ ((table : Table) × IsUnveiledShut after q f table)
+      by : (p : Process) → IsClosed s p f → (HasNoMoreRights p q ⊎ IsCalled s pid p (IsExecve p q)) → IsClosedByPledge after q f ⊎ ((table : Table) × IsClosedByTable after q f table)
       by p before how =
           ⊎_elim
           (λ pledged. ⊎_elim
@@ -266,7 +266,7 @@ module _ (program_of : Bytes → Option Program) (encodes : EncodesPrograms prog
         restraints = by h.p before h.restraints;
       }
     where
-      by : (p : Process) → IsFrozenTo s p f → (MayDoNoMore p q ⊎ IsCalled s pid p (IsExecve p q)) → IsPledgedFrom after q f ⊎ ((table : Table) × IsUnveiledFrom after q f table)
+      by : (p : Process) → IsFrozenTo s p f → (HasNoMoreRights p q ⊎ IsCalled s pid p (IsExecve p q)) → IsFixedByPledge after q f ⊎ ((table : Table) × IsFixedByTable after q f table)
       by p before how =
           ⊎_elim
           (λ pledged. ⊎_elim
@@ -342,7 +342,7 @@ module _ (s : State) (whole : IsValid s) (f : ℕ) where
 pub sealed-stays : (program_of : Bytes → Option Program) → EncodesPrograms program_of → (s : State) (pid : ℕ) (f : ℕ) → IsValid s → IsSealedFile s f → IsSealedFile (step program_of s pid).after f
 sealed-stays program_of encodes s pid f whole is =
     let shut = sealed-all s whole f is.sealed in
-    let whole' = step-keeps_whole program_of encodes s pid whole in
+    let whole' = step-keeps_valid program_of encodes s pid whole in
     let named = sealed-named s whole f is.sealed in
     let left = name-stays program_of s pid whole f is.file (all-keep program_of encodes s pid whole f is.file shut) named.0 named.1 named.2 in
     record {
@@ -351,16 +351,16 @@ sealed-stays program_of encodes s pid f whole is =
     }
 
 same-bytes : (a b : Bytes) → (a ≡ b) ⊎ (a ≢ b)
-same-bytes = Rattle.pv_laws_trees.proofs.Changes.cases_name
+same-bytes = Rattle.pv_laws_trees.proofs.TreeChanges.cases_name
 
-pub frozen-stays : (program_of : Bytes → Option Program) → EncodesPrograms program_of → (s : State) (pid : ℕ) (f : ℕ) → IsValid s → IsFrozenFile s f → IsLeftFrozen f s (step program_of s pid).after
+pub frozen-stays : (program_of : Bytes → Option Program) → EncodesPrograms program_of → (s : State) (pid : ℕ) (f : ℕ) → IsValid s → IsFrozenFile s f → StaysFrozen f s (step program_of s pid).after
 frozen-stays program_of encodes s pid f whole is =
     let sealed = (and_parts (is_sealed s f) _ is.frozen).0 in
     let left = sealed-stays program_of encodes s pid f whole (record { file = is.file; sealed = sealed }) in
     record {
       still = record {
         file = left.file;
-        frozen = all-frozen (step program_of s pid).after (step-keeps_whole program_of encodes s pid whole) f left.sealed
+        frozen = all-frozen (step program_of s pid).after (step-keeps_valid program_of encodes s pid whole) f left.sealed
             (frozen-following program_of encodes s pid whole f is.file (all-keep program_of encodes s pid whole f is.file (sealed-all s whole f sealed)) (frozen-all s whole f is.frozen));
       };
       bytes = ⊎_elim (λ same. same) (λ changes. absurd (frozen-not_changed program_of s pid f whole is.frozen (is.file, left.file, changes)))

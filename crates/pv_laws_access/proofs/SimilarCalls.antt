@@ -16,11 +16,11 @@ use Rattle.pv_model.specs.declared.perms.Perms.{Perms}
 use Rattle.pv_model.specs.declared.place.Place.{Place}
 use Rattle.pv_model.specs.Machine.{effect, Attempt, done, refused, after_walks, ◌>>=◌, ◌>>◌, give, refuse_if, demand, Bytes, within, next_name, seek_base, list_name, is_past_greatest, with_content_of, with_content, write_place, write_end, after_write, with_open_file, statuses, execve, with_program, executable_bytes, Effect, returns_bytes, answers, answers_bytes, with_room, node_of, descriptor_at, open_file, status, bytes_of, overwrite, resize, start_directory, end_of, collect, Numbered, at_number, with_number, least_free, is_too_long, fits, OpenFile, Program, Process, State, reads, writes, with_process, with_tree, place_found, read_by_descriptor, read_by_execve, Node, directory_node, file_node, link_node, Tree, node_at, entries_at, is_directory_at, with_node, with_entry, without_entry, new_number, with_new_node, judgement, Walk, execve_walk, walk, judge, without_descriptor, with_file}
 use Rattle.pv_model.specs.Touch.{change_by_descriptor, report_by_descriptor, report_by_place}
-use Rattle.pv_laws_trees.proofs.Entries.{by_name, is_other}
-use Rattle.pv_laws_states.proofs.CallRests
+use Rattle.pv_laws_trees.proofs.DirectoryEntries.{by_name, is_other}
+use Rattle.pv_laws_states.proofs.CallRemainders
 use Rattle.pv_laws_access.proofs.CallEffects.{first-place}
 use Rattle.pv_laws_access.specs.Justice.{ReadsBytes, asks_size}
-use Rattle.pv_laws_access.proofs.SimilarTrees.{GoesByLength, IsExact, IsFine, AreNear, near-at, near-beside, near-set, near-file, with_nodes, entries-near, directory-near, resolve-near, judgement-near, target-near, ancestors-near, status-near, long-near, new-near, near_state, IsNear, near-collect, fits-near, too_long-near}
+use Rattle.pv_laws_access.proofs.SimilarTrees.{GoesByLength, IsExact, IsFine, AreNear, near-at, near-other, near-set, near-file, with_nodes, entries-near, directory-near, resolve-near, judgement-near, target-near, ancestors-near, status-near, long-near, new-near, near_state, IsNear, near-collect, fits-near, too_long-near}
 use Rattle.pv_laws_states.proofs.RelatedAttempts.{KeptByAll, kept-by-checks, demanded, all-bind, all-then}
 use Rattle.pv_laws_states.proofs.RelatedCalls.{AreNodesAlike, AreOnSame, both-have, opened-same, RespectsFiles, Respects, call-both}
 use Rattle.pv_laws_states.proofs.RespectedParts.{walked-alike, twice-alike, pledge-both, unveil-both}
@@ -120,7 +120,7 @@ module _ (size : ℕ → ℕ) (fine : IsFine size) where
     near-content =
         ⊎_elim
         (λ here. ⊎_elim (λ same. as_same (sym same)) (λ files. as_files here files.0 files.1 files.2 files.3 files.4 files.5) (near-at size f t.nodes ys near g))
-        (λ other. as_same (near-beside size f t.nodes ys near g other)) (cases_eq g f)
+        (λ other. as_same (near-other size f t.nodes ys near g other)) (cases_eq g f)
 
   module _ (f : ℕ) (s : State) (ys : Numbered Node) (near : AreNear size f s.tree.nodes ys) (pid : ℕ) (me : Process) where
     abbrev u : State
@@ -157,7 +157,7 @@ module _ (size : ℕ → ℕ) (fine : IsFine size) where
         subst (λ k. AreNear size f (with_new_node s.tree p.0 p.1 node).nodes (with_entry (with_node u.tree k node) p.0 p.1 k).nodes) (sym (new-near size f s.tree ys near))
         (near-entry f (with_node s.tree m node) (with_number ys m node) (near-set size f s.tree.nodes ys m node near) p.0 p.1 m)
 
-    near-less : (p : ℕ × Bytes) → B (CallRests.less_3 s pid me p) (CallRests.less_3 u pid me p)
+    near-less : (p : ℕ × Bytes) → B (CallRemainders.less_3 s pid me p) (CallRemainders.less_3 u pid me p)
     near-less p = (refl, refl, record { nodes = near-without f s.tree ys near p.0 p.1; rest = refl })
 
     -- ---- descriptors
@@ -194,22 +194,22 @@ module _ (size : ℕ → ℕ) (fine : IsFine size) where
 
     -- ---- open
 
-    near-opened : (g : OpenFlags) (n : ℕ) (v w : Tree) → AreNear size f v.nodes w.nodes → w ≡ with_nodes v w.nodes → B (CallRests.open_7 s pid me (with_open_file s pid me g n v)) (CallRests.open_7 u pid me (with_open_file u pid me g n w))
+    near-opened : (g : OpenFlags) (n : ℕ) (v w : Tree) → AreNear size f v.nodes w.nodes → w ≡ with_nodes v w.nodes → B (CallRemainders.open_7 s pid me (with_open_file s pid me g n v)) (CallRemainders.open_7 u pid me (with_open_file u pid me g n w))
     near-opened g n v w is rest =
         near-room f (with_open_file s pid me g n v) (with_open_file u pid me g n w) (least_free me.descriptors)
         (record { nodes = is; rest = ap (λ (t : Tree). with_open_file s pid me g n t) rest })
 
     -- a file that an open truncates or not
     near-truncated : (g : OpenFlags) (n : ℕ) (b : Bool)
-        → B (CallRests.open_7 s pid me (with_open_file s pid me g n (if b then with_content s.tree n [] else s.tree))) (CallRests.open_7 u pid me (with_open_file u pid me g n (if b then with_content u.tree n [] else u.tree)))
+        → B (CallRemainders.open_7 s pid me (with_open_file s pid me g n (if b then with_content s.tree n [] else s.tree))) (CallRemainders.open_7 u pid me (with_open_file u pid me g n (if b then with_content u.tree n [] else u.tree)))
     near-truncated g n true = let both = near-content f s.tree ys near n (λ old. []) (λ here a b same. refl) in near-opened g n (with_content s.tree n []) (with_content u.tree n []) both.0 both.1
     near-truncated g n false = near-opened g n s.tree u.tree near refl
 
     near-created : (g : OpenFlags) (p : ℕ × Bytes)
-        → B (CallRests.open_7 s pid me (with_open_file s pid me g (new_number s.tree) (with_new_node s.tree p.0 p.1 (file_node false [])))) (CallRests.open_7 u pid me (with_open_file u pid me g (new_number u.tree) (with_new_node u.tree p.0 p.1 (file_node false []))))
+        → B (CallRemainders.open_7 s pid me (with_open_file s pid me g (new_number s.tree) (with_new_node s.tree p.0 p.1 (file_node false [])))) (CallRemainders.open_7 u pid me (with_open_file u pid me g (new_number u.tree) (with_new_node u.tree p.0 p.1 (file_node false []))))
     near-created g p =
         let node : Node = file_node false [] in
-        subst (λ k. B (CallRests.open_7 s pid me (with_open_file s pid me g (new_number s.tree) (with_new_node s.tree p.0 p.1 node))) (CallRests.open_7 u pid me (with_open_file u pid me g k (with_new_node u.tree p.0 p.1 node))))
+        subst (λ k. B (CallRemainders.open_7 s pid me (with_open_file s pid me g (new_number s.tree) (with_new_node s.tree p.0 p.1 node))) (CallRemainders.open_7 u pid me (with_open_file u pid me g k (with_new_node u.tree p.0 p.1 node))))
         (sym (new-near size f s.tree ys near)) (near-opened g (new_number s.tree) (with_new_node s.tree p.0 p.1 node) (with_new_node u.tree p.0 p.1 node) (near-new p node) refl)
 
     -- ---- the parts of a call, unless it reads the bytes of the file
@@ -240,53 +240,53 @@ module _ (size : ℕ → ℕ) (fine : IsFine size) where
       -- the program that execve reads is the same, unless the file has it
       executed : (path : Bytes) → call ≡ TheCall.Execve path → A (execve s pid me program_of path) (execve u pid me program_of path)
       executed path is =
-          walked (execve_walk path) (CallRests.execve_1 s pid me program_of) (CallRests.execve_1 u pid me program_of) (λ place found allowed.
-          demanded C (kept-by-checks A kept) [] ENOENT (node_of place) (node_of place) refl (CallRests.execve_2 s pid me program_of) (CallRests.execve_2 u pid me program_of) (λ n there.
+          walked (execve_walk path) (CallRemainders.execve_1 s pid me program_of) (CallRemainders.execve_1 u pid me program_of) (λ place found allowed.
+          demanded C (kept-by-checks A kept) [] ENOENT (node_of place) (node_of place) refl (CallRemainders.execve_2 s pid me program_of) (CallRemainders.execve_2 u pid me program_of) (λ n there.
           ⊎_elim
           (λ here. inl (subst (λ c. ReadsBytes s me c f) (sym is) (refl, read_by_execve path place f refl (first-place (λ (w : Walk). place_found (end_of s me w)) (execve_walk path) [] place (ap place_found found), allowed) (there ∙ ap (λ k. Some k) here))))
           (λ other.
-          all-bind A kept (demand EACCES (executable_bytes (node_at s.tree n))) (demand EACCES (executable_bytes (node_at u.tree n))) (ap (λ o. demand EACCES (executable_bytes o)) (near-beside size f s.tree.nodes ys near n other))
-          (CallRests.execve_3 s pid me program_of) (CallRests.execve_3 u pid me program_of) (λ bytes.
-          all-bind A kept (demand ENOEXEC (program_of bytes)) (demand ENOEXEC (program_of bytes)) refl (CallRests.execve_4 s pid me) (CallRests.execve_4 u pid me) (λ program. own (with_program s pid me program) 0)))
+          all-bind A kept (demand EACCES (executable_bytes (node_at s.tree n))) (demand EACCES (executable_bytes (node_at u.tree n))) (ap (λ o. demand EACCES (executable_bytes o)) (near-other size f s.tree.nodes ys near n other))
+          (CallRemainders.execve_3 s pid me program_of) (CallRemainders.execve_3 u pid me program_of) (λ bytes.
+          all-bind A kept (demand ENOEXEC (program_of bytes)) (demand ENOEXEC (program_of bytes)) refl (CallRemainders.execve_4 s pid me) (CallRemainders.execve_4 u pid me) (λ program. own (with_program s pid me program) 0)))
           (cases_eq n f)))
 
       -- the bytes that a read returns are the same, unless they are the file's
-      taken : (k : ℕ) (file : OpenFile) (count : ℕ) → node_at u.tree file.node ≡ node_at s.tree file.node → A (CallRests.read_3 s pid me k file count) (CallRests.read_3 u pid me k file count)
+      taken : (k : ℕ) (file : OpenFile) (count : ℕ) → node_at u.tree file.node ≡ node_at s.tree file.node → A (CallRemainders.read_3 s pid me k file count) (CallRemainders.read_3 u pid me k file count)
       taken k file count same =
-          subst (λ (bytes : Bytes). A (CallRests.read_3 s pid me k file count) (answers_bytes (with_file u k (record file { offset = file.offset + length bytes })) (length bytes) bytes))
+          subst (λ (bytes : Bytes). A (CallRemainders.read_3 s pid me k file count) (answers_bytes (with_file u k (record file { offset = file.offset + length bytes })) (length bytes) bytes))
           (ap (λ o. take count (drop file.offset (bytes_of o))) (sym same)) (inr (refl, refl, record { nodes = near; rest = refl }))
 
-      by-node : (d n : ℤ) → call ≡ TheCall.Read d n → (v : ℕ × OpenFile) → open_file s me d ≡ Some v → reads v.1.mode ≡ true → (count : ℕ) → A (CallRests.read_2 s pid me v.0 v.1 count) (CallRests.read_2 u pid me v.0 v.1 count)
+      by-node : (d n : ℤ) → call ≡ TheCall.Read d n → (v : ℕ × OpenFile) → open_file s me d ≡ Some v → reads v.1.mode ≡ true → (count : ℕ) → A (CallRemainders.read_2 s pid me v.0 v.1 count) (CallRemainders.read_2 u pid me v.0 v.1 count)
       by-node d n is v here may count =
           ⊎_elim
           (λ own. inl (subst (λ c. ReadsBytes s me c f) (sym is) (refl, read_by_descriptor f (d, v.0, v.1, refl, here, own, may))))
           (λ other.
-          all-then A kept (refuse_if EISDIR (is_directory_at s.tree v.1.node)) (refuse_if EISDIR (is_directory_at u.tree v.1.node)) (ap (refuse_if EISDIR) (dir-near v.1.node)) (CallRests.read_3 s pid me v.0 v.1 count) (CallRests.read_3 u pid me v.0 v.1 count)
-          (taken v.0 v.1 count (near-beside size f s.tree.nodes ys near v.1.node other)))
+          all-then A kept (refuse_if EISDIR (is_directory_at s.tree v.1.node)) (refuse_if EISDIR (is_directory_at u.tree v.1.node)) (ap (refuse_if EISDIR) (dir-near v.1.node)) (CallRemainders.read_3 s pid me v.0 v.1 count) (CallRemainders.read_3 u pid me v.0 v.1 count)
+          (taken v.0 v.1 count (near-other size f s.tree.nodes ys near v.1.node other)))
           (cases_eq v.1.node f)
 
       files : RespectsFiles C program_of s u pid me me call
       files = record {
         opened = λ d. both-have AreOnSame (open_file s me d) (λ v is. record { node = refl; mode = refl });
         full = refl;
-        reads = λ d n is v w opened may count. opened-same C program_of s u pid me me call (λ v w. A (CallRests.read_2 s pid me v.0 v.1 count) (CallRests.read_2 u pid me w.0 w.1 count)) d v w refl opened (by-node d n is v opened.here may count);
-        writes = λ d n is v w opened may count few. opened-same C program_of s u pid me me call (λ v w. A (CallRests.write_2 s pid me v.0 v.1 count) (CallRests.write_2 u pid me w.0 w.1 count)) d v w refl opened
+        reads = λ d n is v w opened may count. opened-same C program_of s u pid me me call (λ v w. A (CallRemainders.read_2 s pid me v.0 v.1 count) (CallRemainders.read_2 u pid me w.0 w.1 count)) d v w refl opened (by-node d n is v opened.here may count);
+        writes = λ d n is v w opened may count few. opened-same C program_of s u pid me me call (λ v w. A (CallRemainders.write_2 s pid me v.0 v.1 count) (CallRemainders.write_2 u pid me w.0 w.1 count)) d v w refl opened
             (let exact' : v.1.node ≡ f → IsExact size = λ here. exact-as (TheCall.Write d n) is (inr (refl, change_by_descriptor f (d, v.0, v.1, refl, opened.here, here, may))) in
             all-then A kept (refuse_if EFBIG (is_past_greatest s.tree (write_end s pid me v.1 count))) (refuse_if EFBIG (is_past_greatest u.tree (write_end u pid me v.1 count)))
-            (ap (λ k. refuse_if EFBIG (is_past_greatest s.tree k)) (end-near v.1 exact' count)) (CallRests.write_3 s pid me v.0 v.1 count) (CallRests.write_3 u pid me v.0 v.1 count)
+            (ap (λ k. refuse_if EFBIG (is_past_greatest s.tree k)) (end-near v.1 exact' count)) (CallRemainders.write_3 s pid me v.0 v.1 count) (CallRemainders.write_3 u pid me v.0 v.1 count)
             (inr (near-room f (after_write s pid me v.0 v.1 count) (after_write u pid me v.0 v.1 count) count (written-near v.0 v.1 exact' count))));
-        seeks = λ d by whence is v w opened. opened-same C program_of s u pid me me call (λ v w. A (CallRests.lseek_2 s pid me by whence v.0 v.1) (CallRests.lseek_2 u pid me by whence w.0 w.1)) d v w refl opened
+        seeks = λ d by whence is v w opened. opened-same C program_of s u pid me me call (λ v w. A (CallRemainders.lseek_2 s pid me by whence v.0 v.1) (CallRemainders.lseek_2 u pid me by whence w.0 w.1)) d v w refl opened
             (all-bind A kept (demand EINVAL (within 2147483647 (pos (seek_base s pid me v.1 whence) +ℤ by))) (demand EINVAL (within 2147483647 (pos (seek_base u pid me v.1 whence) +ℤ by)))
             (ap (λ n. demand EINVAL (within 2147483647 (pos n +ℤ by))) (seek-near d by v.1 whence (λ asks here. exact-as (TheCall.Lseek d by whence) is (inl (asks, report_by_descriptor f (d, v.0, v.1, refl, opened.here, here, refl))))))
-            (CallRests.lseek_3 s pid me v.0 v.1) (CallRests.lseek_3 u pid me v.0 v.1) (λ offset. inr (refl, refl, record { nodes = near; rest = refl })));
+            (CallRemainders.lseek_3 s pid me v.0 v.1) (CallRemainders.lseek_3 u pid me v.0 v.1) (λ offset. inr (refl, refl, record { nodes = near; rest = refl })));
         reports = λ d is v w opened. opened-same C program_of s u pid me me call (λ v w. A (answers_bytes s 0 (status s.tree v.1.node)) (answers_bytes u 0 (status u.tree w.1.node))) d v w refl opened
             (inr (reported v.1.node (λ here. exact-as (TheCall.Fstat d) is (inl (refl, report_by_descriptor f (d, v.0, v.1, refl, opened.here, here, refl))))));
-        cuts = λ d n is v w opened size'. opened-same C program_of s u pid me me call (λ v w. A (CallRests.ftruncate_3 s pid me v.1 size') (CallRests.ftruncate_3 u pid me w.1 size')) d v w refl opened
-            (all-then A kept (refuse_if EFBIG (is_past_greatest s.tree size')) (refuse_if EFBIG (is_past_greatest s.tree size')) refl (CallRests.ftruncate_4 s pid me v.1 size') (CallRests.ftruncate_4 u pid me v.1 size')
+        cuts = λ d n is v w opened size'. opened-same C program_of s u pid me me call (λ v w. A (CallRemainders.ftruncate_3 s pid me v.1 size') (CallRemainders.ftruncate_3 u pid me w.1 size')) d v w refl opened
+            (all-then A kept (refuse_if EFBIG (is_past_greatest s.tree size')) (refuse_if EFBIG (is_past_greatest s.tree size')) refl (CallRemainders.ftruncate_4 s pid me v.1 size') (CallRemainders.ftruncate_4 u pid me v.1 size')
             (let both = near-content f s.tree ys near v.1.node (λ old. resize old size') (λ here a b same. ap size (size-length b size' ∙ sym (size-length a size'))) in
             inr (near-tree (with_content s.tree v.1.node (resize (bytes_of (node_at s.tree v.1.node)) size')) (with_content u.tree v.1.node (resize (bytes_of (node_at u.tree v.1.node)) size')) 0 both.0 both.1)));
-        lists = λ d is v w opened. opened-same C program_of s u pid me me call (λ v w. A (CallRests.getdents_2 s pid me v.0 v.1) (CallRests.getdents_2 u pid me w.0 w.1)) d v w refl opened
-            (subst (λ (es : List (Bytes × ℕ)). A (CallRests.getdents_2 s pid me v.0 v.1) (list_name u pid me v.0 v.1 (next_name v.1.listed es))) (sym (entries-near size f s.tree ys near v.1.node))
+        lists = λ d is v w opened. opened-same C program_of s u pid me me call (λ v w. A (CallRemainders.getdents_2 s pid me v.0 v.1) (CallRemainders.getdents_2 u pid me w.0 w.1)) d v w refl opened
+            (subst (λ (es : List (Bytes × ℕ)). A (CallRemainders.getdents_2 s pid me v.0 v.1) (list_name u pid me v.0 v.1 (next_name v.1.listed es))) (sym (entries-near size f s.tree ys near v.1.node))
             (inr (listed v.0 v.1 (next_name v.1.listed (entries_at s.tree v.1.node)))));
       }
 

@@ -22,7 +22,7 @@ use Rattle.pv_model.specs.Tree.{ancestors_within}
 use Rattle.pv_model.specs.Unveil.{climb}
 use Rattle.pv_laws_access.specs.Justice.{AsksSize, ChangesBytes}
 use Rattle.pv_laws_trees.specs.Walk
-use Rattle.pv_laws_trees.proofs.Places.{parent-alike, resolve-alike}
+use Rattle.pv_laws_trees.proofs.WalkPlaces.{parent-alike, resolve-alike}
 
 abbrev pub with_nodes : Tree → Numbered Node → Tree
 with_nodes t ys = record t { nodes = ys }
@@ -117,14 +117,14 @@ module _ (size : ℕ → ℕ) where
   near-at (suc f) (x ∷ xs) (y ∷ ys) near zero = inl near.0
   near-at (suc f) (x ∷ xs) (y ∷ ys) near (suc n) = near-at f xs ys near.1 n
 
-  pub near-beside : (f : ℕ) (xs ys : Numbered Node) → AreNear f xs ys → (n : ℕ) → n ≢ f → at_number ys n ≡ at_number xs n
-  near-beside f [] [] near n other = refl
-  near-beside f [] (y ∷ ys) near n other = absurd near
-  near-beside f (x ∷ xs) [] near n other = absurd near
-  near-beside zero (x ∷ xs) (y ∷ ys) near zero other = absurd (other refl)
-  near-beside zero (x ∷ xs) (y ∷ ys) near (suc n) other = ap (λ zs. at_number zs n) (sym near.1)
-  near-beside (suc f) (x ∷ xs) (y ∷ ys) near zero other = sym near.0
-  near-beside (suc f) (x ∷ xs) (y ∷ ys) near (suc n) other = near-beside f xs ys near.1 n (λ same. other (ap suc same))
+  pub near-other : (f : ℕ) (xs ys : Numbered Node) → AreNear f xs ys → (n : ℕ) → n ≢ f → at_number ys n ≡ at_number xs n
+  near-other f [] [] near n other = refl
+  near-other f [] (y ∷ ys) near n other = absurd near
+  near-other f (x ∷ xs) [] near n other = absurd near
+  near-other zero (x ∷ xs) (y ∷ ys) near zero other = absurd (other refl)
+  near-other zero (x ∷ xs) (y ∷ ys) near (suc n) other = ap (λ zs. at_number zs n) (sym near.1)
+  near-other (suc f) (x ∷ xs) (y ∷ ys) near zero other = sym near.0
+  near-other (suc f) (x ∷ xs) (y ∷ ys) near (suc n) other = near-other f xs ys near.1 n (λ same. other (ap suc same))
 
   pub near-itself : (f : ℕ) (xs : Numbered Node) → AreNear f xs xs
   near-itself f [] = tt
@@ -251,7 +251,7 @@ module _ (size : ℕ → ℕ) where
     pub directory-near : (d : ℕ) → is_directory_at u d ≡ is_directory_at t d
     directory-near d = near-view is_directory (node_at t d) (node_at u d) (λ executable old new long. refl) (near-at f t.nodes ys near d)
 
-    alike-near : Walk.LooksAlike t u
+    alike-near : Walk.LooksTheSame t u
     alike-near = record {
       version = refl;
       entries = entries-near;
@@ -311,7 +311,7 @@ module _ (size : ℕ → ℕ) where
         → view (node_at u n) ≡ view (node_at t n)
     at-length view n exact alike =
         ⊎_elim (λ here. near-view view (node_at t n) (node_at u n) (λ executable old new same. alike executable old new (exact here (length new) (length old) same)) (near-at f t.nodes ys near n))
-        (λ other. ap view (near-beside f t.nodes ys near n other)) (cases_eq n f)
+        (λ other. ap view (near-other f t.nodes ys near n other)) (cases_eq n f)
 
     pub status-near : (n : ℕ) → (n ≡ f → IsExact size) → status u n ≡ status t n
     status-near n exact = at-length (status_of n) n exact by
@@ -346,8 +346,8 @@ module _ (size : ℕ → ℕ) where
   pub near-collect : (f : ℕ) (a : State) (ys : Numbered Node) → AreNear f a.tree.nodes ys → IsNear f (collect a) (collect (near_state a ys))
   unfolding collect
   near-collect f a ys near = record {
-    nodes = subst (λ ns. AreNear f (collect a).tree.nodes (keep (among (root ∷ ns ++ Rattle.pv_laws_states.proofs.Collect.held_after a)) ys)) (sym (near-named 0 f a.tree.nodes ys near))
-        (near-keep_from 0 f (among (root ∷ named_numbers a.tree ++ Rattle.pv_laws_states.proofs.Collect.held_after a)) a.tree.nodes ys near);
+    nodes = subst (λ ns. AreNear f (collect a).tree.nodes (keep (among (root ∷ ns ++ Rattle.pv_laws_states.proofs.CollectedStates.held_after a)) ys)) (sym (near-named 0 f a.tree.nodes ys near))
+        (near-keep_from 0 f (among (root ∷ named_numbers a.tree ++ Rattle.pv_laws_states.proofs.CollectedStates.held_after a)) a.tree.nodes ys near);
     rest = refl;
   }
 

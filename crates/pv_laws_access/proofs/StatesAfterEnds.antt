@@ -11,15 +11,15 @@ use Rattle.pv_model.specs.Machine.{answer, at_next_line, effect, Bytes, end_proc
 use Rattle.pv_model.specs.Calls.Processes.{exit_status}
 use Rattle.pv_laws_states.specs.Held.{used}
 use Rattle.pv_laws_states.specs.States.{IsTree, IsValid}
-use Rattle.pv_laws_trees.proofs.Numbered.{keep-some}
+use Rattle.pv_laws_trees.proofs.NumberedMaps.{keep-some}
 use Rattle.pv_laws_states.proofs.ValidEnds.{mapped, sorted-mapped, found-mapped, mapped-found, found-filtered, filtered-found, adopted, map-adopt, tree-end}
-use Rattle.pv_laws_states.proofs.Members.{live-found}
-use Rattle.pv_laws_states.proofs.Outcomes.{at_call, by_answer}
+use Rattle.pv_laws_states.proofs.ReferenceMembers.{live-found}
+use Rattle.pv_laws_states.proofs.CallOutcomes.{at_call, by_answer}
 use Rattle.pv_laws_states.proofs.Processes.{find-put_same, find-put_other}
-use Rattle.pv_laws_states.proofs.Collect.{files-collect, processes-collect, last-collect}
+use Rattle.pv_laws_states.proofs.CollectedStates.{files-collect, processes-collect, last-collect}
 use Rattle.pv_laws_states.proofs.ValidStates.{sorted-put_number}
 use Rattle.pv_laws_access.proofs.ChangedTrees.{entry-collect}
-use Rattle.pv_laws_access.proofs.Ends as Put
+use Rattle.pv_laws_access.proofs.ProcessesAfterEnds as Put
 use Rattle.pv_laws_access.specs.Ends.{heir, new_parent, record_left, IsEnded}
 
 -- the record that should remain

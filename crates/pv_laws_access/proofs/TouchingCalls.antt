@@ -11,15 +11,15 @@ use Rattle.pv_model.specs.Touch.{Touch, change_by_descriptor, change_by_open, en
 use Rattle.pv_model.specs.declared.perms.Perms.{Perms}
 use Rattle.pv_model.specs.declared.place.Place.{Place}
 use Rattle.pv_laws_states.specs.States.{is_call, EncodesPrograms, IsTree, IsValid}
-use Rattle.pv_laws_states.proofs.Attempts.{Leads}
-use Rattle.pv_laws_states.proofs.BySteps.{IsGoodNext, good-effect, good-next}
-use Rattle.pv_laws_states.proofs.Outcomes.{at_call, by_answer}
+use Rattle.pv_laws_states.proofs.AttemptValues.{Leads}
+use Rattle.pv_laws_states.proofs.ValidBySteps.{IsGoodNext, good-effect, good-next}
+use Rattle.pv_laws_states.proofs.CallOutcomes.{at_call, by_answer}
 use Rattle.pv_laws_states.proofs.Processes.{process_at-same, process_at-other, update-with}
-use Rattle.pv_laws_states.proofs.Replies.{IsEffect, whole-at_call}
+use Rattle.pv_laws_states.proofs.ValidReplies.{IsEffect, valid-at_call}
 use Rattle.pv_laws_states.proofs.ValidStates.{sorted-put_number}
 use Rattle.pv_laws_access.proofs.CallEffects.{continues, HasEffect, Did, ends-stays}
 use Rattle.pv_laws_access.proofs.EffectByCall.{does-effect}
-use Rattle.pv_laws_access.proofs.Ends.{IsSameNext, same-next, step-is, step-gone}
+use Rattle.pv_laws_access.proofs.ProcessesAfterEnds.{IsSameNext, same-next, step-is, step-gone}
 use Rattle.pv_laws_access.proofs.ProgramImages.{executes}
 
 -- ---- the tree after a call is well-formed
@@ -134,7 +134,7 @@ module _ (program_of : Bytes → Option Program) (s : State) (pid : ℕ) (whole 
         let same : p ≡ me = cc in
         subst (λ (y : Process). T (answer_by_attempt s (at_call s pid y) pid (at_next_line y) (effect program_of (at_call s pid y) pid (at_next_line y) call)).after → IsTouched s pid T) (sym same)
         (by_attempt (ap (λ (y : Process). missing_promise y.promises (needs call)) (sym same) ∙ missing) (effect program_of x pid now call) (does-effect program_of x pid now call)
-        (leaves-tree program_of x pid now call (whole-at_call s pid me whole at) (process_at-same s pid now) good_call)))
+        (leaves-tree program_of x pid now call (valid-at_call s pid me whole at) (process_at-same s pid now) good_call)))
         (λ p lacks found missing lenient touch.
         let same : p ≡ me = cc in
         absurd (refusal ENOSYS (subst (λ (y : Process). T (update (at_call s pid y) pid (λ q. with_result q (negsuc 0) (errno_number ENOSYS)))) same touch)))

@@ -17,11 +17,11 @@ use Rattle.pv_model.specs.declared.verdict.Why.TheVariants.{Reads, NoTable, NotL
 use Rattle.pv_model.specs.Machine.{Bytes, is_empty, live_processes, at_number, numbered, Promises, contains, OpenFile, Descriptor, Process, State, reads, writes, names_of, ancestors, IsWellFormed, Table, entry_for, permissions_at, directory_rights}
 use Rattle.pv_model.specs.Closed
 use Rattle.pv_model.specs.Sealed
-use Rattle.pv_model.proofs.Rights.{Governs-directory_rights, directory_rights-Governs}
+use Rattle.pv_model.proofs.GoverningEntries.{Governs-directory_rights, directory_rights-Governs}
 use Rattle.pv_laws_trees.proofs.Ancestors.{ancestors-above}
 use Rattle.pv_laws_trees.proofs.Trees.{IsOrdered, ordered, sound}
 use Rattle.pv_laws_access.specs.Reasons.{IsFirstReason, IsFirstLeak, IsExact}
-use Rattle.pv_laws_trees.proofs.Members.{In, empty-from, none-in, in-map, map-in, in-filter, filter-in, in-preserved, preserved-in, in-flat, flat-in, any-in, in-any, least-in, least-low, numbered-at, at-numbered, entry-in, in-entry}
+use Rattle.pv_laws_trees.proofs.ListMembers.{In, empty-from, none-in, in-map, map-in, in-filter, filter-in, in-preserved, preserved-in, in-flat, flat-in, any-in, in-any, least-in, least-low, numbered-at, at-numbered, entry-in, in-entry}
 
 -- ---- promises
 
@@ -184,10 +184,10 @@ module _ (s : State) (p : Process) (f : ℕ) (w : IsWellFormed s.tree) where
   abbrev pledged : Bool
   pledged = Sealed.is_pledged_without (Rpath ∷ ExecPromise ∷ Cpath ∷ []) p
 
-  shut-pledged : Closed.IsPledgedShut s p f → pledged ≡ true
+  shut-pledged : Closed.IsClosedByPledge s p f → pledged ≡ true
   shut-pledged shut = (three p Rpath ExecPromise Cpath).1 (shut.no_rpath, shut.no_exec, shut.no_cpath)
 
-  pledged-shut : pledged ≡ true → Closed.IsPledgedShut s p f
+  pledged-shut : pledged ≡ true → Closed.IsClosedByPledge s p f
   pledged-shut is = let l = (three p Rpath ExecPromise Cpath).0 is in record { no_rpath = l.0; no_exec = l.1; no_cpath = l.2 }
 
   held-tested : Closed.IsHeldOverExec p → Sealed.is_held_over_exec s p f ≡ true
@@ -212,11 +212,11 @@ module _ (s : State) (p : Process) (f : ℕ) (w : IsWellFormed s.tree) where
       let quiet : reading ≡ [] = empty-from ℕ reading (λ d is. c.descriptors d (in-on reads d is)) in
       let rest : (if pledged then [] else Sealed.leaks_of_table s p f p.table) ≡ [] = ⊎_elim
       (λ shut. ap (λ b. if b then [] else Sealed.leaks_of_table s p f p.table) (shut-pledged shut))
-      (λ (shut : (table : Table) × Closed.IsUnveiledShut s p f table). elim pledged as (λ b. (if b then [] else Sealed.leaks_of_table s p f p.table) ≡ []) [ true ↦ refl | false ↦ ap (Sealed.leaks_of_table s p f) shut.1.in_force ∙ silent shut.0 shut.1 ])
+      (λ (shut : (table : Table) × Closed.IsClosedByTable s p f table). elim pledged as (λ b. (if b then [] else Sealed.leaks_of_table s p f p.table) ≡ []) [ true ↦ refl | false ↦ ap (Sealed.leaks_of_table s p f) shut.1.in_force ∙ silent shut.0 shut.1 ])
       c.restraints in
       λ i. Sealed.least_first Reads (quiet i) ++ rest i
     where
-      silent : (table : Table) → Closed.IsUnveiledShut s p f table → four table ≡ []
+      silent : (table : Table) → Closed.IsClosedByTable s p f table → four table ≡ []
       silent table u =
           let names : Sealed.giving s p f Closed.opens_or_moves table ≡ [] = empty-from ℕ (Sealed.giving s p f Closed.opens_or_moves table) (λ k is. u.names k (in-given table Closed.opens_or_moves k is)) in
           let above : Sealed.above s p f table ≡ [] = empty-from ℕ (Sealed.above s p f table) (λ k is. u.directories k (in-above table k is)) in
@@ -231,7 +231,7 @@ module _ (s : State) (p : Process) (f : ℕ) (w : IsWellFormed s.tree) where
     restraints = by pledged refl (right-none (Sealed.least_first Reads reading) _ none);
   }
     where
-      shut : (o : Option Table) → p.table ≡ o → Sealed.leaks_of_table s p f o ≡ [] → (table : Table) × Closed.IsUnveiledShut s p f table
+      shut : (o : Option Table) → p.table ≡ o → Sealed.leaks_of_table s p f o ≡ [] → (table : Table) × Closed.IsClosedByTable s p f table
       shut None is silent = cc silent
       shut (Some table) is silent =
           let a = Sealed.when (not p.locked) NotLocked in
@@ -248,7 +248,7 @@ module _ (s : State) (p : Process) (f : ℕ) (w : IsWellFormed s.tree) where
             },
           )
 
-      by : (b : Bool) → pledged ≡ b → (if b then [] else Sealed.leaks_of_table s p f p.table) ≡ [] → Closed.IsPledgedShut s p f ⊎ ((table : Table) × Closed.IsUnveiledShut s p f table)
+      by : (b : Bool) → pledged ≡ b → (if b then [] else Sealed.leaks_of_table s p f p.table) ≡ [] → Closed.IsClosedByPledge s p f ⊎ ((table : Table) × Closed.IsClosedByTable s p f table)
       by true is silent = inl (pledged-shut is)
       by false is silent = inr (shut p.table refl silent)
 
@@ -268,7 +268,7 @@ module _ (s : State) (p : Process) (f : ℕ) (w : IsWellFormed s.tree) where
       nothing [] none = refl
       nothing (k ∷ ks) none = cc none
 
-      by : (o : Option Table) → p.table ≡ o → Sealed.is_preserved_by_table s p f o ≡ true → (table : Table) × Closed.IsUnveiledFrom s p f table
+      by : (o : Option Table) → p.table ≡ o → Sealed.is_preserved_by_table s p f o ≡ true → (table : Table) × Closed.IsFixedByTable s p f table
       by None at preserved = cc preserved
       by (Some table) at preserved =
           let giving : List ℕ = Sealed.giving s p f (λ permissions. permissions.w) table in
@@ -289,7 +289,7 @@ module _ (s : State) (p : Process) (f : ℕ) (w : IsWellFormed s.tree) where
       and_from _ _ (ap is_empty (empty-from ℕ (Sealed.descriptors_on s p f writes) (λ d is. frozen.descriptors d (in-on writes d is))))
       (⊎_elim (λ l. or_left _ _ ((two p Wpath ExecPromise).1 (l.no_wpath, l.no_exec))) (λ u. or_right (Sealed.is_pledged_without (Wpath ∷ ExecPromise ∷ []) p) _ (preserved u.0 u.1)) frozen.restraints)
     where
-      preserved : (table : Table) → Closed.IsUnveiledFrom s p f table → Sealed.is_preserved_by_table s p f p.table ≡ true
+      preserved : (table : Table) → Closed.IsFixedByTable s p f table → Sealed.is_preserved_by_table s p f p.table ≡ true
       preserved table u =
           let giving : List ℕ = Sealed.giving s p f (λ permissions. permissions.w) table in
           ap (Sealed.is_preserved_by_table s p f) u.in_force
@@ -400,7 +400,7 @@ module _ (s : State) (p : Process) (f : ℕ) (w : IsWellFormed s.tree) where
         first-exec none_over _ (Closed.by_directory t j able is gives) = absurd (none-in ℕ j over none_over (higher t j is gives))
         first-exec none_over _ (Closed.by_exec t able is free) = inr (refl, omega arith)
 
-  module _ (why : Why) (whys : List Why) (quiet : Quiet) (free : ¬ Closed.IsPledgedShut s p f) where
+  module _ (why : Why) (whys : List Why) (quiet : Quiet) (free : ¬ Closed.IsClosedByPledge s p f) where
     by_table : (o : Option Table) → p.table ≡ o → Sealed.leaks_of_table s p f o ≡ why ∷ whys → First why
     by_table None at is =
         let named : NoTable ≡ why = cc is in

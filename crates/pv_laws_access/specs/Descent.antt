@@ -1,4 +1,4 @@
--- What descendants inherit through any forks and execves: pledge(2), unveil(2).
+-- The restraints that descendants inherit through any forks and execves: pledge(2), unveil(2).
 use Rattle.std.specs.Prelude.{◌≡◌, ℕ, IsTrue, List, [], ◌∷◌, Option, Some, is_some}
 use Rattle.pv_model.specs.Machine.{Bytes, Program, Process, State, process_at, step, run, Table}
 use Rattle.pv_model.specs.Closed.{IsHeldOverExec}

@@ -9,20 +9,20 @@ use Rattle.pv_laws_access.specs.Growth.{IsInOrder, IsSameFile, IsNamedBy}
 
 -- the origin of an open file after a step: it is unchanged; or the call names it by a descriptor of its process, and
 -- only its position changed; or an open created it under the least free number
-pub data CameOf (s : State) (pid k : ℕ) : OpenFile → Type 0 where
-  as_it_was : (file : OpenFile) → at_number s.files k ≡ Some file → CameOf s pid k file
-  moved : (old left : OpenFile) → at_number s.files k ≡ Some old → IsSameFile old left → IsNamedBy s pid k → CameOf s pid k left
+pub data HasOrigin (s : State) (pid k : ℕ) : OpenFile → Type 0 where
+  as_it_was : (file : OpenFile) → at_number s.files k ≡ Some file → HasOrigin s pid k file
+  moved : (old left : OpenFile) → at_number s.files k ≡ Some old → IsSameFile old left → IsNamedBy s pid k → HasOrigin s pid k left
   opened : (p : Process) (call : Call) (flags : OpenFlags) (left : OpenFile) → process_at s pid ≡ Some p → next p ≡ calls_for call → flags_of call ≡ Some flags → left.mode ≡ flags.mode
-      → k ≡ least_free s.files → CameOf s pid k left
+      → k ≡ least_free s.files → HasOrigin s pid k left
 
 -- every open file after a step has such an origin
-abbrev pub OpenFilesComeOf : Type 0
-OpenFilesComeOf =
-    (program_of : Bytes → Option Program) (s : State) (pid k : ℕ) (left : OpenFile) → at_number (step program_of s pid).after.files k ≡ Some left → CameOf s pid k left
+abbrev pub OpenFilesHaveOrigins : Type 0
+OpenFilesHaveOrigins =
+    (program_of : Bytes → Option Program) (s : State) (pid k : ℕ) (left : OpenFile) → at_number (step program_of s pid).after.files k ≡ Some left → HasOrigin s pid k left
 
 -- no other process has a descriptor for an open file that a step removes
-abbrev pub OnlyOwnFilesGo : Type 0
-OnlyOwnFilesGo =
+abbrev pub OnlyOwnFilesAreRemoved : Type 0
+OnlyOwnFilesAreRemoved =
     (program_of : Bytes → Option Program) (s : State) (pid k : ℕ) (file : OpenFile) → IsInOrder s → at_number s.files k ≡ Some file → at_number (step program_of s pid).after.files k ≡ None
     → (other : ℕ) (p : Process) (d : ℕ) (x : Descriptor) → other ≢ pid → process_at s other ≡ Some p → at_number p.descriptors d ≡ Some x → x.file ≢ k
 

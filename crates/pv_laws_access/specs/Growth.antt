@@ -34,7 +34,7 @@ KeepsTable (Some before) None = ⊥
 KeepsTable (Some before) (Some after) = KeepsEntries before after
 
 -- the second process may do no more than the first; a locked table is unchanged
-pub record MayDoNoMore (p q : Process) : Type 0 where
+pub record HasNoMoreRights (p q : Process) : Type 0 where
   pub promises : GainsNone p.promises q.promises
   pub execpromises : GainsNone p.execpromises q.execpromises
   pub table : KeepsTable p.table q.table
@@ -42,7 +42,7 @@ pub record MayDoNoMore (p q : Process) : Type 0 where
   pub closed : IsTrue p.locked → q.table ≡ p.table
 
 -- both processes have the same restraints and descriptors
-pub record HasTheSame (p q : Process) : Type 0 where
+pub record HasSameRights (p q : Process) : Type 0 where
   pub promises : q.promises ≡ p.promises
   pub execpromises : q.execpromises ≡ p.execpromises
   pub table : q.table ≡ p.table
@@ -54,8 +54,8 @@ pub record IsInOrder (s : State) : Type 0 where
   pub ascending : IsTrue (is_sorted nat_cmp s.processes)
   pub next_is_free : find nat_cmp (suc s.last_process) s.processes ≡ None
 
--- nothing of a process changed but its parent
-pub record IsLeftAlone (p q : Process) : Type 0 where
+-- a process is unchanged except for its parent
+pub record IsUnchangedExceptParent (p q : Process) : Type 0 where
   pub all : q ≡ record p { parent = q.parent }
 
 -- an open file has the same node and mode; its position may differ, because processes may share it
@@ -63,8 +63,8 @@ pub record IsSameFile (before after : OpenFile) : Type 0 where
   pub node : after.node ≡ before.node
   pub mode : after.mode ≡ before.mode
 
-abbrev pub WholeIsInOrder : Type 0
-WholeIsInOrder = (s : State) → IsValid s → IsInOrder s
+abbrev pub ValidIsInOrder : Type 0
+ValidIsInOrder = (s : State) → IsValid s → IsInOrder s
 
 -- whether a step starts a new program image, that is, is a successful execve
 abbrev pub begins_image : Next → Outcome → Bool
@@ -72,18 +72,18 @@ begins_image (calls_for (Execve path)) (Value n) = true
 begins_image next outcome = false
 
 -- a step that starts no new image, and after which its process is live, adds no rights
-abbrev pub GrowsNever : Type 0
-GrowsNever =
+abbrev pub RightsNeverGrow : Type 0
+RightsNeverGrow =
     (program_of : Bytes → Option Program) (s : State) (pid : ℕ) (p q : Process) → IsInOrder s
     → process_at s pid ≡ Some p → process_at (step program_of s pid).after pid ≡ Some q
-    → IsFalse (begins_image (next p) (step program_of s pid).outcome) → MayDoNoMore p q
+    → IsFalse (begins_image (next p) (step program_of s pid).outcome) → HasNoMoreRights p q
 
--- a step of another process leaves a live process live, and changes nothing of it but its parent
-abbrev pub OthersKeepTheirs : Type 0
-OthersKeepTheirs =
+-- a step of another process leaves a live process live, and changes only its parent
+abbrev pub OthersAreUnchanged : Type 0
+OthersAreUnchanged =
     (program_of : Bytes → Option Program) (s : State) (pid other : ℕ) (p : Process) → IsInOrder s
     → other ≢ pid → process_at s other ≡ Some p
-    → (q : Process) × (process_at (step program_of s pid).after other ≡ Some q) × IsLeftAlone p q
+    → (q : Process) × (process_at (step program_of s pid).after other ≡ Some q) × IsUnchangedExceptParent p q
 
 -- the call of a process uses its own descriptor for an open file
 pub record IsNamedBy (s : State) (pid k : ℕ) : Type 0 where
@@ -105,11 +105,11 @@ OthersKeepTheirFiles =
     → (left : OpenFile) × (at_number (step program_of s pid).after.files x.file ≡ Some left) × IsSameFile file left × ((left ≡ file) ⊎ IsNamedBy s pid x.file)
 
 -- a child starts with its parent's restraints and descriptors
-abbrev pub ChildHasTheSame : Type 0
-ChildHasTheSame =
+abbrev pub ChildHasSameRights : Type 0
+ChildHasSameRights =
     (program_of : Bytes → Option Program) (s : State) (pid n : ℕ) (p : Process) → process_at s pid ≡ Some p
     → next p ≡ calls_for Fork → (step program_of s pid).outcome ≡ Value n
-    → (child : Process) × (process_at (step program_of s pid).after n ≡ Some child) × HasTheSame p child
+    → (child : Process) × (process_at (step program_of s pid).after n ≡ Some child) × HasSameRights p child
 
 -- the restraints after an execve: the promises are the execpromises; without execpromises the table and the lock are
 -- removed
@@ -141,4 +141,4 @@ StaysInImage program_of pid (k ∷ ks) s =
 abbrev pub RunsWithoutGrowth : Type 0
 RunsWithoutGrowth =
     (program_of : Bytes → Option Program) → EncodesPrograms program_of → (s : State) (pid : ℕ) (pids : List ℕ) (p q : Process) → IsValid s
-    → process_at s pid ≡ Some p → StaysInImage program_of pid pids s → process_at (run program_of pids s).final pid ≡ Some q → MayDoNoMore p q
+    → process_at s pid ≡ Some p → StaysInImage program_of pid pids s → process_at (run program_of pids s).final pid ≡ Some q → HasNoMoreRights p q

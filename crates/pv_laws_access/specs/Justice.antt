@@ -1,4 +1,4 @@
--- Laws of complete mediation: what justifies each touch of a step.
+-- Laws of complete mediation: the justification of each touch of a step.
 use Rattle.std.specs.Prelude.{◌≡◌, ℕ, Bool, true, false, IsTrue, Option, None, Some}
 use Rattle.pv_model.specs.declared.call.Call.{Call}
 use Rattle.pv_model.specs.declared.call.Call.TheVariants.{Execve, Open, OpenAt, Read, Write, Lseek, Fstat, Ftruncate, Stat, Lstat}

@@ -1,4 +1,4 @@
--- What the steps of a process cannot do if it is pledged without a promise: pledge(2).
+-- The limits of the steps of a process that is pledged without a promise: pledge(2).
 use Rattle.std.specs.Prelude.{◌≡◌, ◌⊎◌, ℕ, Bool, false, IsTrue, IsFalse, if◌then◌else◌, [], ◌∷◌, Option, None, Some, is_some}
 use Rattle.pv_model.specs.declared.call.Call.{Call}
 use Rattle.pv_model.specs.declared.call.Call.TheVariants.{Pledge}
@@ -39,7 +39,7 @@ NoChildBegins =
     (program_of : Bytes → Option Program) (s : State) (pid : ℕ) (p : Process) (k : ℕ) → IsValid s → process_at s pid ≡ Some p
     → IsTrue (is_pledged_without (Proc ∷ []) p) → IsTrue (is_some (process_at (step program_of s pid).after k)) → IsTrue (is_some (process_at s k))
 
-pub record KeepsItsTable (p q : Process) : Type 0 where
+pub record KeepsTableAndLock (p q : Process) : Type 0 where
   pub table : q.table ≡ p.table
   pub locked : q.locked ≡ p.locked
 
@@ -52,7 +52,7 @@ abbrev pub TablesStay : Type 0
 TablesStay =
     (program_of : Bytes → Option Program) (s : State) (pid : ℕ) (p q : Process) → IsValid s → process_at s pid ≡ Some p
     → IsTrue (is_pledged_without (Unveil ∷ []) p) → process_at (step program_of s pid).after pid ≡ Some q
-    → KeepsItsTable p q ⊎ (IsTrue (begins_image (next p) (step program_of s pid).outcome) × HasNoTable q)
+    → KeepsTableAndLock p q ⊎ (IsTrue (begins_image (next p) (step program_of s pid).outcome) × HasNoTable q)
 
 -- a call reads a file, changes a file or reports a node by its own descriptor
 pub data ByOwnDescriptor (s : State) (p : Process) (call : Call) : Touch → Type 0 where
@@ -74,7 +74,7 @@ TouchesByDescriptor =
     → IsTrue (is_pledged_to_stdio p) → Touches program_of s pid touch → (call : Call) × (next p ≡ calls_for call) × ByOwnDescriptor s p call touch
 
 -- the first missing promise decides: it kills, or under `error` the call fails with ENOSYS; nothing else kills
-pub record MissingDecides (program_of : Bytes → Option Program) (s : State) (pid : ℕ) (p : Process) (call : Call) : Type 0 where
+pub record MissingPromiseDecides (program_of : Bytes → Option Program) (s : State) (pid : ℕ) (p : Process) (call : Call) : Type 0 where
   pub reported : (a : Promise) → missing_promise p.promises (needs call) ≡ Some a → IsTrue (is_lenient p.promises) → (step program_of s pid).outcome ≡ Failed ENOSYS (ByPromise a)
   pub killed : (a : Promise) → missing_promise p.promises (needs call) ≡ Some a → IsFalse (is_lenient p.promises) → (step program_of s pid).outcome ≡ Killed a
   pub else_lives : (a : Promise) → (step program_of s pid).outcome ≡ Killed a → (missing_promise p.promises (needs call) ≡ Some a) × IsFalse (is_lenient p.promises)
@@ -82,15 +82,15 @@ pub record MissingDecides (program_of : Bytes → Option Program) (s : State) (p
 abbrev pub MissingPromisesDecide : Type 0
 MissingPromisesDecide =
     (program_of : Bytes → Option Program) (s : State) (pid : ℕ) (p : Process) (call : Call) → process_at s pid ≡ Some p → next p ≡ calls_for call
-    → MissingDecides program_of s pid p call
+    → MissingPromiseDecides program_of s pid p call
 
 -- under `error`, a process is never killed, and its pledge never fails with EPERM
-abbrev pub ErrorSpares : Type 0
-ErrorSpares =
+abbrev pub ErrorNeverKills : Type 0
+ErrorNeverKills =
     (program_of : Bytes → Option Program) (s : State) (pid : ℕ) (p : Process) (a : Promise) → process_at s pid ≡ Some p
     → IsTrue (is_lenient p.promises) → ¬ ((step program_of s pid).outcome ≡ Killed a)
 
-abbrev pub ErrorNarrows : Type 0
-ErrorNarrows =
+abbrev pub ErrorNarrowsPledge : Type 0
+ErrorNarrowsPledge =
     (program_of : Bytes → Option Program) (s : State) (pid : ℕ) (p : Process) (promises execpromises : Option Bytes) (cause : Cause) → process_at s pid ≡ Some p
     → IsTrue (is_lenient p.promises) → next p ≡ calls_for (Pledge promises execpromises) → ¬ ((step program_of s pid).outcome ≡ Failed EPERM cause)

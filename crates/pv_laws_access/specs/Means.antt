@@ -1,4 +1,4 @@
--- What the steps of a pledged process can change and gain: pledge(2).
+-- The possible changes and gains of the steps of a pledged process: pledge(2).
 use Rattle.std.specs.Prelude.{◌≡◌, ℕ, IsTrue, [], ◌∷◌, Option, Some}
 use Rattle.pv_model.specs.declared.open_flags.Mode.{Mode}
 use Rattle.pv_model.specs.declared.promise.Promise.TheVariants.{Rpath, Wpath, Cpath}

@@ -61,14 +61,14 @@ module _ (program_of : Bytes → Option Program) (s : State) (pid : ℕ) where
     one_above_was_renamed : (e up : ℕ) (word : Bytes) → find_entry s.tree d name ≡ Some f → IsAtOrAbove (step program_of s pid).after.tree e d → IsRenamedTo e up word → ComesFrom f d name table k
 
 -- an existing node gets a name only by a rename or a link of it
-abbrev pub NamesComeByCalls : Type 0
-NamesComeByCalls =
+abbrev pub NamesAreGivenByCalls : Type 0
+NamesAreGivenByCalls =
     (program_of : Bytes → Option Program) → EncodesPrograms program_of → (s : State) (pid n d : ℕ) (name : Bytes) → IsValid s → IsTrue (is_some (node_at s.tree n))
     → find_entry (step program_of s pid).after.tree d name ≡ Some n → find_entry s.tree d name ≢ Some n → IsGivenName program_of s pid n d name
 
 -- an entry of any table starts to govern a name of an existing node only by such a call
-abbrev pub PermissionsComeByMoves : Type 0
-PermissionsComeByMoves =
+abbrev pub PermissionsAreGivenByMoves : Type 0
+PermissionsAreGivenByMoves =
     (program_of : Bytes → Option Program) → EncodesPrograms program_of → (s : State) (pid f : ℕ) (table : Table) (d : ℕ) (name : Bytes) (k : ℕ) → IsValid s
     → IsTrue (is_some (node_at s.tree f)) → find_entry (step program_of s pid).after.tree d name ≡ Some f → GovernsName (step program_of s pid).after.tree table d name k
     → ComesFrom program_of s pid f d name table k
@@ -81,15 +81,15 @@ abbrev pub GivesNothing : Tree → Table → ℕ → Type 0
 GivesNothing t table f = (d : ℕ) (name : Bytes) (k : ℕ) → find_entry t d name ≡ Some f → GovernsName t table d name k → IsFalse (gives_any (permissions_at table k))
 
 -- the same table is in force, and still grants nothing at the file
-pub record IsLeftWithout (table : Table) (f : ℕ) (after : State) (q : Process) : Type 0 where
+pub record StillGrantsNothing (table : Table) (f : ℕ) (after : State) (q : Process) : Type 0 where
   pub in_force : q.table ≡ Some table
   pub nothing : GivesNothing after.tree table f
 
 -- if a locked table grants nothing at a file, the process's own step changes nothing about that, unless it is an execve
 -- without execpromises
-abbrev pub OwnStepsGiveNothing : Type 0
-OwnStepsGiveNothing =
+abbrev pub OwnStepsGrantNothing : Type 0
+OwnStepsGrantNothing =
     (program_of : Bytes → Option Program) → EncodesPrograms program_of → (s : State) (pid f : ℕ) (p q : Process) (table : Table) → IsValid s
     → process_at s pid ≡ Some p → p.table ≡ Some table → IsTrue p.locked → IsTrue (is_file (node_at s.tree f)) → GivesNothing s.tree table f
     → process_at (step program_of s pid).after pid ≡ Some q → IsFalse (begins_image (next p) (step program_of s pid).outcome) ⊎ IsTrue (is_some p.execpromises)
-    → IsLeftWithout table f (step program_of s pid).after q
+    → StillGrantsNothing table f (step program_of s pid).after q

@@ -6,7 +6,7 @@ use Rattle.pv_model.specs.declared.place.Place.{Place}
 use Rattle.pv_model.specs.Machine.{Bytes, node_of, needs, permission_r, permission_c, calls_for, next, missing_promise, Program, Process, State, process_at, step, gain_descriptor, IsAllowed, node_at, find_entry}
 use Rattle.pv_model.specs.Closed.{HasOn}
 use Rattle.pv_laws_states.specs.States.{IsValid}
-use Rattle.pv_laws_access.specs.Growth.{MayDoNoMore, HasExecuted}
+use Rattle.pv_laws_access.specs.Growth.{HasNoMoreRights, HasExecuted}
 use Rattle.pv_laws_access.specs.Justice.{IsExplained}
 
 -- a live process makes a call, and its promises are held
@@ -17,7 +17,7 @@ pub record MakesCall (s : State) (pid : ℕ) (me : Process) (call : Call) : Type
 
 -- an existing node gets a new name: by a link of a place of it that is allowed for r, or by a rename of a place that is
 -- allowed for c
-pub record IsBrought (s : State) (pid : ℕ) (n : ℕ) : Type 0 where
+pub record IsGivenNewName (s : State) (pid : ℕ) (n : ℕ) : Type 0 where
   pub me : Process
   pub call : Call
   pub made : MakesCall s pid me call
@@ -25,15 +25,15 @@ pub record IsBrought (s : State) (pid : ℕ) (n : ℕ) : Type 0 where
   pub node : node_of place ≡ Some n
   pub allowed : IsAllowed s me call permission_r place ⊎ IsAllowed s me call permission_c place
 
-abbrev pub NamesComeByNames : Type 0
-NamesComeByNames =
+abbrev pub NamesHaveOrigins : Type 0
+NamesHaveOrigins =
     (program_of : Bytes → Option Program) (s : State) (pid : ℕ) (d : ℕ) (name : Bytes) (n : ℕ) → IsValid s → IsTrue (is_some (node_at s.tree n))
-    → find_entry (step program_of s pid).after.tree d name ≡ Some n → find_entry s.tree d name ≢ Some n → IsBrought s pid n
+    → find_entry (step program_of s pid).after.tree d name ≡ Some n → find_entry s.tree d name ≢ Some n → IsGivenNewName s pid n
 
 -- the second process's restraints are those of the first, or stricter, or those that an execve of the first leaves; and
 -- the step gains each descriptor that the first process did not have
 pub record IsHeirOf (s after : State) (pid : ℕ) (p q : Process) : Type 0 where
-  pub restraints : MayDoNoMore p q ⊎ HasExecuted p q
+  pub restraints : HasNoMoreRights p q ⊎ HasExecuted p q
   pub gains : (n : ℕ) (test : Mode → Bool) (d : ℕ) → HasOn after q n test d → ((e : ℕ) → ¬ HasOn s p n test e)
       → (mode : Mode) × IsTrue (test mode) × IsExplained s pid (gain_descriptor n mode)
 

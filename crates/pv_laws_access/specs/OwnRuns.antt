@@ -3,7 +3,7 @@ use Rattle.std.specs.Prelude.{◌≡◌, ◌⊎◌, ℕ, Bool, ◌||◌, IsTrue,
 use Rattle.std.specs.List.{AllByRecursion}
 use Rattle.pv_model.specs.declared.promise.Promise.TheVariants.{Cpath, Exec as ExecPromise}
 use Rattle.pv_model.specs.Machine.{Bytes, is_file, Program, Process, State, process_at, writes, step, run, file_bytes, with_bytes, node_at, Table}
-use Rattle.pv_model.specs.Closed.{Lacks, HasOn, GivesName, GivesAbove, IsClosed, IsPledgedFrom, IsUnveiledFrom}
+use Rattle.pv_model.specs.Closed.{Lacks, HasOn, GivesName, GivesAbove, IsClosed, IsFixedByPledge, IsFixedByTable}
 use Rattle.pv_laws_states.specs.States.{EncodesPrograms, IsValid}
 use Rattle.pv_laws_access.specs.Sealing.{RunsDifferInFile}
 
@@ -13,8 +13,8 @@ abbrev pub AreOwnSteps : State → ℕ → List ℕ → Type 0
 AreOwnSteps s pid pids = AllByRecursion (λ k. (k ≡ pid) ⊎ (process_at s k ≡ None)) pids
 
 -- if the process is closed to a file, such runs do not depend on the bytes of the file, given their number
-abbrev pub ClosedRunsAlike : Type 0
-ClosedRunsAlike =
+abbrev pub ClosedRunsAreEqual : Type 0
+ClosedRunsAreEqual =
     (program_of : Bytes → Option Program) → EncodesPrograms program_of → (s : State) (pid : ℕ) (p : Process) (pids : List ℕ) (f : ℕ) (bytes : Bytes) → IsValid s
     → IsTrue (is_file (node_at s.tree f)) → process_at s pid ≡ Some p → IsClosed s p f → AreOwnSteps s pid pids → length bytes ≡ length (file_bytes s f)
     → RunsDifferInFile f (run program_of pids s) (run program_of pids (with_bytes s f bytes))
@@ -36,13 +36,13 @@ pub record IsUnveiledInPlace (s : State) (p : Process) (f : ℕ) (table : Table)
   pub directories : (k : ℕ) → ¬ GivesAbove s p f table k
 
 pub record IsUnveiledFixed (s : State) (p : Process) (f : ℕ) (table : Table) : Type 0 where
-  pub from : IsUnveiledFrom s p f table
+  pub from : IsFixedByTable s p f table
   pub in_place : IsPledgedInPlace s p f ⊎ IsUnveiledInPlace s p f table
 
 -- the process does not write the file and never will
 pub record IsFixed (s : State) (p : Process) (f : ℕ) : Type 0 where
   pub descriptors : (d : ℕ) → ¬ HasOn s p f writes d
-  pub restraints : IsPledgedFrom s p f ⊎ ((table : Table) × IsUnveiledFixed s p f table)
+  pub restraints : IsFixedByPledge s p f ⊎ ((table : Table) × IsUnveiledFixed s p f table)
 
 -- if the process is fixed to a file, such runs do not change the bytes of the file while it is there
 abbrev pub FixedRunsKeep : Type 0

@@ -1,4 +1,4 @@
--- Refusals and kills that name a promise: when they occur, and what they name. pledge(2).
+-- Refusals and kills that name a promise: when they occur, and which promise they name. pledge(2).
 use Rattle.std.specs.Prelude.{◌≡◌, ◌↔◌, ◌⊎◌, ℕ, ◌<◌, ◌≤◌, IsTrue, IsFalse, List, ◌∷◌, Contains, Option, None, Some}
 use Rattle.pv_model.specs.declared.call.Call.{Call}
 use Rattle.pv_model.specs.declared.call.Call.TheVariants.{Pledge}

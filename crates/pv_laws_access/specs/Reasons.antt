@@ -10,8 +10,8 @@ use Rattle.pv_model.specs.Closed.{IsClosed, IsFrozenTo, IsReason, IsNoLater}
 use Rattle.pv_model.specs.Sealed.{is_frozen_to, first_leak, is_sealed, is_frozen, verdict}
 
 -- the list of leaks is empty if and only if the process is closed to the file
-abbrev pub LeaksNothingWhereClosed : Type 0
-LeaksNothingWhereClosed = (s : State) (p : Process) (f : ℕ) → IsWellFormed s.tree → (leaks s p f ≡ []) ↔ IsClosed s p f
+abbrev pub LeaksNothingIfClosed : Type 0
+LeaksNothingIfClosed = (s : State) (p : Process) (f : ℕ) → IsWellFormed s.tree → (leaks s p f ≡ []) ↔ IsClosed s p f
 
 -- the test for frozen agrees with the conditions
 abbrev pub FrozenToIsTested : Type 0

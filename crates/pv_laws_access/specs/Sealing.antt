@@ -22,7 +22,7 @@ SealedInvariant =
     → IsSealedFile s f → IsSealedFile (step program_of s pid).after f
 
 -- the file is still frozen, with the same bytes
-pub record IsLeftFrozen (f : ℕ) (before after : State) : Type 0 where
+pub record StaysFrozen (f : ℕ) (before after : State) : Type 0 where
   pub still : IsFrozenFile after f
   pub bytes : file_bytes after f ≡ file_bytes before f
 
@@ -30,7 +30,7 @@ pub record IsLeftFrozen (f : ℕ) (before after : State) : Type 0 where
 abbrev pub FrozenInvariant : Type 0
 FrozenInvariant =
     (program_of : Bytes → Option Program) → EncodesPrograms program_of → (s : State) (pid : ℕ) (f : ℕ) → IsValid s
-    → IsFrozenFile s f → IsLeftFrozen f s (step program_of s pid).after
+    → IsFrozenFile s f → StaysFrozen f s (step program_of s pid).after
 
 -- a process that is closed to a file is pledged without exec, or has execpromises; so the definition of frozen, which
 -- includes sealed, repeats this condition without effect
@@ -51,13 +51,13 @@ pub record WritesNothing (program_of : Bytes → Option Program) (s : State) (pi
   pub still : IsSealedFile (run program_of pids s).final f
   pub alike : RunsDifferInFile f (run program_of pids s) (run program_of pids (with_bytes s f bytes))
 
-abbrev pub SealedForEver : Type 0
-SealedForEver =
+abbrev pub SealedStaysSealed : Type 0
+SealedStaysSealed =
     (program_of : Bytes → Option Program) → EncodesPrograms program_of → (s : State) (pids : List ℕ) (f : ℕ) (bytes : Bytes) → IsValid s
     → IsSealedFile s f → length bytes ≡ length (file_bytes s f) → WritesNothing program_of s pids f bytes
 
 -- no run changes the bytes of a frozen file, and it stays frozen
-abbrev pub FrozenForEver : Type 0
-FrozenForEver =
+abbrev pub FrozenStaysFrozen : Type 0
+FrozenStaysFrozen =
     (program_of : Bytes → Option Program) → EncodesPrograms program_of → (s : State) (pids : List ℕ) (f : ℕ) → IsValid s
-    → IsFrozenFile s f → IsLeftFrozen f s (run program_of pids s).final
+    → IsFrozenFile s f → StaysFrozen f s (run program_of pids s).final

@@ -20,8 +20,8 @@ pub record StepsDifferInFile (f : ℕ) (a b : Stepped) : Type 0 where
   pub as_many : length (file_bytes b.after f) ≡ length (file_bytes a.after f)
 
 -- this holds for each step of any process if the bytes of a sealed file are replaced by others of equal length
-abbrev pub SealedAnswersAlike : Type 0
-SealedAnswersAlike =
+abbrev pub SealedAnswersAreEqual : Type 0
+SealedAnswersAreEqual =
     (program_of : Bytes → Option Program) (s : State) (pid : ℕ) (f : ℕ) (bytes : Bytes) → IsValid s → IsTrue (is_file (node_at s.tree f)) → IsTrue (is_sealed s f)
     → length bytes ≡ length (file_bytes s f) → StepsDifferInFile f (step program_of s pid) (step program_of (with_bytes s f bytes) pid)
 

@@ -1,4 +1,4 @@
--- Refusals by an unveil table and by its lock: when they occur, and what they name. unveil(2).
+-- Refusals by an unveil table and by its lock: when they occur, and which entry they name. unveil(2).
 use Rattle.std.specs.Prelude.{◌≡◌, ◌↔◌, ℕ, IsTrue, IsFalse, List, [], ◌∷◌, Option, None, Some, Ok}
 use Rattle.pv_model.specs.declared.call.Call.{Call}
 use Rattle.pv_model.specs.declared.call.Call.TheVariants.{Unveil}
@@ -22,8 +22,8 @@ pub record StoppedAt (s : State) (me : Process) (call : Call) (walks : ℕ) (pla
 -- a table refuses a call at a place for the permissions needed there: no entry governs the place; or the entry that
 -- governs it lacks a permission; or an unveil would widen the entry for exactly this place, which governs it
 pub data TableRefuses (t : Tree) (table : Table) (call : Call) (place : Place) (needed : Perms) : Errno → Option ℕ → Type 0 where
-  none_governs : IsFalse (is_unveil call) → ((k : ℕ) → ¬ GovernsPlace t table place k) → TableRefuses t table call place needed ENOENT None
-  lacks_permission : (k : ℕ) → IsFalse (is_unveil call) → GovernsPlace t table place k → IsFalse (covers (permissions_at table k) needed)
+  refused_without_entry : IsFalse (is_unveil call) → ((k : ℕ) → ¬ GovernsPlace t table place k) → TableRefuses t table call place needed ENOENT None
+  refused_by_entry : (k : ℕ) → IsFalse (is_unveil call) → GovernsPlace t table place k → IsFalse (covers (permissions_at table k) needed)
       → TableRefuses t table call place needed EACCES (Some k)
   would_widen : (k : ℕ) → IsTrue (is_unveil call) → entry_for table (target_of t place) ≡ Some k → GovernsPlace t table place k
       → IsFalse (covers (permissions_at table k) needed) → TableRefuses t table call place needed EPERM (Some k)
@@ -62,27 +62,27 @@ LockRefusesExactly =
     → ((answer program_of s pid call).outcome ≡ Failed errno Locked) ↔ IsRefusedByLock me call errno
 
 -- the decisions of tables that the lines of a step report
-abbrev pub said_by : Word → List UnveilVerdict → List UnveilVerdict
-said_by (unvl_word verdict) rest = verdict ∷ rest
-said_by word rest = rest
+abbrev pub verdicts_of_word : Word → List UnveilVerdict → List UnveilVerdict
+verdicts_of_word (unvl_word verdict) rest = verdict ∷ rest
+verdicts_of_word word rest = rest
 
-abbrev pub table_says : List Line → List UnveilVerdict
-table_says [] = []
-table_says (l ∷ ls) = said_by l.word (table_says ls)
+abbrev pub table_verdicts : List Line → List UnveilVerdict
+table_verdicts [] = []
+table_verdicts (l ∷ ls) = verdicts_of_word l.word (table_verdicts ls)
 
 -- the decision to report: the entry or the lack of one, with the permissions needed at the place; or the lock; or
 -- nothing
-pub data IsToBeSaid (s : State) (me : Process) (call : Call) (a : Answered) : List UnveilVerdict → Type 0 where
+pub data IsDecisionToReport (s : State) (me : Process) (call : Call) (a : Answered) : List UnveilVerdict → Type 0 where
   of_none : (errno : Errno) (is : IsRefusedByTable s me call a.walks errno None) → a.outcome ≡ Failed errno (ByUnveil None)
-      → IsToBeSaid s me call a (no_entry is.needed ∷ [])
+      → IsDecisionToReport s me call a (no_entry is.needed ∷ [])
   of_entry : (errno : Errno) (k : ℕ) (is : IsRefusedByTable s me call a.walks errno (Some k)) → a.outcome ≡ Failed errno (ByUnveil (Some k))
-      → IsToBeSaid s me call a (entry_lacks k is.needed ∷ [])
-  of_lock : (errno : Errno) → IsRefusedByLock me call errno → a.outcome ≡ Failed errno Locked → IsToBeSaid s me call a (table_locked ∷ [])
+      → IsDecisionToReport s me call a (entry_lacks k is.needed ∷ [])
+  of_lock : (errno : Errno) → IsRefusedByLock me call errno → a.outcome ≡ Failed errno Locked → IsDecisionToReport s me call a (table_locked ∷ [])
   of_nothing : ((errno : Errno) (entry : Option ℕ) → ¬ (a.outcome ≡ Failed errno (ByUnveil entry))) → ((errno : Errno) → ¬ (a.outcome ≡ Failed errno Locked))
-      → IsToBeSaid s me call a []
+      → IsDecisionToReport s me call a []
 
 -- the lines of a call report exactly this decision
-abbrev pub LinesSayWhatDecided : Type 0
-LinesSayWhatDecided =
+abbrev pub LinesReportDecisions : Type 0
+LinesReportDecisions =
     (program_of : Bytes → Option Program) (s : State) (pid : ℕ) (me : Process) (call : Call) → process_at s pid ≡ Some me
-    → IsToBeSaid s me call (answer program_of s pid call) (table_says (call_lines pid me call (answer program_of s pid call)))
+    → IsDecisionToReport s me call (answer program_of s pid call) (table_verdicts (call_lines pid me call (answer program_of s pid call)))

@@ -12,7 +12,7 @@ use Rattle.pv_model.specs.Machine.{Bytes, GovernsName, covers, Tree, is_director
 -- the name
 pub data GovernsPlace (t : Tree) (table : Table) : Place → ℕ → Type 0 where
   unnamed : (n k : ℕ) → Governs t table n k → GovernsPlace t table (Unnamed n) k
-  absent : (d : ℕ) (name : Bytes) (k : ℕ) → GovernsName t table d name k → GovernsPlace t table (At d name None) k
+  without_node : (d : ℕ) (name : Bytes) (k : ℕ) → GovernsName t table d name k → GovernsPlace t table (At d name None) k
   directory : (d : ℕ) (name : Bytes) (n k : ℕ) → IsTrue (is_directory_at t n) → Governs t table n k → GovernsPlace t table (At d name (Some n)) k
   named : (d : ℕ) (name : Bytes) (n k : ℕ) → IsFalse (is_directory_at t n) → GovernsName t table d name k → GovernsPlace t table (At d name (Some n)) k
 
@@ -24,5 +24,5 @@ pub data Judges (t : Tree) (place : Place) (needed : Perms) : Option Table → J
   has_permissions : (table : Table) (k : ℕ) → GovernsPlace t table place k → IsTrue (covers (permissions_at table k) needed) → Judges t place needed (Some table) Allowed
 
 -- `judgement` computes this relation
-abbrev pub JudgementIsAsSaid : Type 0
-JudgementIsAsSaid = (t : Tree) (table : Option Table) (place : Place) (needed : Perms) (found : Judgement) → Judges t place needed table found ↔ (judgement t table place needed ≡ found)
+abbrev pub JudgementComputesRelation : Type 0
+JudgementComputesRelation = (t : Tree) (table : Option Table) (place : Place) (needed : Perms) (found : Judgement) → Judges t place needed table found ↔ (judgement t table place needed ≡ found)

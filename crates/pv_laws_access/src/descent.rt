@@ -1,4 +1,4 @@
-//! Laws of confinement: what descendants inherit.
+//! Laws of confinement: the restraints that descendants inherit.
 
 ghost use Rattle.pv_laws_access.specs.Descent.{DescendantsAreHeld};
 

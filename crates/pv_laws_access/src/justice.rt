@@ -1,4 +1,4 @@
-//! Laws of complete mediation: what justifies each touch of a step.
+//! Laws of complete mediation: the justification of each touch of a step.
 
 ghost use Rattle.pv_laws_access.specs.Justice.{EntriesAreJustified, FilesAreJustified, ReportingIsJustified, GainsAreJustified, ReadsAreJustified, TouchesAreJustified};
 

@@ -1,6 +1,6 @@
-//! Laws of what the steps of a process cannot do if it is pledged without a promise, pledge(2).
+//! Laws of the limits of the steps of a process that is pledged without a promise, pledge(2).
 
-ghost use Rattle.pv_laws_access.specs.Lacking.{BytesChangeByDescriptor, NoNodeIsMade, NoImageBegins, NoChildBegins, TablesStay, WalksNowhere, TouchesByDescriptor, MissingPromisesDecide, ErrorSpares, ErrorNarrows};
+ghost use Rattle.pv_laws_access.specs.Lacking.{BytesChangeByDescriptor, NoNodeIsMade, NoImageBegins, NoChildBegins, TablesStay, WalksNowhere, TouchesByDescriptor, MissingPromisesDecide, ErrorNeverKills, ErrorNarrowsPledge};
 
 /// Without `wpath`, a step changes the bytes of a file that stays only by a descriptor of the call that is open for
 /// writing.
@@ -47,10 +47,10 @@ pub fn missing_promises_decide()
 
 /// A step does not kill a process that has `error`.
 pub fn error_spares()
-    ensures { ErrorSpares }
+    ensures { ErrorNeverKills }
 {}
 
 /// Under `error`, pledge never fails with EPERM.
 pub fn error_narrows()
-    ensures { ErrorNarrows }
+    ensures { ErrorNarrowsPledge }
 {}

@@ -1,4 +1,5 @@
-//! Laws of access control: what a sandboxed process can reach, which files stay secret, and what each refusal means.
+//! Laws of access control: the reach of a sandboxed process, the files that stay secret, and the meaning of each
+//! refusal.
 //!
 //! Each law is a function with an empty body whose contract is the statement, defined in `specs/`.
 //!

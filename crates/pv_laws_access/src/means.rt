@@ -1,4 +1,4 @@
-//! Laws of what the steps of a pledged process can change and gain, pledge(2).
+//! Laws of the possible changes and gains of the steps of a pledged process, pledge(2).
 
 ghost use Rattle.pv_laws_access.specs.Means.{WithoutCpath, WithoutWpath, WithoutRpath};
 

@@ -1,11 +1,11 @@
 //! Laws of the results of an audit.
 
-ghost use Rattle.pv_laws_access.specs.Reasons.{LeaksNothingWhereClosed, FrozenToIsTested, FirstLeakIsFirstReason, FirstLeakIsOfFirstProcess, VerdictsAreExact};
+ghost use Rattle.pv_laws_access.specs.Reasons.{LeaksNothingIfClosed, FrozenToIsTested, FirstLeakIsFirstReason, FirstLeakIsOfFirstProcess, VerdictsAreExact};
 
 /// The list of leaks of a process and a file is empty if and only if the process is closed to the file by the
 /// conditions of `IsClosed`.
 pub fn leaks_nothing_where_closed()
-    ensures { LeaksNothingWhereClosed }
+    ensures { LeaksNothingIfClosed }
 {}
 
 /// The test for a frozen file succeeds for a process if and only if `IsFrozenTo` holds.

@@ -1,6 +1,6 @@
 //! Laws of refusals by an unveil table, unveil(2).
 
-ghost use Rattle.pv_laws_access.specs.TableRefusals.{TableRefusesExactly, LockRefusesExactly, LinesSayWhatDecided};
+ghost use Rattle.pv_laws_access.specs.TableRefusals.{TableRefusesExactly, LockRefusesExactly, LinesReportDecisions};
 
 /// A refusal of a call other than unveil names entry k if and only if k governs the place where the call stopped and
 /// lacks a permission needed there; it names no entry if and only if none governs the place. A refusal of an unveil
@@ -18,5 +18,5 @@ pub fn lock_refuses_exactly()
 /// The UNVL lines of a call report exactly the decision of the table: the entry, or that there is none, with the
 /// permissions that the call needs at the place where it stopped; or the lock; or nothing if neither refused the call.
 pub fn lines_say_what_decided()
-    ensures { LinesSayWhatDecided }
+    ensures { LinesReportDecisions }
 {}

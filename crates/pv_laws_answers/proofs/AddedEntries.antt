@@ -9,9 +9,9 @@ use Rattle.pv_model.specs.declared.perms.Perms.{Perms}
 use Rattle.pv_model.specs.declared.target.Target.{Target}
 use Rattle.pv_model.specs.Machine.{Setting, refused, give, refuse, covers, Table, same_target, entry_for, permissions_at, with_permissions}
 use Rattle.pv_model.specs.Answers.Settings.{set_at}
-use Rattle.pv_model.specs.Calls.Restraints.{add_entry}
-use Rattle.pv_laws_states.proofs.Attempts.{Leads}
-use Rattle.pv_laws_trees.proofs.Targets.{same_target-itself}
+use Rattle.pv_model.specs.Calls.Restraints.{add_table_entry}
+use Rattle.pv_laws_states.proofs.AttemptValues.{Leads}
+use Rattle.pv_laws_trees.proofs.UnveilTargets.{same_target-itself}
 
 -- ---- the first element that passes a test
 
@@ -127,7 +127,7 @@ pub record IsAdded (old : Table) (target : Target) (permissions : Perms) (new : 
   pub found : entry_for new target ≡ Some number
   pub with : IsWith old number (target, permissions) new
 
-pub leads-added : (old : Table) (target : Target) (permissions : Perms) → Leads (IsAdded old target permissions) (add_entry old target permissions (entry_for old target))
+pub leads-added : (old : Table) (target : Target) (permissions : Perms) → Leads (IsAdded old target permissions) (add_table_entry old target permissions (entry_for old target))
 leads-added old target permissions = by (entry_for old target) refl
   where
     narrowed : (k : ℕ) → entry_for old target ≡ Some k → (b : Bool) → Leads (IsAdded old target permissions) (if b then give (with_permissions old k target permissions) else refused 0 EPERM (ByUnveil (Some k)))
@@ -152,7 +152,7 @@ leads-added old target permissions = by (entry_for old target) refl
       with = pushed-with old (target, permissions);
     }
 
-    by : (o : Option ℕ) → entry_for old target ≡ o → Leads (IsAdded old target permissions) (add_entry old target permissions o)
+    by : (o : Option ℕ) → entry_for old target ≡ o → Leads (IsAdded old target permissions) (add_table_entry old target permissions o)
     by (Some k) is = narrowed k is (covers (permissions_at old k) permissions)
     by None none = appended none (nat_le 64 (length old))
 

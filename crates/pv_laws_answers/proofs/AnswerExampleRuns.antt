@@ -17,7 +17,7 @@ use Rattle.pv_model.specs.declared.target.Target.TheVariants.{Directory}
 use Rattle.pv_model.specs.Promises.{mask}
 use Rattle.pv_laws_states.specs.ExampleStates.{no_programs}
 use Rattle.pv_laws_states.proofs.ExampleStates.{or_first}
-use Rattle.pv_laws_answers.specs.OverTime.{letters_at, IsOwnStep, place_in}
+use Rattle.pv_laws_answers.specs.OverTime.{permissions_of_name, IsOwnStep, place_in}
 use Rattle.pv_laws_answers.specs.Reach.{AsksAt, opening_for}
 use Rattle.pv_laws_answers.specs.Settings.{settings_along}
 use Rattle.pv_laws_answers.specs.Wanted.{reports_need}
@@ -45,15 +45,15 @@ narrows : IsOwnStep no_programs (state_after_moves 5) 1 (first_after 5) (first_a
 unfolding answers_on_literals
 narrows = record { at = refl; left = refl; in_image = refl; in_force = refl; locked = refl }
 
-before : letters_at (state_after_moves 4) (first_after 4) 4 (codes "y") ≡ only_c
+before : permissions_of_name (state_after_moves 4) (first_after 4) 4 (codes "y") ≡ only_c
 unfolding answers_on_literals
 before = refl
 
-come : letters_at (state_after_moves 5) (first_after 5) 4 (codes "y") ≡ r_and_c
+come : permissions_of_name (state_after_moves 5) (first_after 5) 4 (codes "y") ≡ r_and_c
 unfolding answers_on_literals
 come = refl
 
-gone : letters_at (state_after_moves 6) (first_after 6) 4 (codes "y") ≡ only_c
+gone : permissions_of_name (state_after_moves 6) (first_after 6) 4 (codes "y") ≡ only_c
 unfolding answers_on_literals
 gone = refl
 

@@ -21,19 +21,19 @@ use Rattle.pv_model.specs.Machine.{Answered, answer, answer_of, answer_where, an
 use Rattle.pv_model.specs.Answers.Reach.{reached_permissions}
 use Rattle.pv_model.specs.Perms.{permission_w}
 use Rattle.pv_model.specs.Walks.{unlink_walk}
-use Rattle.pv_laws_states.specs.Courses.{is_of_table, walks_in_sequence, IsAfter, IsStoppedEarly, GoesAlong}
+use Rattle.pv_laws_states.specs.Courses.{is_of_table, walks_in_sequence, IsAfter, IsStoppedEarly, IsOnCourse}
 use Rattle.pv_laws_states.proofs.CallWalks.{begins-found, calls-along}
-use Rattle.pv_laws_states.proofs.Outcomes.{at_call}
-use Rattle.pv_laws_states.proofs.CallRests
+use Rattle.pv_laws_states.proofs.CallOutcomes.{at_call}
+use Rattle.pv_laws_states.proofs.CallRemainders
 use Rattle.pv_laws_access.specs.Promises.{IsFirstMissing, IsRefusedByPromise, missing, increase}
-use Rattle.pv_laws_access.proofs.Decisions.{NotByTable, Ends, walks_in, answer-decides}
+use Rattle.pv_laws_access.proofs.WalkDecisions.{NotByTable, Ends, walks_in, answer-decides}
 use Rattle.pv_laws_access.proofs.FirstMissing.{first-missing-named}
 use Rattle.pv_laws_access.proofs.PromiseRefusals.{promise-refuses, promise-kills}
 use Rattle.pv_laws_access.proofs.PledgeRefusals.{is_pledge}
-use Rattle.pv_laws_answers.specs.Reach.{is_by_sandbox, needs_for, is_some_letter, AsksAt, HasRoomToOpen, LeadsThere, opening_for}
+use Rattle.pv_laws_answers.specs.Reach.{is_by_sandbox, needs_for, is_one_permission, AsksAt, HasRoomToOpen, LeadsToItself, opening_for}
 use Rattle.pv_laws_answers.proofs.SinglePermissions.{holds-needs, needs-holds, allows-all, all-allows, reached-parts, parts-reached}
 use Rattle.pv_laws_answers.proofs.FinalLinks.{keeps-last}
-use Rattle.pv_laws_trees.proofs.Targets.{covers-r, covers-w, covers-x, covers-c}
+use Rattle.pv_laws_trees.proofs.UnveilTargets.{covers-r, covers-w, covers-x, covers-c}
 
 -- ---- outcomes
 
@@ -110,7 +110,7 @@ no-pledge call w ws only = by (is_pledge call) refl
 -- ---- one walk
 
 module _ (program_of : Bytes → Option Program) (s : State) (pid : ℕ) (p : Process) (call : Call) (place : Place) (asked : Perms) (at : process_at s pid ≡ Some p)
-    (asks : AsksAt program_of s pid p call place asked) (some : is_some_letter asked ≡ true) where
+    (asks : AsksAt program_of s pid p call place asked) (some : is_one_permission asked ≡ true) where
   abbrev a : Answered
   a = answer program_of s pid call
 
@@ -152,7 +152,7 @@ module _ (program_of : Bytes → Option Program) (s : State) (pid : ℕ) (p : Pr
 
 -- ---- calls and their walks
 
--- a walk that ends at a place is begun and is judged
+-- a walk that ends at a place is begun and is checked
 pub along-one : (s : State) (me : Process) (w : Walk) (ws : List Walk) (place : Place) → end_of s me w ≡ Ok place
     → walks_in_sequence s me (w ∷ ws) ≡ after_walks 1 (judgement_or_refusal (judgement s.tree me.table place w.needed) >> walks_in_sequence s me ws)
 along-one s me w ws place end =
@@ -168,7 +168,7 @@ stopped-late : (a : Attempt Effect) → IsStoppedEarly (after_walks 1 a) → ⊥
 stopped-late (done walks value) is = is
 stopped-late (refused walks errno cause) is = omega (arith, is.0)
 
-one-begun : (j : Judgement) (a : Attempt Effect) → GoesAlong (after_walks 1 (judgement_or_refusal j >> give (tt {0}))) a → walks_in a ≡ 1
+one-begun : (j : Judgement) (a : Attempt Effect) → IsOnCourse (after_walks 1 (judgement_or_refusal j >> give (tt {0}))) a → walks_in a ≡ 1
 one-begun Allowed (done walks value) goes = goes
 one-begun Allowed (refused walks errno cause) goes = goes.0
 one-begun Hidden a goes = ap walks_in goes
@@ -195,7 +195,7 @@ module _ (program_of : Bytes → Option Program) (s : State) (pid : ℕ) (p : Pr
       ap (λ (r : Answered). r.walks) (met-answer program_of s pid p call at met) ∙ walks-reported s x pid now (effect program_of x pid now call)
       ∙ ⊎_elim (λ stopped. absurd (goes stopped))
       (λ along'. one-begun (judgement s.tree p.table place w.needed) (effect program_of x pid now call)
-      (subst (λ c. GoesAlong c (effect program_of x pid now call)) (ap (walks_in_sequence x now) only ∙ along-one x now w [] place end) along'))
+      (subst (λ c. IsOnCourse c (effect program_of x pid now call)) (ap (walks_in_sequence x now) only ∙ along-one x now w [] place end) along'))
       (calls-along program_of x pid now call plain)
 
   walks-late : (w : Walk) (onward : Place → Attempt Effect) (place : Place) → end_of x now w ≡ Ok place → IsStoppedEarly (walk x now w >>= onward) → ⊥
@@ -209,7 +209,7 @@ module _ (program_of : Bytes → Option Program) (s : State) (pid : ℕ) (p : Pr
   unfolding effect
   open-goes path f place fits few few_files end is =
       let w = open_walk WorkingDirectory path f in
-      let onward : Place → Attempt Effect = λ place. judge x now w place >> CallRests.open_1 x pid now f place in
+      let onward : Place → Attempt Effect = λ place. judge x now w place >> CallRemainders.open_1 x pid now f place in
       let one = subst (λ b. IsStoppedEarly (refuse_if EINVAL b >> (give (tt {0}) >> (refuse_if EMFILE (nat_le 16 (least_free p.descriptors)) >> (refuse_if ENFILE (nat_le 128 (least_free s.files)) >> (walk x now w >>= onward)))))) fits is in
       let two = subst (λ b. IsStoppedEarly (refuse_if EMFILE b >> (refuse_if ENFILE (nat_le 128 (least_free s.files)) >> (walk x now w >>= onward)))) few
       (stopped-inner (refuse_if EMFILE (nat_le 16 (least_free p.descriptors)) >> (refuse_if ENFILE (nat_le 128 (least_free s.files)) >> (walk x now w >>= onward)))
@@ -220,27 +220,27 @@ module _ (program_of : Bytes → Option Program) (s : State) (pid : ℕ) (p : Pr
 
   execve-goes : (path : Bytes) (place : Place) → end_of s p (execve_walk path) ≡ Ok place → IsStoppedEarly (effect program_of x pid now (TheCall.Execve path)) → ⊥
   unfolding effect
-  execve-goes path place end is = walks-late (execve_walk path) (λ place. judge x now (execve_walk path) place >> CallRests.execve_1 x pid now program_of place) place end is
+  execve-goes path place end is = walks-late (execve_walk path) (λ place. judge x now (execve_walk path) place >> CallRemainders.execve_1 x pid now program_of place) place end is
 
   unlink-goes : (path : Bytes) (place : Place) → end_of s p (unlink_walk path) ≡ Ok place → IsStoppedEarly (effect program_of x pid now (TheCall.Unlink path)) → ⊥
   unfolding effect
-  unlink-goes path place end is = walks-late (unlink_walk path) (λ place. judge x now (unlink_walk path) place >> CallRests.unlink_1 x pid now place) place end is
+  unlink-goes path place end is = walks-late (unlink_walk path) (λ place. judge x now (unlink_walk path) place >> CallRemainders.unlink_1 x pid now place) place end is
 
   rename-goes : (path new : Bytes) (place : Place) → (ends_in_dot path || ends_in_dot new) ≡ false → end_of s p (rename_walk path) ≡ Ok place → IsStoppedEarly (effect program_of x pid now (TheCall.Rename path new)) → ⊥
   unfolding effect
   rename-goes path new place fits end is =
-      let onward : Place → Attempt Effect = λ place. judge x now (rename_walk path) place >> CallRests.rename_1 x pid now new place in
+      let onward : Place → Attempt Effect = λ place. judge x now (rename_walk path) place >> CallRemainders.rename_1 x pid now new place in
       walks-late (rename_walk path) onward place end
       (stopped-inner (walk x now (rename_walk path) >>= onward) (subst (λ b. IsStoppedEarly (refuse_if EINVAL b >> (walk x now (rename_walk path) >>= onward))) fits is))
 
-  -- ---- what single calls show
+  -- ---- the permissions that single calls show
 
-  shown : (call : Call) (place : Place) (letter : Perms) (appears : Bool) → AsksAt program_of s pid p call place letter → is_some_letter letter ≡ true
+  shown : (call : Call) (place : Place) (letter : Perms) (appears : Bool) → AsksAt program_of s pid p call place letter → is_one_permission letter ≡ true
       → covers (reached_permissions s p place) letter ≡ appears → (is_by_sandbox (answer program_of s pid call).outcome ≡ false) ↔ (appears ≡ true)
   shown call place letter appears asks some same =
       let exact = reach-exact program_of s pid p call place letter at asks some in (λ spared. sym same ∙ exact.0 spared, λ is. exact.1 (same ∙ is))
 
-  pub open-r : (path : Bytes) (place : Place) → HasRoomToOpen s p → LeadsThere s p path place
+  pub open-r : (path : Bytes) (place : Place) → HasRoomToOpen s p → LeadsToItself s p path place
       → (is_by_sandbox (answer program_of s pid (TheCall.Open path (opening_for Read))).outcome ≡ false) ↔ ((reached_permissions s p place).r ≡ true)
   unfolding needs
   open-r path place room leads =
@@ -250,7 +250,7 @@ module _ (program_of : Bytes → Option Program) (s : State) (pid : ℕ) (p : Pr
       (record { walk = w; only = refl; end = leads; asks = refl; goes_with = refl; made = makes-one call w place refl refl leads (open-goes path (opening_for Read) place refl room.0 room.1 leads) })
       refl (covers-r (reached_permissions s p place))
 
-  pub open-w : (path : Bytes) (place : Place) → HasRoomToOpen s p → LeadsThere s p path place
+  pub open-w : (path : Bytes) (place : Place) → HasRoomToOpen s p → LeadsToItself s p path place
       → (is_by_sandbox (answer program_of s pid (TheCall.Open path (opening_for Write))).outcome ≡ false) ↔ ((reached_permissions s p place).w ≡ true)
   unfolding needs
   open-w path place room leads =
@@ -260,7 +260,7 @@ module _ (program_of : Bytes → Option Program) (s : State) (pid : ℕ) (p : Pr
       (record { walk = w; only = refl; end = leads; asks = refl; goes_with = refl; made = makes-one call w place refl refl leads (open-goes path (opening_for Write) place refl room.0 room.1 leads) })
       refl (covers-w (reached_permissions s p place))
 
-  pub execve-x : (path : Bytes) (place : Place) → LeadsThere s p path place → is_link (option_and_then (node_at s.tree) (node_of place)) ≡ false
+  pub execve-x : (path : Bytes) (place : Place) → LeadsToItself s p path place → is_link (option_and_then (node_at s.tree) (node_of place)) ≡ false
       → (is_by_sandbox (answer program_of s pid (TheCall.Execve path)).outcome ≡ false) ↔ ((reached_permissions s p place).x ≡ true)
   unfolding needs
   execve-x path place leads plain =
@@ -271,7 +271,7 @@ module _ (program_of : Bytes → Option Program) (s : State) (pid : ℕ) (p : Pr
       (record { walk = w; only = refl; end = end; asks = refl; goes_with = refl; made = makes-one call w place refl refl end (execve-goes path place end) })
       refl (covers-x (reached_permissions s p place))
 
-  pub unlink-c : (path : Bytes) (place : Place) → LeadsThere s p path place
+  pub unlink-c : (path : Bytes) (place : Place) → LeadsToItself s p path place
       → (is_by_sandbox (answer program_of s pid (TheCall.Unlink path)).outcome ≡ false) ↔ ((reached_permissions s p place).c ≡ true)
   unfolding needs
   unlink-c path place leads =
@@ -295,7 +295,7 @@ module _ (program_of : Bytes → Option Program) (s : State) (pid : ℕ) (p : Pr
   two_judged i j = after_walks 1 (judgement_or_refusal i >> after_walks 1 (judgement_or_refusal j >> give (tt {0})))
 
   -- both places are allowed, or the table refuses
-  both-allow : (i j : Judgement) (e : Attempt Effect) → GoesAlong (two_judged i j) e
+  both-allow : (i j : Judgement) (e : Attempt Effect) → IsOnCourse (two_judged i j) e
       → ((is_allowed i ≡ true) × (is_allowed j ≡ true) × NotByTable (answer_by_attempt s x pid now e).outcome)
       ⊎ (((is_allowed i ≡ false) ⊎ (is_allowed j ≡ false)) × (is_by_sandbox (answer_by_attempt s x pid now e).outcome ≡ true))
   both-allow Allowed Allowed e goes = inl (refl, refl, after-open 2 e goes)
@@ -324,10 +324,10 @@ module _ (program_of : Bytes → Option Program) (s : State) (pid : ℕ) (p : Pr
         ∙ parts-reached s p place permission_c (needs-holds p.promises permission_c met)
         (record { r = λ asks. cc asks; w = λ asks. cc asks; x = λ asks. cc asks; c = λ asks. allowed })
 
-    along-two : GoesAlong (two_judged (judgement s.tree p.table from permission_c) (judgement s.tree p.table into permission_c)) (effect program_of x pid now renaming)
+    along-two : IsOnCourse (two_judged (judgement s.tree p.table from permission_c) (judgement s.tree p.table into permission_c)) (effect program_of x pid now renaming)
     along-two =
         ⊎_elim (λ stopped. absurd (rename-goes path new from fits end stopped))
-        (λ goes. subst (λ c. GoesAlong c (effect program_of x pid now renaming))
+        (λ goes. subst (λ c. IsOnCourse c (effect program_of x pid now renaming))
         (along-one x now (rename_walk path) (rename_walk new ∷ []) from end
         ∙ ap (λ c. after_walks 1 (judgement_or_refusal (judgement s.tree p.table from permission_c) >> c)) (along-one x now (rename_walk new) [] into last)) goes)
         (calls-along program_of x pid now renaming refl)

@@ -1,11 +1,9 @@
 -- If a search is complete, each item that is observed of a step of a live process is reported.
 use Rattle.std.proofs.Common.{◌≡◌, ◌∙◌, sym, ap, subst, ℕ, true, bytes_eq, List, [], map, Option, None, Some, ◌⊎◌, inl, inr, refl}
 use Rattle.std.specs.List.{AllByRecursion, list_any}
-use Rattle.pv_model.specs.Machine.{lines_of_accesses, Found, Move, move, moves_of, states_found, is_complete, AnswerLine, answer_line_bytes, Numbers, Observer, Observation, observed, observations, first_observations, of_process, of_calls, Bytes, live_processes, Program, Process, State, process_at, step, run}
-use Rattle.pv_model.specs.Answers.Access.{reported_accesses}
+use Rattle.pv_model.specs.Machine.{Found, Move, move, moves_of, states_found, is_complete, Numbers, Observer, Observation, observed, observations, first_observations, Bytes, live_processes, Program, Process, State, process_at, step, run}
 use Rattle.pv_model.specs.Answers.Observed.{observations_at}
-use Rattle.pv_laws_trees.proofs.Entries.{bytes_eq-itself}
-use Rattle.pv_laws_answers.specs.Accesses.{EachAccessIsListed, is_access_listed}
+use Rattle.pv_laws_trees.proofs.DirectoryEntries.{bytes_eq-itself}
 use Rattle.pv_laws_answers.specs.Search.{IsSearchable}
 use Rattle.pv_laws_answers.proofs.CompleteSearches.{found-there, all-found}
 use Rattle.pv_laws_answers.proofs.Lists.{Among, among-map, among-flat, any-among, each-from_among}
@@ -40,18 +38,3 @@ module _ {X : Type 0} (observe : Observer X) (key : X → Numbers) (program_of :
       let g = there.0 in
       let own = among-map (λ (r : ℕ × Process). move program_of g r.0) (pid, p) (live_processes g.state.processes) (live-listed g.state pid p (ap (λ u. process_at u pid) there.2 ∙ lives)) in
       seen-reported g there.1 (move program_of g pid) own x (subst (λ (u : State). Among x (observe u pid (step program_of u pid))) (sym there.2) has)
-
-pub each-access-listed : EachAccessIsListed
-each-access-listed program_of limit s pids pid it complete = by (process_at t pid) refl
-  where
-    t : State
-    t = (run program_of pids s).final
-
-    Listed : AnswerLine → Type 0
-    Listed access = is_access_listed access (reported_accesses program_of limit s) ≡ true
-
-    by : (o : Option Process) → process_at t pid ≡ o → AllByRecursion Listed (of_calls lines_of_accesses t pid (step program_of t pid))
-    by None none = subst (λ (o : Option Process). AllByRecursion Listed (of_process lines_of_accesses t pid (step program_of t pid) o)) (sym none) tt
-    by (Some p) lives =
-        each-from_among Listed (of_calls lines_of_accesses t pid (step program_of t pid))
-        (λ access has. all-observed (of_calls lines_of_accesses) answer_line_bytes program_of limit s it complete pids pid p lives access has)

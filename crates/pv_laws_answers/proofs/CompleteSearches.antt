@@ -4,7 +4,7 @@ use Rattle.std.specs.List.{list_any}
 use Rattle.pv_model.specs.Machine.{Found, Move, move, moves_of, states_found, is_complete, move_text, has_ended, endings, same_state, tree_numbers, Bytes, live_processes, named_tree, Program, Process, State, process_at, step, step_of, run, Tree}
 use Rattle.pv_model.specs.Answers.Explore.{is_found, moves}
 use Rattle.pv_model.specs.Step.{final_tree}
-use Rattle.pv_laws_trees.proofs.Entries.{bytes_eq-itself}
+use Rattle.pv_laws_trees.proofs.DirectoryEntries.{bytes_eq-itself}
 use Rattle.pv_laws_answers.specs.Search.{IsSearchable, text_of_step, reported}
 use Rattle.pv_laws_answers.proofs.Lists.{Among, among-any, among-map, among-flat, among-filter, any-among, all-among}
 use Rattle.pv_laws_answers.proofs.LiveProcesses.{live-listed}

@@ -13,16 +13,16 @@ use Rattle.pv_model.specs.declared.target.Target.{Target}
 use Rattle.pv_model.specs.Machine.{answer, settings_next, Setting, Settings, settings_of, Bytes, entries_of_table, end_of, needs, no_permissions, Next, inside, calls_for, next, Promises, missing_promise, Program, Process, State, process_at, Stepped, step, step_by, Run, run, place_found, Table, entry_for, target_of, unveil_walk, is_unveil}
 use Rattle.pv_model.specs.Answers.Explain.{settings_by, settings_of_step}
 use Rattle.pv_model.specs.Answers.Settings.{set_at, of_earlier_program, after_execve, entry_given, table_entry, after_unveil, settings_after}
-use Rattle.pv_model.proofs.Runs.{run-append}
+use Rattle.pv_model.proofs.RunComposition.{run-append}
 use Rattle.pv_laws_states.specs.States.{EncodesPrograms, IsValid}
-use Rattle.pv_laws_states.proofs.BySteps.{run-keeps_whole}
-use Rattle.pv_laws_states.proofs.Outcomes.{next-number}
+use Rattle.pv_laws_states.proofs.ValidBySteps.{run-keeps_valid}
+use Rattle.pv_laws_states.proofs.CallOutcomes.{next-number}
 use Rattle.pv_laws_states.proofs.Processes.{find-put_same, find-put_other, process_at-same, process_at-other}
 use Rattle.pv_laws_access.specs.Growth.{begins_image, HasExecuted}
-use Rattle.pv_laws_access.proofs.Ends.{alone-same, whole-in_order, not_next, IsSameNext, same-next, step-is, step-gone}
+use Rattle.pv_laws_access.proofs.ProcessesAfterEnds.{alone-same, valid-in_order, not_next, IsSameNext, same-next, step-is, step-gone}
 use Rattle.pv_laws_access.proofs.ProgramImages.{tables-stay, others-keep, execve-leaves}
 use Rattle.pv_laws_access.specs.Origins.{origin}
-use Rattle.pv_laws_access.proofs.Provenance.{heirs}
+use Rattle.pv_laws_access.proofs.ProcessOrigins.{heirs}
 use Rattle.pv_laws_answers.specs.Settings.{HasNoTables, settings_along, SetsEntry, begins_by, begins_program_of, StaysSet, WasSet}
 use Rattle.pv_laws_answers.proofs.AddedEntries.{IsWith, set_at-with, with-length}
 use Rattle.pv_laws_answers.proofs.TablesAfterSteps.{HasUnveiled, IsNoValue, UnveilLeft, unveil-left, fork-born}
@@ -166,7 +166,7 @@ module _ (program_of : Bytes → Option Program) (s : State) (pid : ℕ) (whole 
       free : (k : ℕ) (p : Process) → process_at s k ≡ Some p → (child : ℕ) → call ≡ TheCall.Fork → outcome ≡ Value child → k ≢ child
       free k p there child forks answered same =
           let number = next-number program_of s pid child (subst (λ c. (answer program_of s pid c).outcome ≡ Value child) forks (sym reported ∙ answered)) in
-          not_next s (whole-in_order s whole) k p there (same ∙ number.next)
+          not_next s (valid-in_order s whole) k p there (same ∙ number.next)
 
       no_set : is_unveil call ≡ false → (k number : ℕ) → SetsNot k number
       no_set plain k number other e set same =
@@ -188,7 +188,7 @@ module _ (program_of : Bytes → Option Program) (s : State) (pid : ℕ) (whole 
 
       beside : (k : ℕ) (q p : Process) → k ≢ pid → process_at s k ≡ Some p → process_at after k ≡ Some q → ComesOf k q
       beside k q p apart old there =
-          let preserved = others-keep program_of s pid k p (whole-in_order s whole) apart old in
+          let preserved = others-keep program_of s pid k p (valid-in_order s whole) apart old in
           let both : Some preserved.0 ≡ Some q = sym preserved.1 ∙ there in
           let same : preserved.0 ≡ q = cc both in
           carries k p false (own-origin k p old) old
@@ -230,7 +230,7 @@ module _ (program_of : Bytes → Option Program) (s : State) (pid : ℕ) (whole 
         stays : is_unveil call ≡ false → begins_image (calls_for call) outcome ≡ false → ComesOf pid q
         stays plain quiet =
             let begins : begins_image (next me) outcome ≡ false = ap (λ n. begins_image n outcome) is ∙ quiet in
-            let preserved = tables-stay program_of s pid me q (whole-in_order s whole) at there begins
+            let preserved = tables-stay program_of s pid me q (valid-in_order s whole) at there begins
             (λ c which. let calls : calls_for c ≡ calls_for call = sym which ∙ is in let same : c ≡ call = cc calls in ap is_unveil same ∙ plain) in
             carries pid me false (own-origin pid me at) at (ap entries_of_table preserved.0)
             (ap (λ a. settings_of a pid) next-is ∙ still-settings call outcome plain quiet (free pid me at)) (here-begins me at ∙ begins) (no_set plain pid)
@@ -337,7 +337,7 @@ module _ (program_of : Bytes → Option Program) (s : State) (pid : ℕ) (whole 
             by (TheCall.Unveil path text) unveils =
                 by-unveil path text unveils
                 (subst (UnveilLeft s me path text q) (sym (reported ∙ ap (λ c. (answer program_of s pid c).outcome) unveils))
-                (unveil-left program_of s pid me path text q (whole-in_order s whole).ascending at
+                (unveil-left program_of s pid me path text q (valid-in_order s whole).ascending at
                 (ap (λ c. process_at (answer program_of s pid c).after pid) (sym unveils) ∙ sym (left pid) ∙ there)))
             by (TheCall.Execve path) executes = quiet path executes outcome refl
             by c calls = stays (ap is_unveil calls) (ap (λ c. begins_image (calls_for c) outcome) calls)
@@ -434,7 +434,7 @@ module _ (program_of : Bytes → Option Program) where
       pids = before ++ pid ∷ []
 
       s-whole : IsValid s
-      s-whole = run-keeps_whole program_of encodes before first whole
+      s-whole = run-keeps_valid program_of encodes before first whole
 
       settings-are : (k : ℕ) → settings_of (settings pids) k ≡ settings_of (settings_next program_of s pid (settings before)) k
       settings-are k = ap (λ a. settings_of a k) (settings-more before pid [] first)

@@ -10,7 +10,7 @@ use Rattle.pv_model.specs.declared.promise.Promise.{Promise}
 use Rattle.pv_model.specs.declared.promise.Promise.TheVariants.{Stdio}
 use Rattle.pv_model.specs.Machine.{Numbers, same_state, errno_number, all_promises, State}
 use Rattle.pv_model.specs.Promise.{promise_bit}
-use Rattle.pv_laws_trees.proofs.Entries.{bytes_eq-same, bytes_eq-itself}
+use Rattle.pv_laws_trees.proofs.DirectoryEntries.{bytes_eq-same, bytes_eq-itself}
 use Rattle.pv_laws_answers.proofs.StateDecoding.{reported-apart}
 
 -- ---- decoding the numbers of an outcome

@@ -15,7 +15,7 @@ use Rattle.pv_laws_access.proofs.SimilarTrees.{as_is, as_is-fine, same-but_file}
 use Rattle.pv_laws_access.proofs.ExampleRuns.{other_byte}
 use Rattle.pv_laws_answers.specs.SearchExamples.{start, graph, UnreadExamples, GraphExamples}
 use Rattle.pv_laws_answers.specs.Graphs.{HasStepLines}
-use Rattle.pv_laws_answers.specs.Unread.{IsReadByNone}
+use Rattle.pv_laws_answers.specs.Unread.{IsNeverRead}
 use Rattle.pv_laws_answers.proofs.Lists.{all-among, none-among, each-from_among}
 use Rattle.pv_laws_answers.proofs.LiveProcesses.{live-listed}
 
@@ -65,7 +65,7 @@ spares-unread program_of f g spared pid lives reads =
     by true is = let bad : false ≡ true = is in cc bad
     by false is = refl
 
-all-spare : (program_of : Bytes → Option Program) (limit : ℕ) (s : State) (f : ℕ) → list_all (spares f) (states_found program_of limit s) ≡ true → IsReadByNone program_of limit s f
+all-spare : (program_of : Bytes → Option Program) (limit : ℕ) (s : State) (f : ℕ) → list_all (spares f) (states_found program_of limit s) ≡ true → IsNeverRead program_of limit s f
 all-spare program_of limit s f spared =
     each-from_among (λ (g : Found). (pid : ℕ) → is_some (process_at g.state pid) ≡ true → Touches program_of g.state pid (read_file f) → ⊥) (states_found program_of limit s)
     (λ g within. spares-unread program_of f g (all-among (spares f) (states_found program_of limit s) spared g within))

@@ -12,12 +12,12 @@ use Rattle.pv_model.specs.Answers.Graph.{unreported}
 use Rattle.pv_model.specs.Answers.Levels.{Level, levels}
 use Rattle.pv_model.specs.Answers.ProcessRecord.{location_lines}
 use Rattle.pv_model.specs.Trace.{UnveilVerdict, entry_lacks, table_locked, asked_permissions, psig_word, wait_word, gone_word, gone_lines}
-use Rattle.pv_laws_answers.specs.Graphs.{is_beside, explained_run, AreSameButSettings}
+use Rattle.pv_laws_answers.specs.Graphs.{is_added_line, explained_run, AreSameExceptSettings}
 use Rattle.pv_laws_answers.proofs.MarkedLists.{none-map, none-flat}
 
 module _ (program_of : Bytes → Option Program) where
   abbrev Same : List AnswerLine → List AnswerLine → Type 0
-  Same ls ms = AreSameButSettings program_of ls ms
+  Same ls ms = AreSameExceptSettings program_of ls ms
 
   same-append : (ls ms xs ys : List AnswerLine) → Same ls ms → Same xs ys → Same (ls ++ xs) (ms ++ ys)
   same-append [] [] xs ys front back = back
@@ -118,7 +118,7 @@ module _ (program_of : Bytes → Option Program) where
 
 -- ---- the additional lines of `explain`
 
-word-own : (pid : ℕ) (word : Word) → is_beside (of_trace (record { pid = pid; word = word })) ≡ false
+word-own : (pid : ℕ) (word : Word) → is_added_line (of_trace (record { pid = pid; word = word })) ≡ false
 word-own pid (call_word call) = refl
 word-own pid (nami_word path) = refl
 word-own pid (pldg_word call promise verdict) = refl
@@ -130,11 +130,11 @@ word-own pid wait_word = refl
 word-own pid gone_word = refl
 
 module _ (s : State) (pid : ℕ) (p : Process) (source : ℕ → Bytes) (call : Call) (a : Answered) where
-  remarks-own : (word : Word) → list_any is_beside (remarks s pid p source call a word) ≡ false
+  remarks-own : (word : Word) → list_any is_added_line (remarks s pid p source call a word) ≡ false
   remarks-own (call_word c) = refl
   remarks-own (nami_word path) = refl
   remarks-own (pldg_word c promise verdict) = refl
-  remarks-own (unvl_word verdict) = none-map is_beside (answer_line pid (codes "WHY")) (λ text. refl) (unveil_reasons s p source call a.walks verdict)
+  remarks-own (unvl_word verdict) = none-map is_added_line (answer_line pid (codes "WHY")) (λ text. refl) (unveil_reasons s p source call a.walks verdict)
   remarks-own (gio_word witness []) = refl
   remarks-own (gio_word witness (b ∷ bs)) = refl
   remarks-own (ret_word c returned) = refl
@@ -142,51 +142,51 @@ module _ (s : State) (pid : ℕ) (p : Process) (source : ℕ → Bytes) (call : 
   remarks-own wait_word = refl
   remarks-own gone_word = refl
 
-  call-own : list_any is_beside (flat_map (with_remarks s pid p source call a) (call_lines pid p call a)) ≡ false
-  call-own = none-flat is_beside (with_remarks s pid p source call a) (λ l. ap₂ (λ x y. x || y) (word-own l.pid l.word) (remarks-own l.word)) (call_lines pid p call a)
+  call-own : list_any is_added_line (flat_map (with_remarks s pid p source call a) (call_lines pid p call a)) ≡ false
+  call-own = none-flat is_added_line (with_remarks s pid p source call a) (λ l. ap₂ (λ x y. x || y) (word-own l.pid l.word) (remarks-own l.word)) (call_lines pid p call a)
 
 module _ (program_of : Bytes → Option Program) (source : ℕ → Bytes) (s : State) (pid : ℕ) where
-  next-own : (p : Process) (n : Next) → list_any is_beside (explained_next program_of source s pid p n) ≡ false
+  next-own : (p : Process) (n : Next) → list_any is_added_line (explained_next program_of source s pid p n) ≡ false
   next-own p (inside q) = refl
   next-own p (calls_for call) = call-own s pid p source call (answer program_of s pid call)
 
-  of-own : (o : Option Process) → list_any is_beside (explained_of program_of source s pid o) ≡ false
+  of-own : (o : Option Process) → list_any is_added_line (explained_of program_of source s pid o) ≡ false
   of-own None = refl
   of-own (Some p) = next-own p (next p)
 
-  step-own : list_any is_beside (explained_step program_of source s pid) ≡ false
+  step-own : list_any is_added_line (explained_step program_of source s pid) ≡ false
   unfolding explained_step
   step-own = of-own (process_at s pid)
 
-abbrev without_beside : List AnswerLine → List AnswerLine
-without_beside ls = filter (λ l. not (is_beside l)) ls
+abbrev without_added : List AnswerLine → List AnswerLine
+without_added ls = filter (λ l. not (is_added_line l)) ls
 
-preserved-own : (ls rest : List AnswerLine) → list_any is_beside ls ≡ false → without_beside (ls ++ rest) ≡ ls ++ without_beside rest
+preserved-own : (ls rest : List AnswerLine) → list_any is_added_line ls ≡ false → without_added (ls ++ rest) ≡ ls ++ without_added rest
 preserved-own [] rest none = refl
 preserved-own (l ∷ ls) rest none =
-    let parts = or_parts (is_beside l) (list_any is_beside ls) none in
-    ap (λ b. cond (not b) (l ∷ without_beside (ls ++ rest)) (without_beside (ls ++ rest))) parts.0 ∙ ap (λ ms. l ∷ ms) (preserved-own ls rest parts.1)
+    let parts = or_parts (is_added_line l) (list_any is_added_line ls) none in
+    ap (λ b. cond (not b) (l ∷ without_added (ls ++ rest)) (without_added (ls ++ rest))) parts.0 ∙ ap (λ ms. l ∷ ms) (preserved-own ls rest parts.1)
 
-location-beside : (pid : ℕ) (r : ProcessRecord) (rest : List AnswerLine) → without_beside (location_lines pid r ++ rest) ≡ without_beside rest
-location-beside pid (live p) rest = refl
-location-beside pid (ended_record parent status) rest = refl
+location-added : (pid : ℕ) (r : ProcessRecord) (rest : List AnswerLine) → without_added (location_lines pid r ++ rest) ≡ without_added rest
+location-added pid (live p) rest = refl
+location-added pid (ended_record parent status) rest = refl
 
-locations-beside : (rs : List (ℕ × ProcessRecord)) → without_beside (flat_map (λ r. location_lines r.0 r.1) rs) ≡ []
-locations-beside [] = refl
-locations-beside (r ∷ rs) = location-beside r.0 r.1 (flat_map (λ r. location_lines r.0 r.1) rs) ∙ locations-beside rs
+locations-added : (rs : List (ℕ × ProcessRecord)) → without_added (flat_map (λ r. location_lines r.0 r.1) rs) ≡ []
+locations-added [] = refl
+locations-added (r ∷ rs) = location-added r.0 r.1 (flat_map (λ r. location_lines r.0 r.1) rs) ∙ locations-added rs
 
 module _ (program_of : Bytes → Option Program) where
-  explained-from : (k : ℕ) (all : Settings) (pids : List ℕ) (s : State) → AreSameButSettings program_of (explained_run program_of pids s) (without_beside (explain_from program_of k all pids s))
+  explained-from : (k : ℕ) (all : Settings) (pids : List ℕ) (s : State) → AreSameExceptSettings program_of (explained_run program_of pids s) (without_added (explain_from program_of k all pids s))
   unfolding locations
-  explained-from k all [] s = subst (λ ls. AreSameButSettings program_of [] ls) (sym (locations-beside s.processes)) tt
+  explained-from k all [] s = subst (λ ls. AreSameExceptSettings program_of [] ls) (sym (locations-added s.processes)) tt
   explained-from k all (pid ∷ pids) s =
       let source = set_text program_of (settings_of all pid) in
       let after = (step program_of s pid).after in
       let rest = explain_from program_of (k + 1) (settings_next program_of s pid all) pids after in
-      subst (λ ls. AreSameButSettings program_of (explained_run program_of (pid ∷ pids) s) ls) (sym (preserved-own (explained_step program_of source s pid) rest (step-own program_of source s pid)))
-      (same-append program_of (explained_step program_of unreported s pid) (explained_step program_of source s pid) (explained_run program_of pids after) (without_beside rest)
+      subst (λ ls. AreSameExceptSettings program_of (explained_run program_of (pid ∷ pids) s) ls) (sym (preserved-own (explained_step program_of source s pid) rest (step-own program_of source s pid)))
+      (same-append program_of (explained_step program_of unreported s pid) (explained_step program_of source s pid) (explained_run program_of pids after) (without_added rest)
       (same-step program_of (settings_of all pid) s pid) (explained-from (k + 1) (settings_next program_of s pid all) pids after))
 
-  pub witnesses-explained : (pids : List ℕ) (s : State) → AreSameButSettings program_of (explained_run program_of pids s) (filter (λ l. not (is_beside l)) (explain_lines program_of pids s))
+  pub witnesses-explained : (pids : List ℕ) (s : State) → AreSameExceptSettings program_of (explained_run program_of pids s) (filter (λ l. not (is_added_line l)) (explain_lines program_of pids s))
   unfolding explain_lines
   witnesses-explained pids s = explained-from 1 [] pids s

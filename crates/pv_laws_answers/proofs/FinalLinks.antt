@@ -6,7 +6,7 @@ use Rattle.pv_model.specs.declared.place.Place.{Place}
 use Rattle.pv_model.specs.Machine.{Bytes, is_empty, is_link, node_of, Tree, root, node_at, components, is_absolute, Walked, resolve}
 use Rattle.pv_model.specs.Walk.{ends_in_slash}
 use Rattle.pv_laws_trees.specs.Walk
-use Rattle.pv_laws_trees.proofs.Walks.{resolves-as_walked}
+use Rattle.pv_laws_trees.proofs.WalkRelations.{resolves-as_walked}
 
 -- a final link is followed
 follows : (rest : List Bytes) (mark : Bool) → Walk.is_followed rest mark true ≡ true

@@ -19,32 +19,32 @@ use Rattle.pv_model.specs.Promises.{holds}
 use Rattle.pv_model.specs.Touch.{change_entry}
 use Rattle.pv_model.specs.Tree.{itself, above as is_above}
 use Rattle.pv_model.specs.Unveil.{permissions_of, rights_above}
-use Rattle.pv_model.proofs.Rights.{Governs-directory_rights, directory_rights-Governs}
+use Rattle.pv_model.proofs.GoverningEntries.{Governs-directory_rights, directory_rights-Governs}
 use Rattle.pv_laws_trees.specs.Tree.{IsSoundTree}
 use Rattle.pv_laws_trees.proofs.Ancestors.{entry-reached, IsBelow, at_root, one_below, reached-below}
-use Rattle.pv_laws_trees.proofs.Changes.{directory-below, node_at-same, node_at-other, has_entry-directory, still-there, directory_is_some}
-use Rattle.pv_laws_trees.proofs.Edits.{new_number-free}
-use Rattle.pv_laws_trees.proofs.Numbered.{at_number-below}
+use Rattle.pv_laws_trees.proofs.TreeChanges.{directory-below, node_at-same, node_at-other, has_entry-directory, still-there, directory_is_some}
+use Rattle.pv_laws_trees.proofs.WellFormedChanges.{new_number-free}
+use Rattle.pv_laws_trees.proofs.NumberedMaps.{at_number-below}
 use Rattle.pv_laws_trees.proofs.Trees.{ordered, sound, parent-entry, parent-none_named, entry-parent}
-use Rattle.pv_laws_trees.proofs.Targets.{covers-c}
+use Rattle.pv_laws_trees.proofs.UnveilTargets.{covers-c}
 use Rattle.pv_laws_states.specs.States.{is_call, EncodesPrograms, IsTree, IsFinePlace, IsValid}
-use Rattle.pv_laws_states.proofs.BySteps.{step-keeps_whole}
-use Rattle.pv_laws_states.proofs.ByTree.{named-place}
+use Rattle.pv_laws_states.proofs.ValidBySteps.{step-keeps_valid}
+use Rattle.pv_laws_states.proofs.ValidByTree.{named-place}
 use Rattle.pv_laws_states.proofs.ValidEnds.{tree-end}
 use Rattle.pv_laws_states.proofs.GrownTrees.{carries-entries}
-use Rattle.pv_laws_states.proofs.Outcomes.{at_call}
+use Rattle.pv_laws_states.proofs.CallOutcomes.{at_call}
 use Rattle.pv_laws_states.proofs.Processes.{process_at-same, tree-update}
-use Rattle.pv_laws_states.proofs.Replies.{whole-at_call}
-use Rattle.pv_laws_access.specs.Growth.{GainsNone, MayDoNoMore}
+use Rattle.pv_laws_states.proofs.ValidReplies.{valid-at_call}
+use Rattle.pv_laws_access.specs.Growth.{GainsNone, HasNoMoreRights}
 use Rattle.pv_laws_access.proofs.ChangedTrees.{new-within}
-use Rattle.pv_laws_access.proofs.Ends.{whole-in_order}
+use Rattle.pv_laws_access.proofs.ProcessesAfterEnds.{valid-in_order}
 use Rattle.pv_laws_access.proofs.CallEffects
 use Rattle.pv_laws_access.proofs.ProgramImages.{grows-never}
 use Rattle.pv_laws_access.proofs.JustifiedChanges.{entries-edited}
 use Rattle.pv_laws_access.proofs.PromiseLimits.{equal-or_not}
 use Rattle.pv_laws_access.proofs.TouchingCalls.{touched}
 use Rattle.pv_laws_access.proofs.SealedSteps.{collect-there}
-use Rattle.pv_laws_answers.specs.OverTime.{place_in, letters_at, IsOwnStep, LettersOnlyGo, IsThereOrAbove, there as at_name, above_before, above_after, GivesNoC}
+use Rattle.pv_laws_answers.specs.OverTime.{place_in, permissions_of_name, IsOwnStep, PermissionsOnlyDecrease, IsAtOrAbovePlace, there as at_name, above_before, above_after, GrantsNoC}
 use Rattle.pv_laws_answers.proofs.SinglePermissions.{gives-covers, missing-first, need-has}
 use Rattle.pv_laws_answers.proofs.RestraintLines.{permitted}
 use Rattle.pv_laws_answers.specs.Wanted.{Permits}
@@ -298,7 +298,7 @@ preserved-kind program_of s pid whole n old left =
         let same : node_at (collect (update t.after pid t.reported)).tree n ≡ node_at t.after.tree n =
         collect-there (update t.after pid t.reported) n t.touch.0 ∙ ap (λ (u : Tree). node_at u n) (tree-update t.after pid t.reported) in
         t.touch.1 (ap is_directory same
-        ∙ kinds-by (at_call s pid t.me) pid (at_next_line t.me) t.call (whole-at_call s pid t.me whole t.at) (process_at-same s pid (at_next_line t.me)) t.is n old t.after t.reply t.does t.tree)
+        ∙ kinds-by (at_call s pid t.me) pid (at_next_line t.me) t.call (valid-at_call s pid t.me whole t.at) (process_at-same s pid (at_next_line t.me)) t.is n old t.after t.reply t.does t.tree)
 
 -- ---- the laws
 
@@ -319,7 +319,7 @@ place-is t (At d name o) e word fine named =
 
 -- the process had c at each entry that changed
 pub changes-show : (program_of : Bytes → Option Program) (s : State) (pid : ℕ) (p : Process) (e : ℕ) (word : Bytes) → IsValid s → process_at s pid ≡ Some p → Touches program_of s pid (change_entry e word)
-    → (letters_at s p e word).c ≡ true
+    → (permissions_of_name s p e word).c ≡ true
 unfolding reached_permissions
 changes-show program_of s pid p e word whole at touches =
     let by = entries-edited program_of s pid e word whole touches in
@@ -341,20 +341,20 @@ module _ (program_of : Bytes → Option Program) (encodes : EncodesPrograms prog
   abbrev u : Tree
   u = (step program_of s pid).after.tree
 
-  whole_after : IsValid (step program_of s pid).after
-  whole_after = step-keeps_whole program_of encodes s pid whole
+  valid_after : IsValid (step program_of s pid).after
+  valid_after = step-keeps_valid program_of encodes s pid whole
 
-  no_more : MayDoNoMore p q
-  no_more = grows-never program_of s pid p q (whole-in_order s whole) own_step.at own_step.left own_step.in_image
+  no_more : HasNoMoreRights p q
+  no_more = grows-never program_of s pid p q (valid-in_order s whole) own_step.at own_step.left own_step.in_image
 
   kinds : (n : ℕ) → find_entry t d name ≡ Some n → find_entry u d name ≡ Some n → is_directory_at u n ≡ is_directory_at t n
-  kinds n found preserved = preserved-kind program_of s pid whole n (whole.tree.well_formed.entries_are_nodes d name n found) (whole_after.tree.well_formed.entries_are_nodes d name n preserved)
+  kinds n found preserved = preserved-kind program_of s pid whole n (whole.tree.well_formed.entries_are_nodes d name n found) (valid_after.tree.well_formed.entries_are_nodes d name n preserved)
 
   -- if the same entry governs, no permission is added
-  same-go : governing_entry u table (place_in u d name) ≡ governing_entry t table (place_in t d name) → LettersOnlyGo program_of s pid p q d name
+  same-go : governing_entry u table (place_in u d name) ≡ governing_entry t table (place_in t d name) → PermissionsOnlyDecrease program_of s pid p q d name
   unfolding reached_permissions judgement
   same-go same =
-      gives-covers (letters_at s p d name) (letters_at (step program_of s pid).after q d name) (record {
+      gives-covers (permissions_of_name s p d name) (permissions_of_name (step program_of s pid).after q d name) (record {
         r = λ is. letter permission_r Rpath is;
         w = λ is. letter permission_w Wpath is;
         x = λ is. letter permission_x Exec is;
@@ -375,9 +375,9 @@ module _ (program_of : Bytes → Option Program) (encodes : EncodesPrograms prog
 
   -- an entry changed there or above
   abbrev IsChanged : Type 0
-  IsChanged = (e : ℕ) × (word : Bytes) × Touches program_of s pid (change_entry e word) × IsThereOrAbove program_of s pid d name e word
+  IsChanged = (e : ℕ) × (word : Bytes) × Touches program_of s pid (change_entry e word) × IsAtOrAbovePlace program_of s pid d name e word
 
-  go-or_changed : LettersOnlyGo program_of s pid p q d name ⊎ IsChanged
+  go-or_changed : PermissionsOnlyDecrease program_of s pid p q d name ⊎ IsChanged
   go-or_changed =
       ⊎_elim
       (λ same. inl (same-go same))
@@ -387,27 +387,27 @@ module _ (program_of : Bytes → Option Program) (encodes : EncodesPrograms prog
       (λ before. (over.entry, over.word, over.differs, above_before over.directory over.entry over.word over.over before))
       (λ following. (over.entry, over.word, over.differs, above_after over.directory over.entry over.word over.over following)) over.names)
       differs))
-      (same-governor t u (sound t whole.tree.well_formed) (sound u whole_after.tree.well_formed) table d name dir kinds)
+      (same-governor t u (sound t whole.tree.well_formed) (sound u valid_after.tree.well_formed) table d name dir kinds)
 
-  pub unchanged-go : ((e : ℕ) (word : Bytes) → ¬ Touches program_of s pid (change_entry e word)) → LettersOnlyGo program_of s pid p q d name
+  pub unchanged-go : ((e : ℕ) (word : Bytes) → ¬ Touches program_of s pid (change_entry e word)) → PermissionsOnlyDecrease program_of s pid p q d name
   unchanged-go none = ⊎_elim (λ go. go) (λ changed. absurd (none changed.0 changed.1 changed.2)) go-or_changed
 
-  pub come-by_changes : covers (letters_at s p d name) (letters_at (step program_of s pid).after q d name) ≡ false → IsChanged
+  pub come-by_changes : covers (permissions_of_name s p d name) (permissions_of_name (step program_of s pid).after q d name) ≡ false → IsChanged
   come-by_changes comes = ⊎_elim (λ go. let bad : true ≡ false = sym go ∙ comes in cc bad) (λ changed. changed) go-or_changed
 
   -- if no entry grants c, or the promises lack cpath, no entry changes
-  no-c : GivesNoC table ⊎ (holds p.promises Cpath ≡ false) → (e : ℕ) (word : Bytes) → ¬ Touches program_of s pid (change_entry e word)
+  no-c : GrantsNoC table ⊎ (holds p.promises Cpath ≡ false) → (e : ℕ) (word : Bytes) → ¬ Touches program_of s pid (change_entry e word)
   unfolding reached_permissions
   no-c lacks e word touches =
       let appeared = changes-show program_of s pid p e word whole own_step.at touches in
       let parts = and_parts (is_allowed (judgement t p.table (place_in t e word) permission_c)) (holds p.promises Cpath) appeared in
       ⊎_elim (λ none. given none ((permitted t p.table (place_in t e word) permission_c).1 parts.0)) (λ without. let bad : true ≡ false = sym parts.1 ∙ without in cc bad) lacks
     where
-      entry : GivesNoC table → (k : ℕ) (o : Option (Target × Perms)) → slice_get table k ≡ o → (permissions_of o).c ≡ true → ⊥
+      entry : GrantsNoC table → (k : ℕ) (o : Option (Target × Perms)) → slice_get table k ≡ o → (permissions_of o).c ≡ true → ⊥
       entry none k None is has = cc has
       entry none k (Some e) is has = let bad : true ≡ false = sym has ∙ none k e is in cc bad
 
-      given : GivesNoC table → Permits t p.table (place_in t e word) permission_c → ⊥
+      given : GrantsNoC table → Permits t p.table (place_in t e word) permission_c → ⊥
       given none permits =
           ⊎_elim
           (λ bare. let bad : None ≡ Some table = sym bare ∙ own_step.in_force in cc bad)
@@ -416,5 +416,5 @@ module _ (program_of : Bytes → Option Program) (encodes : EncodesPrograms prog
           let one : some.0 ≡ table = cc both in
           entry none some.1 (slice_get table some.1) refl (ap (λ (x : Table). (permissions_at x some.1).c) (sym one) ∙ sym (covers-c (permissions_at some.0 some.1)) ∙ some.4)) permits
 
-  pub no-c_go : GivesNoC table ⊎ (holds p.promises Cpath ≡ false) → LettersOnlyGo program_of s pid p q d name
+  pub no-c_go : GrantsNoC table ⊎ (holds p.promises Cpath ≡ false) → PermissionsOnlyDecrease program_of s pid p q d name
   no-c_go lacks = unchanged-go (no-c lacks)

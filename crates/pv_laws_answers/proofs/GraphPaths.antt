@@ -9,8 +9,8 @@ use Rattle.pv_model.specs.Machine.{explained_step, Found, Move, move, moves_of, 
 use Rattle.pv_model.specs.Answers.Explore.{is_found, done_line}
 use Rattle.pv_model.specs.Answers.Graph.{unreported, tree_lines, number_found, leads_to_text, vertex_lines}
 use Rattle.pv_model.specs.Answers.Lines.{counted}
-use Rattle.pv_model.proofs.Runs.{run-append}
-use Rattle.pv_laws_answers.specs.Graphs.{begins_state, begins_step, is_last, ends_state, ends_step, HasStepLines, HasStateLines, IsAlong, explained_run, IsRunAlong, StaysFound, IsWitnessAlong}
+use Rattle.pv_model.proofs.RunComposition.{run-append}
+use Rattle.pv_laws_answers.specs.Graphs.{begins_state, begins_step, is_last, ends_state, ends_step, HasStepLines, HasStateLines, IsAlong, explained_run, IsRunAlong, AllStatesAreVisited, IsWitnessAlong}
 use Rattle.pv_laws_answers.specs.Search.{IsSearchable}
 use Rattle.pv_laws_answers.specs.Witnesses.{AreSteps}
 use Rattle.pv_laws_answers.proofs.CompleteSearches.{all-found}
@@ -307,7 +307,7 @@ module _ (program_of : Bytes → Option Program) (limit : ℕ) (trees : Bool) (s
     abbrev Goes : ℕ → State → List ℕ → Type 0
     Goes k t pids = (last : Bytes) × IsAlong graph (decimal k) pids last (explained_run program_of pids t)
 
-    goes : (pids : List ℕ) (t : State) (k : ℕ) (f : Found) → Among (k, f) (counted found) → f.state ≡ t → AreSteps program_of pids t → StaysFound program_of found pids t → Goes k t pids
+    goes : (pids : List ℕ) (t : State) (k : ℕ) (f : Found) → Among (k, f) (counted found) → f.state ≡ t → AreSteps program_of pids t → AllStatesAreVisited program_of found pids t → Goes k t pids
     goes [] t k f within same lives stays = (decimal k, (refl, refl))
     goes (pid ∷ pids) t k f within same lives stays =
         let after = (step program_of t pid).after in
@@ -323,22 +323,22 @@ module _ (program_of : Bytes → Option Program) (limit : ℕ) (trees : Bool) (s
         let rest = goes pids after number.0 there.0 there.1 there.2 lives.1 stays.1 in
         (rest.0, (decimal number.0, explained_step program_of unreported t pid, explained_run program_of pids after, here, rest.1, refl))
       where
-        first-found : (pids : List ℕ) (t : State) → StaysFound program_of found pids t → is_found t found ≡ true
+        first-found : (pids : List ℕ) (t : State) → AllStatesAreVisited program_of found pids t → is_found t found ≡ true
         first-found [] t stays = stays
         first-found (pid ∷ pids) t stays = stays.0
 
-    runs-witnesses : (pids : List ℕ) → AreSteps program_of pids s → StaysFound program_of found pids s → IsWitnessAlong program_of graph s pids
+    runs-witnesses : (pids : List ℕ) → AreSteps program_of pids s → AllStatesAreVisited program_of found pids s → IsWitnessAlong program_of graph s pids
     runs-witnesses pids lives stays =
         let start = first-number in
         let witness = goes pids s 0 start.0 start.1 start.2 lives stays in
         record { last = witness.0; along = witness.1 }
 
     -- if the search is complete
-    stays-found : is_complete program_of limit s ≡ true → (pids before : List ℕ) → StaysFound program_of found pids (run program_of before s).final
+    stays-found : is_complete program_of limit s ≡ true → (pids before : List ℕ) → AllStatesAreVisited program_of found pids (run program_of before s).final
     stays-found complete [] before = all-found program_of limit s it complete before
     stays-found complete (pid ∷ pids) before = (
       all-found program_of limit s it complete before,
-      subst (StaysFound program_of found pids) (ap (λ (r : Run). r.final) (run-append program_of before (pid ∷ []) s)) (stays-found complete pids (before ++ (pid ∷ []))),
+      subst (AllStatesAreVisited program_of found pids) (ap (λ (r : Run). r.final) (run-append program_of before (pid ∷ []) s)) (stays-found complete pids (before ++ (pid ∷ []))),
     )
 
     all-runs-witnesses : is_complete program_of limit s ≡ true → (pids : List ℕ) → AreSteps program_of pids s → IsWitnessAlong program_of graph s pids
@@ -349,7 +349,7 @@ pub witnesses-are_runs : (program_of : Bytes → Option Program) (limit : ℕ) (
 witnesses-are_runs program_of limit trees s pids last reported it small along = witnesses-runs program_of limit trees s it small pids last reported along
 
 pub runs-are_witnesses : (program_of : Bytes → Option Program) (limit : ℕ) (trees : Bool) (s : State) (pids : List ℕ) → IsSearchable program_of limit s → AreSteps program_of pids s
-    → StaysFound program_of (states_found program_of limit s) pids s → IsWitnessAlong program_of (graph_lines program_of limit trees s) s pids
+    → AllStatesAreVisited program_of (states_found program_of limit s) pids s → IsWitnessAlong program_of (graph_lines program_of limit trees s) s pids
 runs-are_witnesses program_of limit trees s pids it lives stays = runs-witnesses program_of limit trees s it pids lives stays
 
 pub all-runs-are_witnesses : (program_of : Bytes → Option Program) (limit : ℕ) (trees : Bool) (s : State) (pids : List ℕ) → IsSearchable program_of limit s → is_complete program_of limit s ≡ true → AreSteps program_of pids s

@@ -11,9 +11,9 @@ use Rattle.pv_model.specs.declared.place.Place.{Place}
 use Rattle.pv_model.specs.declared.promise.Promise.{Promise}
 use Rattle.pv_model.specs.Machine.{Judged, Asked, asked, same_promise, same_judged, walks_judged, walks_to, judged_walks, target_words, Bytes, end_of, join_permissions, Program, Process, State, step, place_found, same_target, target_of, Walked, Walk, walks_of, walk_number, is_unveil}
 use Rattle.pv_model.specs.Answers.Needs.{asked_in, and_asked, asked_by_one, process_images, onto_process_image, needing, targets_in, permissions_asked, judged, judged_at}
-use Rattle.pv_laws_answers.specs.ProcessImages.{Moment, and_moment, moments, onto_moments, process_images_of, what_is_asked, IsCallOf, IsMadeIn, IsPromiseListed, targets_listed, letters_listed}
+use Rattle.pv_laws_answers.specs.ProcessImages.{Moment, and_moment, moments, onto_moments, process_images_of, demands_of_moments, IsCallOf, IsMadeIn, IsPromiseListed, targets_listed, permissions_listed}
 use Rattle.pv_laws_answers.proofs.SinglePermissions.{Gives}
-use Rattle.pv_laws_trees.proofs.Targets.{same_target-same, same_target-itself}
+use Rattle.pv_laws_trees.proofs.UnveilTargets.{same_target-same, same_target-itself}
 
 -- ---- membership
 
@@ -70,41 +70,41 @@ not-empty (y ∷ ys) x has none = cc none
 
 -- ---- calls by program image
 
-onto-asked : (m : Moment) (groups : List (List Moment)) → map what_is_asked (onto_moments m groups) ≡ onto_process_image m.asked (map what_is_asked groups)
+onto-asked : (m : Moment) (groups : List (List Moment)) → map demands_of_moments (onto_moments m groups) ≡ onto_process_image m.asked (map demands_of_moments groups)
 onto-asked m [] = refl
 onto-asked m (process_image ∷ rest) = by m.asked.ends_process_image
   where
-    by : (b : Bool) → map what_is_asked (if b then (m ∷ []) ∷ process_image ∷ rest else (m ∷ process_image) ∷ rest)
-        ≡ (if b then (m.asked ∷ []) ∷ what_is_asked process_image ∷ map what_is_asked rest else (m.asked ∷ what_is_asked process_image) ∷ map what_is_asked rest)
+    by : (b : Bool) → map demands_of_moments (if b then (m ∷ []) ∷ process_image ∷ rest else (m ∷ process_image) ∷ rest)
+        ≡ (if b then (m.asked ∷ []) ∷ demands_of_moments process_image ∷ map demands_of_moments rest else (m.asked ∷ demands_of_moments process_image) ∷ map demands_of_moments rest)
     by true = refl
     by false = refl
 
-process_images-asked : (ms : List Moment) → map what_is_asked (process_images_of ms) ≡ process_images (what_is_asked ms)
+process_images-asked : (ms : List Moment) → map demands_of_moments (process_images_of ms) ≡ process_images (demands_of_moments ms)
 unfolding process_images
 process_images-asked [] = refl
 process_images-asked (m ∷ ms) = onto-asked m (process_images_of ms) ∙ ap (onto_process_image m.asked) (process_images-asked ms)
 
-moments-asked : (program_of : Bytes → Option Program) (pids : List ℕ) (s : State) (pid : ℕ) → what_is_asked (moments program_of pid pids s) ≡ asked_by_one (asked_in program_of pids s) pid
+moments-asked : (program_of : Bytes → Option Program) (pids : List ℕ) (s : State) (pid : ℕ) → demands_of_moments (moments program_of pid pids s) ≡ asked_by_one (asked_in program_of pids s) pid
 moments-asked program_of [] s pid = refl
 moments-asked program_of (k ∷ ks) s pid = by (asked program_of s k) (moments-asked program_of ks (step program_of s k).after pid)
   where
-    by : (o : Option Asked) → what_is_asked (moments program_of pid ks (step program_of s k).after) ≡ asked_by_one (asked_in program_of ks (step program_of s k).after) pid
-        → what_is_asked (if k == pid then and_moment s o (moments program_of pid ks (step program_of s k).after) else moments program_of pid ks (step program_of s k).after)
+    by : (o : Option Asked) → demands_of_moments (moments program_of pid ks (step program_of s k).after) ≡ asked_by_one (asked_in program_of ks (step program_of s k).after) pid
+        → demands_of_moments (if k == pid then and_moment s o (moments program_of pid ks (step program_of s k).after) else moments program_of pid ks (step program_of s k).after)
         ≡ asked_by_one (and_asked program_of k o (asked_in program_of ks (step program_of s k).after)) pid
     by None same = of (k == pid)
       where
-        of : (b : Bool) → what_is_asked (if b then moments program_of pid ks (step program_of s k).after else moments program_of pid ks (step program_of s k).after)
+        of : (b : Bool) → demands_of_moments (if b then moments program_of pid ks (step program_of s k).after else moments program_of pid ks (step program_of s k).after)
             ≡ asked_by_one (asked_in program_of ks (step program_of s k).after) pid
         of true = same
         of false = same
     by (Some now) same = of (k == pid)
       where
-        of : (b : Bool) → what_is_asked (if b then record { state = s; asked = now } ∷ moments program_of pid ks (step program_of s k).after else moments program_of pid ks (step program_of s k).after)
+        of : (b : Bool) → demands_of_moments (if b then record { state = s; asked = now } ∷ moments program_of pid ks (step program_of s k).after else moments program_of pid ks (step program_of s k).after)
             ≡ map (λ a. a.1) (cond b ((k, now) ∷ filter (λ a. a.0 == pid) (asked_in program_of ks (step program_of s k).after)) (filter (λ a. a.0 == pid) (asked_in program_of ks (step program_of s k).after)))
         of true = ap (λ rest. now ∷ rest) same
         of false = same
 
-pub process_images-are : (program_of : Bytes → Option Program) (pids : List ℕ) (s : State) (pid : ℕ) → map what_is_asked (process_images_of (moments program_of pid pids s)) ≡ process_images (asked_by_one (asked_in program_of pids s) pid)
+pub process_images-are : (program_of : Bytes → Option Program) (pids : List ℕ) (s : State) (pid : ℕ) → map demands_of_moments (process_images_of (moments program_of pid pids s)) ≡ process_images (asked_by_one (asked_in program_of pids s) pid)
 process_images-are program_of pids s pid = process_images-asked (moments program_of pid pids s) ∙ ap process_images (moments-asked program_of pids s pid)
 
 -- a property of each call holds for each call of each program image
@@ -151,8 +151,8 @@ module _ (program_of : Bytes → Option Program) (pid : ℕ) where
 
 pub promise-listed : (process_image : List Moment) (m : Moment) (a : Promise) → Contains process_image m → list_any (same_promise a) m.asked.promises ≡ true → IsPromiseListed a process_image
 promise-listed process_image m a has needs =
-    not-empty (needing a (what_is_asked process_image)) m.asked
-    (passed-in (λ now. list_any (same_promise a) now.promises) (what_is_asked process_image) m.asked (map-in (λ n. n.asked) process_image m has) needs)
+    not-empty (needing a (demands_of_moments process_image)) m.asked
+    (passed-in (λ now. list_any (same_promise a) now.promises) (demands_of_moments process_image) m.asked (map-in (λ n. n.asked) process_image m has) needs)
 
 -- ---- listed targets
 
@@ -224,28 +224,28 @@ asked-gives (x ∷ xs) w has =
     (subst (λ (y : ℕ × Judged). Gives x.1.permissions y.1.permissions) here (record { r = λ is. is; w = λ is. is; x = λ is. is; c = λ is. is })))
     (λ there. joined-right x.1.permissions (permissions_asked xs) w.1.permissions (asked-gives xs w there))
 
--- for a judged walk of a call of a program image, the target is listed, with its words and its permissions
+-- for a checked walk of a call of a program image, the target is listed, with its words and its permissions
 pub record IsJudgedListed (process_image : List Moment) (j : Judged) : Type 0 where
   pub target : Judged
   pub listed : Contains (targets_listed process_image) target
   pub same : target.target ≡ j.target
-  pub gives : Gives (letters_listed process_image target) j.permissions
+  pub gives : Gives (permissions_listed process_image target) j.permissions
 
 pub judged-listed : (process_image : List Moment) (m : Moment) (j : Judged) → Contains process_image m → Contains m.asked.walks j → IsJudgedListed process_image j
 judged-listed process_image m j has walks =
-    let ws = walks_judged (what_is_asked process_image) in
-    let here : Contains (walks_judged (what_is_asked process_image)) (m.asked.line, j) =
-    flat-in (λ (now : Asked). map (λ w. (now.line, w)) now.walks) (what_is_asked process_image) m.asked (m.asked.line, j) (map-in (λ n. n.asked) process_image m has) (map-in (λ w. (m.asked.line, w)) m.asked.walks j walks) in
-    let t = target-of (walks_judged (what_is_asked process_image)) (m.asked.line, j) here in
+    let ws = walks_judged (demands_of_moments process_image) in
+    let here : Contains (walks_judged (demands_of_moments process_image)) (m.asked.line, j) =
+    flat-in (λ (now : Asked). map (λ w. (now.line, w)) now.walks) (demands_of_moments process_image) m.asked (m.asked.line, j) (map-in (λ n. n.asked) process_image m has) (map-in (λ w. (m.asked.line, w)) m.asked.walks j walks) in
+    let t = target-of (walks_judged (demands_of_moments process_image)) (m.asked.line, j) here in
     record {
       target = t.target;
       listed = t.listed;
       same = (judged-same t.target j t.same).0;
-      gives = asked-gives (walks_to t.target (walks_judged (what_is_asked process_image))) (m.asked.line, j)
-          (passed-in (λ w. same_judged t.target w.1) (walks_judged (what_is_asked process_image)) (m.asked.line, j) here t.same);
+      gives = asked-gives (walks_to t.target (walks_judged (demands_of_moments process_image))) (m.asked.line, j)
+          (passed-in (λ w. same_judged t.target w.1) (walks_judged (demands_of_moments process_image)) (m.asked.line, j) here t.same);
     }
 
--- ---- the judged walks of a call
+-- ---- the checked walks of a call
 
 abbrev pub judged-of : State → Walk → Place → Judged
 judged-of s w place = record { target = target_of s.tree place; words = target_words s.tree (target_of s.tree place); permissions = w.needed }
@@ -296,7 +296,7 @@ module _ {X Y : Type 0} (f : X → Option Y) where
           (λ same. record { index = 0; element = z; at = refl; few = omega arith; is = is ∙ ap Some same })
           (λ there. later (more there))
 
--- a walk that was begun and ends at a place is judged
+-- a walk that was begun and ends at a place is checked
 pub walk-judged : (s : State) (p : Process) (call : Call) (n number : ℕ) (w : Walk) (place : Place) → is_unveil call ≡ false → number ≤ n → walk_number (walks_of call) number ≡ Some w
     → end_of s p w ≡ Ok place → Contains (judged_walks s p call n) (judged-of s w place)
 walk-judged s p call n zero w place plain few found end = cc found
@@ -305,7 +305,7 @@ walk-judged s p call n (suc i) w place plain few found end =
     (mapped-in (judged s p) (walks_of call) n i w (record { target = target_of s.tree place; words = target_words s.tree (target_of s.tree place); permissions = w.needed }) found (omega arith)
     (ap (λ r. judged_at s w.needed (place_found r)) end))
 
--- a judged walk is such a walk
+-- a checked walk is such a walk
 pub record IsWalkJudged (s : State) (p : Process) (call : Call) (n : ℕ) (j : Judged) : Type 0 where
   pub plain : is_unveil call ≡ false
   pub number : ℕ

@@ -6,7 +6,7 @@ use Rattle.std.specs.List.{AllByRecursion}
 use Rattle.std.proofs.lemmas.Bool.{and_parts}
 use Rattle.std.specs.Cmp.{nat_cmp_is}
 use Rattle.pv_model.specs.Machine.{Found, move, moves_of, Bytes, live_processes, Program, Process, ProcessRecord, live, ended_record, State, live_process, process_at}
-use Rattle.pv_laws_states.proofs.Members.{find_number_after, find_number_cases, live-found}
+use Rattle.pv_laws_states.proofs.ReferenceMembers.{find_number_after, find_number_cases, live-found}
 use Rattle.pv_laws_states.proofs.Processes.{number-itself}
 use Rattle.pv_laws_answers.proofs.Lists.{Among}
 use Rattle.pv_laws_answers.proofs.SearchInvariant.{Ascending}

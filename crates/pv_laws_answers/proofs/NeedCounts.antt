@@ -5,10 +5,10 @@ use Rattle.std.specs.List.{list_any, range_with_len}
 use Rattle.pv_model.specs.declared.promise.Promise.{Promise}
 use Rattle.pv_model.specs.Machine.{AnswerLine, counted_from, permissions_in_places, Asked, Judged, asked, same_judged, same_promise, walks_judged, walks_to, Bytes, Next, calls_for, inside, next, promise_name, Process, Program, State, process_at, run}
 use Rattle.pv_model.specs.Answers.Needs.{asked_in, asked_next, asked_of, last_of, needing, needs_lines, needs_of_process, process_image_lines, promise_texts_of, targets_in}
-use Rattle.pv_laws_answers.specs.Counts.{IsAskedAt, IsLastWhere, IsPromiseCounted, IsTargetCounted, NoneWhere, goes_to, lines_of_calls, needed_promise, number_where, promise_texts_in, target_text_in, counted_line, walks_of_calls}
-use Rattle.pv_laws_answers.specs.ProcessImages.{IsCallOf, Moment, letters_listed, moments, process_images_of, targets_listed, what_is_asked}
+use Rattle.pv_laws_answers.specs.Counts.{IsAskedAt, IsLastThatPasses, IsPromiseCounted, IsTargetCounted, NoElementPasses, leads_to_target, lines_of_calls, needed_promise, number_that_passes, promise_texts_in, target_text_in, counted_line, walks_of_calls}
+use Rattle.pv_laws_answers.specs.ProcessImages.{IsCallOf, Moment, permissions_listed, moments, process_images_of, targets_listed, demands_of_moments}
 use Rattle.pv_laws_answers.proofs.ListedNeeds.{first-in, in-cases, later-in, made-in, not-in, process_images-are, same-judged}
-use Rattle.pv_laws_trees.proofs.Generic.{flat-same}
+use Rattle.pv_laws_trees.proofs.ListTests.{flat-same}
 
 -- ---- elements that pass a test
 
@@ -23,28 +23,28 @@ module _ {X Y : Type 0} (f : X → Y) (test : Y → Bool) where
       by false rest = rest
 
 module _ {X : Type 0} (g : X → ℕ) (test : X → Bool) where
-  count-is : (xs : List X) → length (map g (filter test xs)) ≡ number_where test xs
+  count-is : (xs : List X) → length (map g (filter test xs)) ≡ number_that_passes test xs
   count-is [] = refl
   count-is (x ∷ xs) = by (test x) (count-is xs)
     where
-      by : (b : Bool) → length (map g (filter test xs)) ≡ number_where test xs
-          → length (map g (cond b (x ∷ filter test xs) (filter test xs))) ≡ (if b then suc (number_where test xs) else number_where test xs)
+      by : (b : Bool) → length (map g (filter test xs)) ≡ number_that_passes test xs
+          → length (map g (cond b (x ∷ filter test xs) (filter test xs))) ≡ (if b then suc (number_that_passes test xs) else number_that_passes test xs)
       by true rest = ap suc rest
       by false rest = rest
 
   -- the elements that pass, and the last of them
   record HasLast (xs passing : List X) : Type 0 where
     pub x : X
-    pub is : IsLastWhere test xs x
+    pub is : IsLastThatPasses test xs x
     pub line : (n : ℕ) → last_of n (map g passing) ≡ g x
     pub some : passing ≢ []
 
-  last-is : (xs : List X) → (NoneWhere test xs × (filter test xs ≡ [])) ⊎ HasLast xs (filter test xs)
+  last-is : (xs : List X) → (NoElementPasses test xs × (filter test xs ≡ [])) ⊎ HasLast xs (filter test xs)
   last-is [] = inl (tt, refl)
   last-is (x ∷ xs) = by (test x) refl (last-is xs)
     where
-      by : (b : Bool) → test x ≡ b → (NoneWhere test xs × (filter test xs ≡ [])) ⊎ HasLast xs (filter test xs)
-          → (NoneWhere test (x ∷ xs) × (cond b (x ∷ filter test xs) (filter test xs) ≡ [])) ⊎ HasLast (x ∷ xs) (cond b (x ∷ filter test xs) (filter test xs))
+      by : (b : Bool) → test x ≡ b → (NoElementPasses test xs × (filter test xs ≡ [])) ⊎ HasLast xs (filter test xs)
+          → (NoElementPasses test (x ∷ xs) × (cond b (x ∷ filter test xs) (filter test xs) ≡ [])) ⊎ HasLast (x ∷ xs) (cond b (x ∷ filter test xs) (filter test xs))
       by true passes (inl none) =
           inr (record {
             x = x;
@@ -71,7 +71,7 @@ module _ {X : Type 0} (g : X → ℕ) (test : X → Bool) where
 -- ---- promises
 
 module _ (process_image : List Moment) (a : Promise) where
-  needing-is : needing a (what_is_asked process_image) ≡ map (λ (m : Moment). m.asked) (filter (needed_promise a) process_image)
+  needing-is : needing a (demands_of_moments process_image) ≡ map (λ (m : Moment). m.asked) (filter (needed_promise a) process_image)
   needing-is = filter-map (λ (m : Moment). m.asked) (λ now. list_any (same_promise a) now.promises) process_image
 
   text-of : (ms : List Moment) → ms ≢ [] → (n l : ℕ) → length (map (λ (m : Moment). m.asked.line) ms) ≡ n → last_of 0 (map (λ (m : Moment). m.asked.line) ms) ≡ l
@@ -88,7 +88,7 @@ module _ (process_image : List Moment) (a : Promise) where
   pub promise-counted : IsPromiseCounted a process_image (promise_texts_in process_image a)
   promise-counted = by (last-is (λ (m : Moment). m.asked.line) (needed_promise a) process_image)
     where
-      by : (NoneWhere (needed_promise a) process_image × (filter (needed_promise a) process_image ≡ []))
+      by : (NoElementPasses (needed_promise a) process_image × (filter (needed_promise a) process_image ≡ []))
           ⊎ HasLast (λ (m : Moment). m.asked.line) (needed_promise a) process_image (filter (needed_promise a) process_image)
           → IsPromiseCounted a process_image (promise_texts_in process_image a)
       by (inl none) = inl (none.0, ap (promise_texts_of a) (needing-is ∙ ap (map (λ (m : Moment). m.asked)) none.1))
@@ -97,7 +97,7 @@ module _ (process_image : List Moment) (a : Promise) where
             it.x,
             it.is,
             ap (promise_texts_of a) needing-is
-                ∙ text-of (filter (needed_promise a) process_image) it.some (number_where (needed_promise a) process_image) it.x.asked.line
+                ∙ text-of (filter (needed_promise a) process_image) it.some (number_that_passes (needed_promise a) process_image) it.x.asked.line
                 (count-is (λ (m : Moment). m.asked.line) (needed_promise a) process_image) (it.line 0),
           )
 
@@ -106,12 +106,12 @@ module _ (process_image : List Moment) (a : Promise) where
 abbrev as_walk : Moment × Judged → ℕ × Judged
 as_walk w = (w.0.asked.line, w.1)
 
-walks-are : (process_image : List Moment) → walks_judged (what_is_asked process_image) ≡ map as_walk (walks_of_calls process_image)
+walks-are : (process_image : List Moment) → walks_judged (demands_of_moments process_image) ≡ map as_walk (walks_of_calls process_image)
 walks-are [] = refl
 walks-are (m ∷ ms) = each m.asked.walks (walks-are ms)
   where
-    each : (ws : List Judged) → walks_judged (what_is_asked ms) ≡ map as_walk (walks_of_calls ms)
-        → map (λ w. (m.asked.line, w)) ws ++ walks_judged (what_is_asked ms) ≡ map as_walk (map (λ w. (m, w)) ws ++ walks_of_calls ms)
+    each : (ws : List Judged) → walks_judged (demands_of_moments ms) ≡ map as_walk (walks_of_calls ms)
+        → map (λ w. (m.asked.line, w)) ws ++ walks_judged (demands_of_moments ms) ≡ map as_walk (map (λ w. (m, w)) ws ++ walks_of_calls ms)
     each [] others = others
     each (w ∷ ws) others = ap (λ (rest : List (ℕ × Judged)). (m.asked.line, w) ∷ rest) (each ws others)
 
@@ -132,7 +132,7 @@ target-walk (w ∷ ws) target has =
     let rest = target-walk ws target (in-filtered (λ other. not (same_judged w.1 other)) (targets_in ws) target there) in
     (rest.0, later-in w rest.0 ws rest.1, rest.2))
 
-none-goes : (target : Judged) (zs : List (Moment × Judged)) → NoneWhere (goes_to target) zs → (w : ℕ × Judged) → Contains (map as_walk zs) w → w.1 ≡ target → ⊥
+none-goes : (target : Judged) (zs : List (Moment × Judged)) → NoElementPasses (leads_to_target target) zs → (w : ℕ × Judged) → Contains (map as_walk zs) w → w.1 ≡ target → ⊥
 none-goes target [] none w has same = not-in w has
 none-goes target (z ∷ zs) none w has same =
     in-cases ⊥ (as_walk z) w (map as_walk zs) has
@@ -143,7 +143,7 @@ none-goes target (z ∷ zs) none w has same =
     (λ there. none-goes target zs none.1 w there same)
 
 module _ (process_image : List Moment) (target : Judged) (listed : Contains (targets_listed process_image) target) where
-  walks-to : walks_to target (walks_judged (what_is_asked process_image)) ≡ map as_walk (filter (goes_to target) (walks_of_calls process_image))
+  walks-to : walks_to target (walks_judged (demands_of_moments process_image)) ≡ map as_walk (filter (leads_to_target target) (walks_of_calls process_image))
   walks-to = ap (walks_to target) (walks-are process_image) ∙ filter-map as_walk (λ w. same_judged target w.1) (walks_of_calls process_image)
 
   lines-are : (zs : List (Moment × Judged)) → map (λ (w : ℕ × Judged). w.0) (map as_walk zs) ≡ map (λ (z : Moment × Judged). z.0.asked.line) zs
@@ -151,29 +151,29 @@ module _ (process_image : List Moment) (target : Judged) (listed : Contains (tar
   lines-are (z ∷ zs) = ap (λ (ls : List ℕ). z.0.asked.line ∷ ls) (lines-are zs)
 
   pub target-counted : IsTargetCounted target process_image (target_text_in process_image target)
-  target-counted = by (last-is (λ (z : Moment × Judged). z.0.asked.line) (goes_to target) (walks_of_calls process_image))
+  target-counted = by (last-is (λ (z : Moment × Judged). z.0.asked.line) (leads_to_target target) (walks_of_calls process_image))
     where
-      passing : map (λ (w : ℕ × Judged). w.0) (walks_to target (walks_judged (what_is_asked process_image))) ≡ map (λ (z : Moment × Judged). z.0.asked.line) (filter (goes_to target) (walks_of_calls process_image))
-      passing = ap (map (λ (w : ℕ × Judged). w.0)) walks-to ∙ lines-are (filter (goes_to target) (walks_of_calls process_image))
+      passing : map (λ (w : ℕ × Judged). w.0) (walks_to target (walks_judged (demands_of_moments process_image))) ≡ map (λ (z : Moment × Judged). z.0.asked.line) (filter (leads_to_target target) (walks_of_calls process_image))
+      passing = ap (map (λ (w : ℕ × Judged). w.0)) walks-to ∙ lines-are (filter (leads_to_target target) (walks_of_calls process_image))
 
-      by : (NoneWhere (goes_to target) (walks_of_calls process_image) × (filter (goes_to target) (walks_of_calls process_image) ≡ []))
-          ⊎ HasLast (λ (z : Moment × Judged). z.0.asked.line) (goes_to target) (walks_of_calls process_image) (filter (goes_to target) (walks_of_calls process_image))
+      by : (NoElementPasses (leads_to_target target) (walks_of_calls process_image) × (filter (leads_to_target target) (walks_of_calls process_image) ≡ []))
+          ⊎ HasLast (λ (z : Moment × Judged). z.0.asked.line) (leads_to_target target) (walks_of_calls process_image) (filter (leads_to_target target) (walks_of_calls process_image))
           → IsTargetCounted target process_image (target_text_in process_image target)
       by (inl none) =
-          let w = target-walk (walks_judged (what_is_asked process_image)) target listed in
+          let w = target-walk (walks_judged (demands_of_moments process_image)) target listed in
           absurd (none-goes target (walks_of_calls process_image) none.0 w.0 (subst (λ (ws : List (ℕ × Judged)). Contains ws w.0) (walks-are process_image) w.1) w.2)
       by (inr it) = record {
         walk = it.x;
         last = it.is;
         is =
-            ap (λ (ls : List ℕ). permissions_in_places (letters_listed process_image target) ++ codes ", " ++ target.words ++ counted_line (codes ", walks ") (length ls) (last_of 0 ls)) passing
-            ∙ ap₂ (λ (k l : ℕ). permissions_in_places (letters_listed process_image target) ++ codes ", " ++ target.words ++ counted_line (codes ", walks ") k l)
-            (count-is (λ (z : Moment × Judged). z.0.asked.line) (goes_to target) (walks_of_calls process_image)) (it.line 0);
+            ap (λ (ls : List ℕ). permissions_in_places (permissions_listed process_image target) ++ codes ", " ++ target.words ++ counted_line (codes ", walks ") (length ls) (last_of 0 ls)) passing
+            ∙ ap₂ (λ (k l : ℕ). permissions_in_places (permissions_listed process_image target) ++ codes ", " ++ target.words ++ counted_line (codes ", walks ") k l)
+            (count-is (λ (z : Moment × Judged). z.0.asked.line) (leads_to_target target) (walks_of_calls process_image)) (it.line 0);
       }
 
 -- ---- the lines
 
-lines-counted : (pid k : ℕ) (groups : List (List Moment)) → flat_map (process_image_lines pid) (counted_from k (map what_is_asked groups)) ≡ flat_map (lines_of_calls pid) (counted_from k groups)
+lines-counted : (pid k : ℕ) (groups : List (List Moment)) → flat_map (process_image_lines pid) (counted_from k (map demands_of_moments groups)) ≡ flat_map (lines_of_calls pid) (counted_from k groups)
 lines-counted pid k [] = refl
 lines-counted pid k (g ∷ gs) = ap (λ (rest : List AnswerLine). lines_of_calls pid (k, g) ++ rest) (lines-counted pid (k + 1) gs)
 

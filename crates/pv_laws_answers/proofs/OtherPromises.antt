@@ -32,11 +32,11 @@ use Rattle.pv_model.specs.Calls.Processes.{with_parent, adopt_orphans}
 use Rattle.pv_model.specs.Program.{operand, start_of_origin}
 use Rattle.pv_model.specs.Promise.{promise_bit}
 use Rattle.pv_laws_trees.specs.Preserved.{preserved}
-use Rattle.pv_laws_states.proofs.Outcomes.{at_call}
-use Rattle.pv_laws_access.proofs.Ends.{step-is, step-gone}
+use Rattle.pv_laws_states.proofs.CallOutcomes.{at_call}
+use Rattle.pv_laws_access.proofs.ProcessesAfterEnds.{step-is, step-gone}
 use Rattle.pv_laws_answers.specs.Begun.{record_begun, begun_with, is_plain_call, RunsPlainly, is_listed_in}
 use Rattle.pv_laws_answers.specs.ProcessImages.{is_counted_for}
-use Rattle.pv_laws_answers.specs.Wanted.{is_want, reports_need}
+use Rattle.pv_laws_answers.specs.Wanted.{is_missing_promise_line, reports_need}
 use Rattle.pv_laws_answers.proofs.AskingCalls.{met-answer}
 use Rattle.pv_laws_answers.proofs.ListedNeeds.{all-in}
 use Rattle.pv_laws_answers.proofs.OtherRestraints.{next-call, needed-by, firsts-held, met-in}
@@ -202,36 +202,36 @@ module _ (held : Option Promises) where
 
   -- ---- attempts in both states
 
-  record IsBeside (x y : State) : Type 0 where
+  record HasOtherPromises (x y : State) : Type 0 where
     same : y ≡ change x
 
   abbrev pub moved : Attempt Effect → Attempt Effect
   moved (done walks (x, r)) = done walks (change x, r)
   moved (refused walks errno cause) = refused walks errno cause
 
-  pub record Beside (a b : Attempt Effect) : Type 0 where
+  pub record WithOtherPromises (a b : Attempt Effect) : Type 0 where
     pub same : b ≡ moved a
 
   pub moved-after : (n : ℕ) (a : Attempt Effect) → after_walks n (moved a) ≡ moved (after_walks n a)
   moved-after n (done walks (x, r)) = refl
   moved-after n (refused walks errno cause) = refl
 
-  after-beside : (n : ℕ) (a b : Attempt Effect) → Beside a b → Beside (after_walks n a) (after_walks n b)
-  after-beside n a b is = record { same = ap (after_walks n) is.same ∙ moved-after n a }
+  after-other_promises : (n : ℕ) (a b : Attempt Effect) → WithOtherPromises a b → WithOtherPromises (after_walks n a) (after_walks n b)
+  after-other_promises n a b is = record { same = ap (after_walks n) is.same ∙ moved-after n a }
 
-  done-beside : (n : ℕ) (r : Reply) (x y : State) → IsBeside x y → Beside (done n (x, r)) (done n (y, r))
-  done-beside n r x y is = record { same = ap (λ z. done n (z, r)) is.same }
+  done-other_promises : (n : ℕ) (r : Reply) (x y : State) → HasOtherPromises x y → WithOtherPromises (done n (x, r)) (done n (y, r))
+  done-other_promises n r x y is = record { same = ap (λ z. done n (z, r)) is.same }
 
-  refused-beside : (n : ℕ) (e : Errno) (c : Cause) → Beside (refused n e c) (refused n e c)
-  refused-beside n e c = record { same = refl }
+  refused-other_promises : (n : ℕ) (e : Errno) (c : Cause) → WithOtherPromises (refused n e c) (refused n e c)
+  refused-other_promises n e c = record { same = refl }
 
-  room-beside : (x y : State) (n : ℕ) → IsBeside x y → Beside (with_room x >>= (λ roomy. answers roomy n)) (with_room y >>= (λ roomy. answers roomy n))
-  room-beside x y n is =
-      subst (λ z. Beside (with_room x >>= (λ roomy. answers roomy n)) (with_room z >>= (λ roomy. answers roomy n))) (sym is.same)
-      (subst (λ t. Beside (with_room x >>= (λ roomy. answers roomy n)) ((refuse_if EFBIG (is_too_long t) >> (refuse_if ENOSPC (not (fits t)) >> give (change x))) >>= (λ roomy. answers roomy n)))
+  room-other_promises : (x y : State) (n : ℕ) → HasOtherPromises x y → WithOtherPromises (with_room x >>= (λ roomy. answers roomy n)) (with_room y >>= (λ roomy. answers roomy n))
+  room-other_promises x y n is =
+      subst (λ z. WithOtherPromises (with_room x >>= (λ roomy. answers roomy n)) (with_room z >>= (λ roomy. answers roomy n))) (sym is.same)
+      (subst (λ t. WithOtherPromises (with_room x >>= (λ roomy. answers roomy n)) ((refuse_if EFBIG (is_too_long t) >> (refuse_if ENOSPC (not (fits t)) >> give (change x))) >>= (λ roomy. answers roomy n)))
       (sym (ap (λ (z : State). z.tree) (collect-changed x))) (by (is_too_long (collect x).tree) (fits (collect x).tree)))
     where
-      by : (long fit : Bool) → Beside ((refuse_if EFBIG long >> (refuse_if ENOSPC (not fit) >> give x)) >>= (λ roomy. answers roomy n))
+      by : (long fit : Bool) → WithOtherPromises ((refuse_if EFBIG long >> (refuse_if ENOSPC (not fit) >> give x)) >>= (λ roomy. answers roomy n))
           ((refuse_if EFBIG long >> (refuse_if ENOSPC (not fit) >> give (change x))) >>= (λ roomy. answers roomy n))
       by true fit = record { same = refl }
       by false true = record { same = refl }
@@ -243,15 +243,15 @@ module _ (held : Option Promises) where
     abbrev u : State
     u = change s
 
-    own-beside : (t : Tree) (fs : Numbered OpenFile) (q : Process) → IsBeside (with_process (record s { tree = t; files = fs }) pid q) (with_process (record u { tree = t; files = fs }) pid (f q))
-    own-beside t fs q = record { same = ap (λ ps. record s { tree = t; files = fs; processes = ps }) (put-changed pid (live q) s.processes) }
+    own-other_promises : (t : Tree) (fs : Numbered OpenFile) (q : Process) → HasOtherPromises (with_process (record s { tree = t; files = fs }) pid q) (with_process (record u { tree = t; files = fs }) pid (f q))
+    own-other_promises t fs q = record { same = ap (λ ps. record s { tree = t; files = fs; processes = ps }) (put-changed pid (live q) s.processes) }
 
-    respects : OthersRespect Beside IsBeside s (changed s.processes) pid me (f me)
+    respects : OthersRespect WithOtherPromises HasOtherPromises s (changed s.processes) pid me (f me)
     respects =
         let kids = of-parent-changed pid s.processes in
         record {
-          all = record { after = after-beside; refuses = refused-beside };
-          does = done-beside;
+          all = record { after = after-other_promises; refuses = refused-other_promises };
+          does = done-other_promises;
           same = record { directory = refl; descriptors = refl; table = refl; locked = refl; parent = refl };
           left = λ t fs. record { same = refl };
           count = length-changed s.processes;
@@ -259,30 +259,30 @@ module _ (held : Option Promises) where
           childless = ap is_empty kids ∙ empty-changed (of_parent pid s.processes);
           statuses = ap statuses kids ∙ statuses-changed (of_parent pid s.processes);
           reaps = λ test. record { same = ap (λ ps. record s { processes = ps }) (where-changed test s.processes) };
-          enters = λ n. own-beside s.tree s.files (record me { directory = n });
-          holds = λ t fs ds. own-beside t fs (record me { descriptors = ds });
+          enters = λ n. own-other_promises s.tree s.files (record me { directory = n });
+          holds = λ t fs ds. own-other_promises t fs (record me { descriptors = ds });
         }
 
-    own-done : (q : Process) → Beside (answers (with_process s pid q) 0) (answers (with_process u pid (f q)) 0)
-    own-done q = done-beside 0 (returns 0) _ _ (own-beside s.tree s.files q)
+    own-done : (q : Process) → WithOtherPromises (answers (with_process s pid q) 0) (answers (with_process u pid (f q)) 0)
+    own-done q = done-other_promises 0 (returns 0) _ _ (own-other_promises s.tree s.files q)
 
     module _ (program_of : Bytes → Option Program) (call : Call) (plain : is_plain_call call ≡ true) where
-      no-pledge : (promises execpromises : Option Bytes) → call ≡ TheCall.Pledge promises execpromises → Beside (pledge s pid me promises execpromises) (pledge u pid (f me) promises execpromises)
+      no-pledge : (promises execpromises : Option Bytes) → call ≡ TheCall.Pledge promises execpromises → WithOtherPromises (pledge s pid me promises execpromises) (pledge u pid (f me) promises execpromises)
       no-pledge promises execpromises is = let bad : false ≡ true = ap is_plain_call (sym is) ∙ plain in cc bad
 
-      no-execve : (path : Bytes) → call ≡ TheCall.Execve path → Beside (execve s pid me program_of path) (execve u pid (f me) program_of path)
+      no-execve : (path : Bytes) → call ≡ TheCall.Execve path → WithOtherPromises (execve s pid me program_of path) (execve u pid (f me) program_of path)
       no-execve path is = let bad : false ≡ true = ap is_plain_call (sym is) ∙ plain in cc bad
 
-      own : RespectsOwn (λ ws. Beside) program_of s u pid me (f me) call
+      own : RespectsOwn (λ ws. WithOtherPromises) program_of s u pid me (f me) call
       own =
-          others-own Beside IsBeside s (changed s.processes) pid me (f me) respects program_of call no-pledge
-          (λ path permissions is. unveil-both Beside respects.all s u pid me (f me) refl refl (λ path. refl) (λ place. refl) (own-done (record me { locked = true })) (λ table. own-done (record me { table = Some table })) path permissions)
+          others-own WithOtherPromises HasOtherPromises s (changed s.processes) pid me (f me) respects program_of call no-pledge
+          (λ path permissions is. unveil-both WithOtherPromises respects.all s u pid me (f me) refl refl (λ path. refl) (λ place. refl) (own-done (record me { locked = true })) (λ table. own-done (record me { table = Some table })) path permissions)
           no-execve
 
-      pub rows : Beside (effect program_of s pid me call) (effect program_of u pid (f me) call)
+      pub rows : WithOtherPromises (effect program_of s pid me call) (effect program_of u pid (f me) call)
       rows =
-          call-both (λ ws. Beside) program_of s u pid me (f me) call
-          (others-respect Beside IsBeside s (changed s.processes) pid me (f me) respects program_of call room-beside own (λ d n is count few. refl))
+          call-both (λ ws. WithOtherPromises) program_of s u pid me (f me) call
+          (others-respect WithOtherPromises HasOtherPromises s (changed s.processes) pid me (f me) respects program_of call room-other_promises own (λ d n is count few. refl))
 
   -- ---- answers
 
@@ -494,7 +494,7 @@ module _ (program_of : Bytes → Option Program) where
       by (Some p) at = of p at (next p) refl
 
   want-append : (ls ms : List Line) → reports_need (ls ++ ms) ≡ (reports_need ls || reports_need ms)
-  want-append ls ms = any-append (λ l. is_want l.word) ls ms
+  want-append ls ms = any-append (λ l. is_missing_promise_line l.word) ls ms
 
   bare-run : (pids : List ℕ) (v : State) → IsBare v → RunsPlainly program_of pids v → reports_need (run program_of pids v).lines ≡ false
   bare-run [] v bare plain = refl

@@ -28,18 +28,18 @@ use Rattle.pv_model.specs.Calls.Paths.{make}
 use Rattle.pv_model.specs.Walks.{chdir_walk, stat_walk, lstat_walk, readlink_walk, mkdir_walk, symlink_walk, linked_walk, unlink_walk, rmdir_walk}
 use Rattle.pv_laws_states.specs.Courses.{walks_in_sequence, IsStoppedEarly}
 use Rattle.pv_laws_states.proofs.CallWalks.{begins-found, calls-along}
-use Rattle.pv_laws_states.proofs.Outcomes.{at_call, by_answer}
+use Rattle.pv_laws_states.proofs.CallOutcomes.{at_call, by_answer}
 use Rattle.pv_laws_states.proofs.Processes.{process_at-same, update-is}
-use Rattle.pv_laws_states.proofs.CallRests
-use Rattle.pv_laws_access.proofs.Ends.{update-live}
-use Rattle.pv_laws_access.proofs.Decisions.{Ends, walks_in, table-refuses, lock-refuses-exactly}
-use Rattle.pv_laws_answers.specs.ProcessImages.{Moment, IsCallOf, is_counted_for, IsUnmet, with_promises, IsPromiseListed, governing_target, GivesAt, with_own_table, letters_listed, GrantsListed, GrantsListedExcept}
+use Rattle.pv_laws_states.proofs.CallRemainders
+use Rattle.pv_laws_access.proofs.ProcessesAfterEnds.{update-live}
+use Rattle.pv_laws_access.proofs.WalkDecisions.{Ends, walks_in, table-refuses, lock-refuses-exactly}
+use Rattle.pv_laws_answers.specs.ProcessImages.{Moment, IsCallOf, is_counted_for, IsUnmet, with_promises, IsPromiseListed, governing_target, GrantsAt, with_own_table, permissions_listed, GrantsListed, GrantsListedExcept}
 use Rattle.pv_laws_answers.specs.Wanted.{HasAllNeeds, reports_need, reports_of_table}
 use Rattle.pv_laws_answers.proofs.AskingCalls.{met-answer, along-one, walks-reported}
 use Rattle.pv_laws_answers.proofs.SinglePermissions.{Gives, covers-gives, gives-covers}
 use Rattle.pv_laws_answers.proofs.ListedNeeds.{in-cases, not-in, first-in, later-in, made-in, promise-listed, IsJudgedListed, judged-listed, judged-of, walk-judged, IsWalkJudged, judged-walk}
 use Rattle.pv_laws_answers.proofs.RestraintLines.{has-all, want-reported, lines-of, is_by_table, table-lines, beyond-allowed, last-decides, allowed-silent, refused-reported, along-walks, at-most-one}
-use Rattle.pv_laws_trees.proofs.Targets.{same_target-same}
+use Rattle.pv_laws_trees.proofs.UnveilTargets.{same_target-same}
 
 -- ---- the next step is the same
 
@@ -232,13 +232,13 @@ module _ (program_of : Bytes → Option Program) (s : State) (pid : ℕ) (p : Pr
   walk-starts w f g = starts-walk x y now now_tabled w refl (rest_x w f) (rest_y w g)
 
   make-starts : (w : Walk) (node : Node) → Starts (make x pid now w node) (make y pid now_tabled w node)
-  make-starts w node = walk-starts w (CallRests.make_1 x pid now node) (CallRests.make_1 y pid now_tabled node)
+  make-starts w node = walk-starts w (CallRemainders.make_1 x pid now node) (CallRemainders.make_1 y pid now_tabled node)
 
   open-starts : (start : Start) (path : Bytes) (f : OpenFlags) → Starts (open_at x pid now start path f) (open_at y pid now_tabled start path f)
   open-starts start path f =
       let w = open_walk start path f in
-      let witness_x : Attempt Effect = walk x now w >>= rest_x w (CallRests.open_1 x pid now f) in
-      let witness_y : Attempt Effect = walk y now_tabled w >>= rest_y w (CallRests.open_1 y pid now_tabled f) in
+      let witness_x : Attempt Effect = walk x now w >>= rest_x w (CallRemainders.open_1 x pid now f) in
+      let witness_y : Attempt Effect = walk y now_tabled w >>= rest_y w (CallRemainders.open_1 y pid now_tabled f) in
       let files_x : Attempt Effect = refuse_if ENFILE (nat_le 128 (least_free s.files)) >> witness_x in
       let files_y : Attempt Effect = refuse_if ENFILE (nat_le 128 (least_free s.files)) >> witness_y in
       let few_x : Attempt Effect = refuse_if EMFILE (nat_le 16 (least_free p.descriptors)) >> files_x in
@@ -247,35 +247,35 @@ module _ (program_of : Bytes → Option Program) (s : State) (pid : ℕ) (p : Pr
       (starts-then (check_start x pid now start path) few_x few_y
       (starts-then (refuse_if EMFILE (nat_le 16 (least_free p.descriptors))) files_x files_y
       (starts-then (refuse_if ENFILE (nat_le 128 (least_free s.files))) witness_x witness_y
-      (walk-starts w (CallRests.open_1 x pid now f) (CallRests.open_1 y pid now_tabled f)))))
+      (walk-starts w (CallRemainders.open_1 x pid now f) (CallRemainders.open_1 y pid now_tabled f)))))
 
   -- a call that walks begins its walk with another table too
   calls-start : (call : Call) (w : Walk) (ws : List Walk) → walks_of call ≡ w ∷ ws → is_unveil call ≡ false → Starts (effect program_of x pid now call) (effect program_of y pid now_tabled call)
   unfolding effect
   calls-start (TheCall.Unveil path permissions) w ws walks plain = cc plain
-  calls-start (TheCall.Execve path) w ws walks plain = walk-starts (execve_walk path) (CallRests.execve_1 x pid now program_of) (CallRests.execve_1 y pid now_tabled program_of)
+  calls-start (TheCall.Execve path) w ws walks plain = walk-starts (execve_walk path) (CallRemainders.execve_1 x pid now program_of) (CallRemainders.execve_1 y pid now_tabled program_of)
   calls-start (TheCall.Open path flags) w ws walks plain = open-starts WorkingDirectory path flags
   calls-start (TheCall.OpenAt start path flags) w ws walks plain = open-starts start path flags
-  calls-start (TheCall.Chdir path) w ws walks plain = walk-starts (chdir_walk path) (CallRests.chdir_1 x pid now) (CallRests.chdir_1 y pid now_tabled)
-  calls-start (TheCall.Stat path) w ws walks plain = walk-starts (stat_walk path) (CallRests.stat_1 x pid now) (CallRests.stat_1 y pid now_tabled)
-  calls-start (TheCall.Lstat path) w ws walks plain = walk-starts (lstat_walk path) (CallRests.stat_1 x pid now) (CallRests.stat_1 y pid now_tabled)
-  calls-start (TheCall.Readlink path) w ws walks plain = walk-starts (readlink_walk path) (CallRests.readlink_1 x pid now) (CallRests.readlink_1 y pid now_tabled)
+  calls-start (TheCall.Chdir path) w ws walks plain = walk-starts (chdir_walk path) (CallRemainders.chdir_1 x pid now) (CallRemainders.chdir_1 y pid now_tabled)
+  calls-start (TheCall.Stat path) w ws walks plain = walk-starts (stat_walk path) (CallRemainders.stat_1 x pid now) (CallRemainders.stat_1 y pid now_tabled)
+  calls-start (TheCall.Lstat path) w ws walks plain = walk-starts (lstat_walk path) (CallRemainders.stat_1 x pid now) (CallRemainders.stat_1 y pid now_tabled)
+  calls-start (TheCall.Readlink path) w ws walks plain = walk-starts (readlink_walk path) (CallRemainders.readlink_1 x pid now) (CallRemainders.readlink_1 y pid now_tabled)
   calls-start (TheCall.Mkdir path) w ws walks plain = make-starts (mkdir_walk path) (directory_node [])
   calls-start (TheCall.Symlink text path) w ws walks plain =
       starts-then (refuse_if ENOENT (is_empty text)) (refuse_if ENAMETOOLONG (nat_lt 1023 (length text)) >> make x pid now (symlink_walk path) (link_node text))
       (refuse_if ENAMETOOLONG (nat_lt 1023 (length text)) >> make y pid now_tabled (symlink_walk path) (link_node text))
       (starts-then (refuse_if ENAMETOOLONG (nat_lt 1023 (length text))) (make x pid now (symlink_walk path) (link_node text)) (make y pid now_tabled (symlink_walk path) (link_node text))
       (make-starts (symlink_walk path) (link_node text)))
-  calls-start (TheCall.Link path new) w ws walks plain = walk-starts (linked_walk path) (CallRests.link_1 x pid now new) (CallRests.link_1 y pid now_tabled new)
-  calls-start (TheCall.Unlink path) w ws walks plain = walk-starts (unlink_walk path) (CallRests.unlink_1 x pid now) (CallRests.unlink_1 y pid now_tabled)
+  calls-start (TheCall.Link path new) w ws walks plain = walk-starts (linked_walk path) (CallRemainders.link_1 x pid now new) (CallRemainders.link_1 y pid now_tabled new)
+  calls-start (TheCall.Unlink path) w ws walks plain = walk-starts (unlink_walk path) (CallRemainders.unlink_1 x pid now) (CallRemainders.unlink_1 y pid now_tabled)
   calls-start (TheCall.Rmdir path) w ws walks plain =
-      starts-then (refuse_if EINVAL (ends_in_dot path)) (walk x now (rmdir_walk path) >>= rest_x (rmdir_walk path) (CallRests.rmdir_1 x pid now))
-      (walk y now_tabled (rmdir_walk path) >>= rest_y (rmdir_walk path) (CallRests.rmdir_1 y pid now_tabled))
-      (walk-starts (rmdir_walk path) (CallRests.rmdir_1 x pid now) (CallRests.rmdir_1 y pid now_tabled))
+      starts-then (refuse_if EINVAL (ends_in_dot path)) (walk x now (rmdir_walk path) >>= rest_x (rmdir_walk path) (CallRemainders.rmdir_1 x pid now))
+      (walk y now_tabled (rmdir_walk path) >>= rest_y (rmdir_walk path) (CallRemainders.rmdir_1 y pid now_tabled))
+      (walk-starts (rmdir_walk path) (CallRemainders.rmdir_1 x pid now) (CallRemainders.rmdir_1 y pid now_tabled))
   calls-start (TheCall.Rename path new) w ws walks plain =
-      starts-then (refuse_if EINVAL (ends_in_dot path || ends_in_dot new)) (walk x now (rename_walk path) >>= rest_x (rename_walk path) (CallRests.rename_1 x pid now new))
-      (walk y now_tabled (rename_walk path) >>= rest_y (rename_walk path) (CallRests.rename_1 y pid now_tabled new))
-      (walk-starts (rename_walk path) (CallRests.rename_1 x pid now new) (CallRests.rename_1 y pid now_tabled new))
+      starts-then (refuse_if EINVAL (ends_in_dot path || ends_in_dot new)) (walk x now (rename_walk path) >>= rest_x (rename_walk path) (CallRemainders.rename_1 x pid now new))
+      (walk y now_tabled (rename_walk path) >>= rest_y (rename_walk path) (CallRemainders.rename_1 y pid now_tabled new))
+      (walk-starts (rename_walk path) (CallRemainders.rename_1 x pid now new) (CallRemainders.rename_1 y pid now_tabled new))
   calls-start call w ws walks plain = cc walks
 
 -- at most two walks
@@ -402,7 +402,7 @@ judged-by t table place asked k is = ap (judge_entry table asked) (governs-targe
 gives-through : (a b c : Perms) → Gives a b → Gives b c → Gives a c
 gives-through a b c ab bc = record { r = λ is. ab.r (bc.r is); w = λ is. ab.w (bc.w is); x = λ is. ab.x (bc.x is); c = λ is. ab.c (bc.c is) }
 
-given-allowed : (t : Tree) (table : Table) (place : Place) (letters asked : Perms) → GivesAt t table (target_of t place) letters → Gives letters asked → is_allowed (judgement t (Some table) place asked) ≡ true
+given-allowed : (t : Tree) (table : Table) (place : Place) (letters asked : Perms) → GrantsAt t table (target_of t place) letters → Gives letters asked → is_allowed (judgement t (Some table) place asked) ≡ true
 given-allowed t table place letters asked g has =
     ap is_allowed (judged-by t table place asked g.0 g.1)
     ∙ ap (λ b. is_allowed (if b then Allowed else Denied g.0)) (gives-covers (permissions_at table g.0) asked (gives-through (permissions_at table g.0) letters asked (covers-gives (permissions_at table g.0) letters g.2) has))
@@ -468,8 +468,8 @@ module _ (program_of : Bytes → Option Program) (s : State) (pid : ℕ) (p : Pr
           → is_allowed (judgement s.tree (Some table) place w.needed) ≡ true
       allowed-there number w place few found end =
           let l = listed number w place few found end in
-          given-allowed s.tree table place (letters_listed process_image l.target) w.needed
-          (subst (λ target. GivesAt s.tree table target (letters_listed process_image l.target)) l.same (gives l.target l.listed)) l.gives
+          given-allowed s.tree table place (permissions_listed process_image l.target) w.needed
+          (subst (λ target. GrantsAt s.tree table target (permissions_listed process_image l.target)) l.same (gives l.target l.listed)) l.gives
 
       -- the other table refused the last walk that was begun with it
       refused-last : is_by_table r_u.outcome ≡ true → (w : Walk) × (place : Place) × (walk_number (walks_of call) r_u.walks ≡ Some w) × (end_of s p w ≡ Ok place)
@@ -545,8 +545,8 @@ module _ (program_of : Bytes → Option Program) (s : State) (pid : ℕ) (p : Pr
               (covers (permissions_at table k) w.needed) refl
           by false elsewhere =
               let l = listed number w place few found end in
-              inl (given-allowed s.tree table place (letters_listed process_image l.target) w.needed
-              (subst (λ target. GivesAt s.tree table target (letters_listed process_image l.target)) l.same
+              inl (given-allowed s.tree table place (permissions_listed process_image l.target) w.needed
+              (subst (λ target. GrantsAt s.tree table target (permissions_listed process_image l.target)) l.same
               (gives.others l.target l.listed (ap (λ target. same_target target judged.target) l.same ∙ elsewhere))) l.gives)
 
       -- the walk that needed the permission is denied
@@ -623,22 +623,22 @@ asked-there program_of s pid p call now at is asks =
     let same : a.call ≡ call = cc calls in
     a.is ∙ (λ i. asked_by s (one i) (same i) (answer program_of s pid (same i)))
 
-pub enough-letters : (program_of : Bytes → Option Program) (pids : List ℕ) (s : State) (pid : ℕ) (process_image : List Moment) (m : Moment) (table : Table) (p : Process) (call : Call)
+pub enough-single : (program_of : Bytes → Option Program) (pids : List ℕ) (s : State) (pid : ℕ) (process_image : List Moment) (m : Moment) (table : Table) (p : Process) (call : Call)
     → IsCallOf program_of pids s pid process_image m → process_at m.state pid ≡ Some p → next p ≡ calls_for call → is_unveil call ≡ false → GrantsListed process_image table m.state
     → reports_of_table (step program_of (with_own_table m.state pid table) pid).lines ≡ true
     → ((answer program_of (with_own_table m.state pid table) pid call).walks ≡ 2) × ((answer program_of m.state pid call).walks ≡ 1) × (reports_of_table (step program_of m.state pid).lines ≡ true)
-enough-letters program_of pids s pid process_image m table p call call_of at is plain gives =
+enough-single program_of pids s pid process_image m table p call call_of at is plain gives =
     subst (λ y. reports_of_table (step program_of y pid).lines ≡ true
     → ((answer program_of y pid call).walks ≡ 2) × ((answer program_of m.state pid call).walks ≡ 1) × (reports_of_table (step program_of m.state pid).lines ≡ true))
     (sym (update-is m.state pid (λ z. record z { table = Some table }) p at))
     (enough-reported program_of m.state pid p call table at is plain process_image m call_of.of_process_image
     (asked-there program_of m.state pid p call m.asked at is (made-in program_of pid pids s process_image m call_of).asks) gives)
 
-pub needed-letters : (program_of : Bytes → Option Program) (pids : List ℕ) (s : State) (pid : ℕ) (process_image : List Moment) (m : Moment) (table : Table) (p : Process) (call : Call) (judged : Judged) (letter : Perms) (k : ℕ)
+pub needed-single : (program_of : Bytes → Option Program) (pids : List ℕ) (s : State) (pid : ℕ) (process_image : List Moment) (m : Moment) (table : Table) (p : Process) (call : Call) (judged : Judged) (letter : Perms) (k : ℕ)
     → IsCallOf program_of pids s pid process_image m → process_at m.state pid ≡ Some p → next p ≡ calls_for call → GrantsListedExcept process_image table m.state judged.target letter k
     → Contains m.asked.walks judged → covers judged.permissions letter ≡ true
     → (answer program_of (with_own_table m.state pid table) pid call).outcome ≡ Failed EACCES (ByUnveil (Some k))
-needed-letters program_of pids s pid process_image m table p call judged letter k call_of at is gives has asks_letter =
+needed-single program_of pids s pid process_image m table p call judged letter k call_of at is gives has asks_letter =
     let asks = asked-there program_of m.state pid p call m.asked at is (made-in program_of pid pids s process_image m call_of).asks in
     let j = judged-walk m.state p call (answer program_of m.state pid call).walks judged (subst (λ (a : Asked). Contains a.walks judged) asks has) in
     subst (λ y. (answer program_of y pid call).outcome ≡ Failed EACCES (ByUnveil (Some k))) (sym (update-is m.state pid (λ z. record z { table = Some table }) p at))

@@ -12,13 +12,13 @@ use Rattle.pv_model.specs.Machine.{Bytes, GovernsName, Tree, root, is_directory_
 use Rattle.pv_model.specs.Closed.{by_name, by_directory}
 use Rattle.pv_model.specs.Tree.{above_or_none}
 use Rattle.pv_model.specs.Unveil.{rights_above, climb}
-use Rattle.pv_model.proofs.Rights.{directory_rights-Governs}
+use Rattle.pv_model.proofs.GoverningEntries.{directory_rights-Governs}
 use Rattle.pv_laws_trees.proofs.Ancestors.{entry-reached, IsBelow, at_root, one_below, reached-below, depth-below}
-use Rattle.pv_laws_trees.proofs.Changes.{has_entry-directory}
+use Rattle.pv_laws_trees.proofs.TreeChanges.{has_entry-directory}
 use Rattle.pv_laws_trees.proofs.Trees.{ordered, sound, parent-entry}
 use Rattle.pv_laws_trees.specs.Tree.{IsSoundTree}
-use Rattle.pv_laws_access.specs.Tables.{GovernsPlace, unnamed, absent, directory, named}
-use Rattle.pv_laws_answers.specs.Levels.{LevelsLeadTo, directory_steps, name_steps, place_steps, above_target, GoUp, found, at_top, continues}
+use Rattle.pv_laws_access.specs.Tables.{GovernsPlace, unnamed, without_node, directory, named}
+use Rattle.pv_laws_answers.specs.Levels.{LevelsLeadTo, directory_steps, name_steps, place_steps, above_target, AreClimbed, found, at_top, continues}
 
 -- one level more
 lead-on : (answer : Option ℕ) (l : Level) (ls : List Level) → l.entry ≡ None → LevelsLeadTo answer ls → LevelsLeadTo answer (l ∷ ls)
@@ -134,28 +134,28 @@ module _ (t : Tree) (table : Table) where
     top-target : (d : ℕ) → (d == root) ≡ true → above_target t table (Directory d) ≡ None
     top-target d top = ap (λ b. if b then None else parent t d) top
 
-    go-below : (d k : ℕ) → IsBelow t d k → (steps : ℕ) → k < steps → GoUp t table (Directory d) (levels_within t table steps d)
+    go-below : (d k : ℕ) → IsBelow t d k → (steps : ℕ) → k < steps → AreClimbed t table (Directory d) (levels_within t table steps d)
     go-below d k b zero few = absurd (omega arith)
     go-below _ _ at_root (suc steps) few = by (entry_for table (Directory root)) refl
       where
-        by : (o : Option ℕ) → entry_for table (Directory root) ≡ o → GoUp t table (Directory root) (levels_within t table (suc steps) root)
-        by (Some j) is = subst (GoUp t table (Directory root)) (sym (own-level (Directory root) j _ is)) (found (Directory root) j is)
-        by None none = subst (GoUp t table (Directory root)) (sym (levels-top steps root none refl)) (at_top (Directory root) none (top-target root refl))
+        by : (o : Option ℕ) → entry_for table (Directory root) ≡ o → AreClimbed t table (Directory root) (levels_within t table (suc steps) root)
+        by (Some j) is = subst (AreClimbed t table (Directory root)) (sym (own-level (Directory root) j _ is)) (found (Directory root) j is)
+        by None none = subst (AreClimbed t table (Directory root)) (sym (levels-top steps root none refl)) (at_top (Directory root) none (top-target root refl))
     go-below _ _ (one_below d above k other up below) (suc steps) few = by (entry_for table (Directory d)) refl (go-below above k below steps (omega arith))
       where
-        by : (o : Option ℕ) → entry_for table (Directory d) ≡ o → GoUp t table (Directory above) (levels_within t table steps above) → GoUp t table (Directory d) (levels_within t table (suc steps) d)
-        by (Some j) is higher = subst (GoUp t table (Directory d)) (sym (own-level (Directory d) j _ is)) (found (Directory d) j is)
+        by : (o : Option ℕ) → entry_for table (Directory d) ≡ o → AreClimbed t table (Directory above) (levels_within t table steps above) → AreClimbed t table (Directory d) (levels_within t table (suc steps) d)
+        by (Some j) is higher = subst (AreClimbed t table (Directory d)) (sym (own-level (Directory d) j _ is)) (found (Directory d) j is)
         by None none higher =
-            subst (GoUp t table (Directory d))
+            subst (AreClimbed t table (Directory d))
             (sym (levels-step steps d (Some above) none (ne_eqb d root other) up ∙ ap (λ ls. level t table (Directory d) ∷ ls) (append-nil (levels_within t table steps above))))
             (continues (Directory d) above (levels_within t table steps above) none (up-target d (Some above) (ne_eqb d root other) up) higher)
 
-    directory-up : (d : ℕ) → GoUp t table (Directory d) (directory_levels t table d)
+    directory-up : (d : ℕ) → AreClimbed t table (Directory d) (directory_levels t table d)
     directory-up d = by_own (entry_for table (Directory d)) refl
       where
-        by_parent : entry_for table (Directory d) ≡ None → (d == root) ≡ false → (o : Option ℕ) → parent t d ≡ o → GoUp t table (Directory d) (directory_levels t table d)
+        by_parent : entry_for table (Directory d) ≡ None → (d == root) ≡ false → (o : Option ℕ) → parent t d ≡ o → AreClimbed t table (Directory d) (directory_levels t table d)
         by_parent none other None up =
-            subst (GoUp t table (Directory d)) (sym (levels-step (length t.nodes) d None none other up)) (at_top (Directory d) none (up-target d None other up))
+            subst (AreClimbed t table (Directory d)) (sym (levels-step (length t.nodes) d None none other up)) (at_top (Directory d) none (up-target d None other up))
         by_parent none other (Some a) up =
             let apart : d ≢ root = eqb-false d root other in
             let entry = parent-entry t (ordered t s.each_node) d a apart up in
@@ -163,21 +163,21 @@ module _ (t : Tree) (table : Table) where
             let few = depth-below t s d (suc high.0) (one_below d a high.0 apart up high.1) in
             go-below d (suc high.0) (one_below d a high.0 apart up high.1) (suc (length t.nodes)) (omega (arith, few))
 
-        by_root : entry_for table (Directory d) ≡ None → (b : Bool) → (d == root) ≡ b → GoUp t table (Directory d) (directory_levels t table d)
-        by_root none true top = subst (GoUp t table (Directory d)) (sym (levels-top (length t.nodes) d none top)) (at_top (Directory d) none (top-target d top))
+        by_root : entry_for table (Directory d) ≡ None → (b : Bool) → (d == root) ≡ b → AreClimbed t table (Directory d) (directory_levels t table d)
+        by_root none true top = subst (AreClimbed t table (Directory d)) (sym (levels-top (length t.nodes) d none top)) (at_top (Directory d) none (top-target d top))
         by_root none false other = by_parent none other (parent t d) refl
 
-        by_own : (o : Option ℕ) → entry_for table (Directory d) ≡ o → GoUp t table (Directory d) (directory_levels t table d)
-        by_own (Some j) is = subst (GoUp t table (Directory d)) (sym (own-level (Directory d) j _ is)) (found (Directory d) j is)
+        by_own : (o : Option ℕ) → entry_for table (Directory d) ≡ o → AreClimbed t table (Directory d) (directory_levels t table d)
+        by_own (Some j) is = subst (AreClimbed t table (Directory d)) (sym (own-level (Directory d) j _ is)) (found (Directory d) j is)
         by_own None none = by_root none (d == root) refl
 
-    name-up : (d : ℕ) (name : Bytes) → GoUp t table (Name d name) (name_levels t table d name)
+    name-up : (d : ℕ) (name : Bytes) → AreClimbed t table (Name d name) (name_levels t table d name)
     name-up d name = by (entry_for table (Name d name)) refl
       where
-        by : (o : Option ℕ) → entry_for table (Name d name) ≡ o → GoUp t table (Name d name) (name_levels t table d name)
-        by (Some j) is = subst (GoUp t table (Name d name)) (sym (own-level (Name d name) j (directory_levels t table d) is)) (found (Name d name) j is)
+        by : (o : Option ℕ) → entry_for table (Name d name) ≡ o → AreClimbed t table (Name d name) (name_levels t table d name)
+        by (Some j) is = subst (AreClimbed t table (Name d name)) (sym (own-level (Name d name) j (directory_levels t table d) is)) (found (Name d name) j is)
         by None none =
-            subst (GoUp t table (Name d name)) (sym (higher-levels (Name d name) (directory_levels t table d) none))
+            subst (AreClimbed t table (Name d name)) (sym (higher-levels (Name d name) (directory_levels t table d) none))
             (continues (Name d name) d (directory_levels t table d) none refl (directory-up d))
 
 -- ---- the levels of places
@@ -196,18 +196,18 @@ levels-lead t table (At d name (Some n)) = by (is_directory_at t n)
 pub levels-derived : (t : Tree) (table : Table) (place : Place) (k : ℕ) (governs : GovernsPlace t table place k) → levels t table place ≡ place_steps t table place k governs
 unfolding levels
 levels-derived t table _ _ (unnamed n k governs) = rights-derived t table n k governs
-levels-derived t table _ _ (absent d name k governs) = name-derived t table d name k governs
+levels-derived t table _ _ (without_node d name k governs) = name-derived t table d name k governs
 levels-derived t table _ _ (directory d name n k is governs) =
     ap (λ b. if b then directory_levels t table n else name_levels t table d name) is ∙ rights-derived t table n k governs
 levels-derived t table _ _ (named d name n k plain governs) =
     ap (λ b. if b then directory_levels t table n else name_levels t table d name) plain ∙ name-derived t table d name k governs
 
-pub levels-up : (t : Tree) (table : Table) (place : Place) → IsWellFormed t → GoUp t table (target_of t place) (levels t table place)
+pub levels-up : (t : Tree) (table : Table) (place : Place) → IsWellFormed t → AreClimbed t table (target_of t place) (levels t table place)
 unfolding levels
 levels-up t table (Unnamed n) w = directory-up t table (sound t w) n
 levels-up t table (At d name None) w = name-up t table (sound t w) d name
 levels-up t table (At d name (Some n)) w = by (is_directory_at t n)
   where
-    by : (b : Bool) → GoUp t table (if b then Directory n else Name d name) (if b then directory_levels t table n else name_levels t table d name)
+    by : (b : Bool) → AreClimbed t table (if b then Directory n else Name d name) (if b then directory_levels t table n else name_levels t table d name)
     by true = directory-up t table (sound t w) n
     by false = name-up t table (sound t w) d name

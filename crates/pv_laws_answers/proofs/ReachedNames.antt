@@ -11,8 +11,8 @@ use Rattle.pv_model.specs.Machine.{with_name, ListedName, Bytes, entries_of_tabl
 use Rattle.pv_model.specs.Answers.ProcessRecord.{open_descriptors}
 use Rattle.pv_model.specs.Answers.Reach.{descriptor_texts, directory_texts, entry_texts, listed_names, names_within, name_text, reach_texts}
 use Rattle.pv_model.specs.Grammar.Entries.{path_of_names}
-use Rattle.pv_laws_trees.proofs.Changes.{entries-good}
-use Rattle.pv_laws_trees.proofs.Entries.{by_name, find_after, tied_itself}
+use Rattle.pv_laws_trees.proofs.TreeChanges.{entries-good}
+use Rattle.pv_laws_trees.proofs.DirectoryEntries.{by_name, find_after, tied_itself}
 use Rattle.pv_laws_access.specs.Order.{IsListedBy, Places, led_to}
 use Rattle.pv_laws_access.proofs.ListingOrder.{listed-by, places_within}
 use Rattle.pv_laws_answers.specs.ReachNames.{AreNamesOf, IsPlaceOfNames}

@@ -21,16 +21,16 @@ use Rattle.pv_model.specs.declared.place.Place.{Place}
 use Rattle.pv_model.specs.declared.promise.Promise.{Promise}
 use Rattle.pv_model.specs.Machine.{Answered, answer, answer_by_attempt, at_next_line, effect, is_allowed, Attempt, done, refused, after_walks, ◌>>=◌, ◌>>◌, Bytes, Effect, place_or_refusal, judgement_or_refusal, judge, end_of, needs, needs_cpath, needs_of_mode, covers, calls_for, next, Promises, Need, is_met, is_lenient, missing_promise, Program, Process, State, process_at, Stepped, step, step_by, Word, call_word, nami_word, gio_word, ret_word, gave, Line, line, walked_paths, buffer_of, promise_words, unveil_words, moved_words, end_words, call_lines, Tree, Table, permissions_at, governing_entry, judgement, judge_entry, Walked, begins_walk, Walk, walks_of, walk_number, is_unveil}
 use Rattle.pv_model.specs.Trace.{psig_word, wait_word, Direction, took, Returned, value_of, error_of}
-use Rattle.pv_laws_states.specs.Courses.{walks_in_sequence, IsStoppedEarly, GoesAlong}
+use Rattle.pv_laws_states.specs.Courses.{walks_in_sequence, IsStoppedEarly, IsOnCourse}
 use Rattle.pv_laws_states.proofs.CallWalks.{calls-along}
-use Rattle.pv_laws_states.proofs.Outcomes.{at_call, by_answer}
-use Rattle.pv_laws_access.proofs.Ends.{step-is}
+use Rattle.pv_laws_states.proofs.CallOutcomes.{at_call, by_answer}
+use Rattle.pv_laws_access.proofs.ProcessesAfterEnds.{step-is}
 use Rattle.pv_laws_access.specs.Promises.{IsFirstMissing, IsRefusedByPromise, missing, increase}
-use Rattle.pv_laws_access.proofs.Decisions.{NotByTable, Ends, walks_in, answer-decides, lock-refuses-exactly}
+use Rattle.pv_laws_access.proofs.WalkDecisions.{NotByTable, Ends, walks_in, answer-decides, lock-refuses-exactly}
 use Rattle.pv_laws_access.proofs.FirstMissing.{first-missing-named}
 use Rattle.pv_laws_access.proofs.PromiseRefusals.{promise-refuses, promise-kills}
 use Rattle.pv_laws_access.proofs.PledgeRefusals.{is_of_promise}
-use Rattle.pv_laws_answers.specs.Wanted.{is_want, reports_need, HasAllNeeds, is_of_table_line, reports_of_table, Permits, HasTableLine}
+use Rattle.pv_laws_answers.specs.Wanted.{is_missing_promise_line, reports_need, HasAllNeeds, is_of_table_line, reports_of_table, Permits, HasTableLine}
 use Rattle.pv_laws_answers.proofs.AskingCalls.{along-one, walks-reported}
 
 -- ---- promises that are met
@@ -166,7 +166,7 @@ module _ (pid : ℕ) (test : Word → Bool) where
         ap (λ b. b || list_any (λ l. test l.word) (paths ++ promises ++ tables ++ moved ++ end)) (quiet.calls call)
         ∙ five paths promises tables moved end (silent-paths (take a.walks (walked_paths call))) (silent-moved a.after p call a.outcome) (silent-end call a.outcome)
 
-want-quiet : IsQuiet is_want
+want-quiet : IsQuiet is_missing_promise_line
 want-quiet = record {
   calls = λ call. refl;
   paths = λ path. refl;
@@ -186,7 +186,7 @@ table-quiet = record {
   blocks = refl;
 }
 
-tables-want-nothing : (pid : ℕ) (call : Call) (walks : ℕ) (o : Outcome) → reported pid is_want (unveil_words call walks o) ≡ false
+tables-want-nothing : (pid : ℕ) (call : Call) (walks : ℕ) (o : Outcome) → reported pid is_missing_promise_line (unveil_words call walks o) ≡ false
 tables-want-nothing pid call walks (Failed errno (ByUnveil None)) = refl
 tables-want-nothing pid call walks (Failed errno (ByUnveil (Some k))) = refl
 tables-want-nothing pid call walks (Failed errno Locked) = refl
@@ -198,7 +198,7 @@ promises-are-no_tables pid call (Failed ENOSYS (ByPromise a)) = refl
 promises-are-no_tables pid call (Failed errno (ByPromise a)) = refl
 promises-are-no_tables pid call o = refl
 
-no-promise : (pid : ℕ) (call : Call) (errno : Errno) (cause : Cause) → is_of_promise cause ≡ false → reported pid is_want (promise_words call (Failed errno cause)) ≡ false
+no-promise : (pid : ℕ) (call : Call) (errno : Errno) (cause : Cause) → is_of_promise cause ≡ false → reported pid is_missing_promise_line (promise_words call (Failed errno cause)) ≡ false
 no-promise pid call errno (ByPromise b) is = cc is
 no-promise pid call ENOSYS cause is = refl
 no-promise pid call errno cause is = refl
@@ -229,10 +229,10 @@ module _ (program_of : Bytes → Option Program) (s : State) (pid : ℕ) (p : Pr
   pub lines-of : next p ≡ calls_for call → (step program_of s pid).lines ≡ call_lines pid p call a
   lines-of is = ap (λ (w : Stepped). w.lines) (step-is program_of s pid p at ∙ ap (step_by program_of s pid p) is)
 
-  pub want-lines : reports_need (call_lines pid p call a) ≡ reported pid is_want (promise_words call a.outcome)
+  pub want-lines : reports_need (call_lines pid p call a) ≡ reported pid is_missing_promise_line (promise_words call a.outcome)
   want-lines =
-      reported-lines pid is_want want-quiet p call a ∙ ap (λ b. reported pid is_want (promise_words call a.outcome) || b) (tables-want-nothing pid call a.walks a.outcome)
-      ∙ or-false (reported pid is_want (promise_words call a.outcome))
+      reported-lines pid is_missing_promise_line want-quiet p call a ∙ ap (λ b. reported pid is_missing_promise_line (promise_words call a.outcome) || b) (tables-want-nothing pid call a.walks a.outcome)
+      ∙ or-false (reported pid is_missing_promise_line (promise_words call a.outcome))
 
   pub table-lines : reports_of_table (call_lines pid p call a) ≡ is_by_table a.outcome
   table-lines =
@@ -243,11 +243,11 @@ module _ (program_of : Bytes → Option Program) (s : State) (pid : ℕ) (p : Pr
   pub lacks-reported : (b : Promise) → missing_promise p.promises (needs call) ≡ Some b → reports_need (call_lines pid p call a) ≡ true
   lacks-reported b lacks = want-lines ∙ by (is_lenient p.promises) refl
     where
-      by : (l : Bool) → is_lenient p.promises ≡ l → reported pid is_want (promise_words call a.outcome) ≡ true
+      by : (l : Bool) → is_lenient p.promises ≡ l → reported pid is_missing_promise_line (promise_words call a.outcome) ≡ true
       by true lenient =
-          ap (λ o. reported pid is_want (promise_words call o)) ((promise-refuses program_of s pid p call at ENOSYS b).1 (missing lenient ((first-missing-named p.promises call b).0 lacks)))
+          ap (λ o. reported pid is_missing_promise_line (promise_words call o)) ((promise-refuses program_of s pid p call at ENOSYS b).1 (missing lenient ((first-missing-named p.promises call b).0 lacks)))
       by false strict =
-          ap (λ o. reported pid is_want (promise_words call o)) ((promise-kills program_of s pid p call at b).1 (strict, (first-missing-named p.promises call b).0 lacks))
+          ap (λ o. reported pid is_missing_promise_line (promise_words call o)) ((promise-kills program_of s pid p call at b).1 (strict, (first-missing-named p.promises call b).0 lacks))
 
   -- if no promise is missing, none is reported
   pub met-reported : missing_promise p.promises (needs call) ≡ None → reports_need (call_lines pid p call a) ≡ false
@@ -256,11 +256,11 @@ module _ (program_of : Bytes → Option Program) (s : State) (pid : ℕ) (p : Pr
       named : (b : Promise) → IsFirstMissing p.promises call b → ⊥
       named b first = let both : None ≡ Some b = sym met ∙ (first-missing-named p.promises call b).1 first in cc both
 
-      refused : (errno : Errno) (b : Promise) → IsRefusedByPromise p call b errno → reported pid is_want (promise_words call (Failed errno (ByPromise b))) ≡ false
+      refused : (errno : Errno) (b : Promise) → IsRefusedByPromise p call b errno → reported pid is_missing_promise_line (promise_words call (Failed errno (ByPromise b))) ≡ false
       refused _ b (missing lenient first) = absurd (named b first)
       refused _ b (increase inc) = refl
 
-      by : (o : Outcome) → a.outcome ≡ o → reported pid is_want (promise_words call o) ≡ false
+      by : (o : Outcome) → a.outcome ≡ o → reported pid is_missing_promise_line (promise_words call o) ≡ false
       by (Killed b) is = absurd (named b ((promise-kills program_of s pid p call at b).0 is).1)
       by (Failed errno (ByPromise b)) is = refused errno b ((promise-refuses program_of s pid p call at errno b).0 is)
       by (Failed errno Plain) is = no-promise pid call errno Plain refl
@@ -328,12 +328,12 @@ module _ (s : State) (me : Process) where
           absurd (at-most-one (begins_walk v.path) e
           (let more = subst (λ r. suc (suc (suc n)) ≤ walks_in (continues v ws r)) is beyond in omega (arith, more)))
 
-pub along-walks : (c : Attempt (Unit {0})) (e : Attempt Effect) → GoesAlong c e → walks_in c ≡ walks_in e
+pub along-walks : (c : Attempt (Unit {0})) (e : Attempt Effect) → IsOnCourse c e → walks_in c ≡ walks_in e
 along-walks (done k v) (done walks value) is = sym is
 along-walks (done k v) (refused walks errno cause) is = sym is.0
 along-walks (refused k errno cause) e is = ap walks_in (sym is)
 
--- ---- a place that is judged
+-- ---- a place that is checked
 
 pub permitted : (t : Tree) (o : Option Table) (place : Place) (asked : Perms) → Permits t o place asked ↔ (is_allowed (judgement t o place asked) ≡ true)
 unfolding judgement

@@ -16,13 +16,13 @@ module _ (same : Found → Found → Bool) where
 
   module _ (moves : Found → List Move) (limit : ℕ) where
     abbrev pub with_move : List Found → Move → List Found
-    with_move found m = Search.with_move moves found_by is_known limit found m
+    with_move found m = Search.with_element moves found_by is_known limit found m
 
     abbrev pub found_after : (List Found → List Found) → List Found → Option Found → List Found
-    found_after rest found f = Search.found_after moves found_by is_known limit rest found f
+    found_after rest found f = Search.elements_after moves found_by is_known limit rest found f
 
     abbrev pub found_from : ℕ → ℕ → List Found → List Found
-    found_from states k found = Search.found_from moves found_by is_known limit states k found
+    found_from states k found = Search.elements_from moves found_by is_known limit states k found
 
     -- one state of each class that steps reach from a state, in breadth-first order, up to the limit
     unfoldable pub visited : State → List Found
@@ -203,7 +203,7 @@ module _ {C : Type 0} (class_of : Found → C) where
             leads = (leads-preserved m found rest.new after rest.more rest.full leads, rest.leads);
           }
 
-      -- ---- the whole search
+      -- ---- the complete run of the search
 
       -- no witness comes after the steps of the next state
       abbrev pub UnderNext : List Found → List Found → Type 0

@@ -10,8 +10,8 @@ use Rattle.pv_model.specs.Machine.{is_allowed, covers, permission_r, permission_
 use Rattle.pv_model.specs.Answers.Reach.{reached_permissions}
 use Rattle.pv_model.specs.Perms.{permission_w}
 use Rattle.pv_model.specs.Promises.{holds}
-use Rattle.pv_laws_answers.specs.Reach.{need_if, needs_for, is_some_letter}
-use Rattle.pv_laws_trees.proofs.Targets.{covers-r, covers-w, covers-x, covers-c}
+use Rattle.pv_laws_answers.specs.Reach.{need_if, needs_for, is_one_permission}
+use Rattle.pv_laws_trees.proofs.UnveilTargets.{covers-r, covers-w, covers-x, covers-c}
 
 -- each permission of the second set is in the first
 pub record Gives (a b : Perms) : Type 0 where
@@ -122,8 +122,8 @@ module _ (t : Tree) (place : Place) where
     x : asked.x ≡ true → is_allowed (judge_entry table permission_x entry) ≡ true
     c : asked.c ≡ true → is_allowed (judge_entry table permission_c entry) ≡ true
 
-  some-letter : (table : Table) (asked : Perms) → AllowsBy table None asked → is_some_letter asked ≡ true → ⊥
-  some-letter table asked allows some =
+  one-permission : (table : Table) (asked : Perms) → AllowsBy table None asked → is_one_permission asked ≡ true → ⊥
+  one-permission table asked allows some =
       ⊎_elim
       (λ three. ⊎_elim
       (λ two. ⊎_elim (λ r. let no = allows.r r in cc no) (λ w. let no = allows.w w in cc no) (or_cases asked.r asked.w two))
@@ -131,8 +131,8 @@ module _ (t : Tree) (place : Place) where
       (λ c. let no = allows.c c in cc no)
       (or_cases (asked.r || asked.w || asked.x) asked.c some)
 
-  entry-allows : (table : Table) (entry : Option ℕ) (asked : Perms) → AllowsBy table entry asked → is_some_letter asked ≡ true → is_allowed (judge_entry table asked entry) ≡ true
-  entry-allows table None asked allows some = absurd (some-letter table asked allows some)
+  entry-allows : (table : Table) (entry : Option ℕ) (asked : Perms) → AllowsBy table entry asked → is_one_permission asked ≡ true → is_allowed (judge_entry table asked entry) ≡ true
+  entry-allows table None asked allows some = absurd (one-permission table asked allows some)
   entry-allows table (Some k) asked allows some =
       let has = permissions_at table k in
       allowed-if (covers has asked) k
@@ -156,7 +156,7 @@ module _ (t : Tree) (place : Place) where
       }
 
   -- all permissions together are allowed if and only if each is
-  pub allows-all : (o : Option Table) (asked : Perms) → Allows o asked → is_some_letter asked ≡ true → is_allowed (judgement t o place asked) ≡ true
+  pub allows-all : (o : Option Table) (asked : Perms) → Allows o asked → is_one_permission asked ≡ true → is_allowed (judgement t o place asked) ≡ true
   unfolding judgement
   allows-all None asked allows some = refl
   allows-all (Some table) asked allows some =

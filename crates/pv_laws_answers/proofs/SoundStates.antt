@@ -1,9 +1,9 @@
 -- Each visited state is reached by its witness, and the properties of the finished search.
 use Rattle.std.proofs.Common.{◌≡◌, ◌∙◌, sym, ap, subst, ℕ, ◌≤◌, Bool, true, List, [], ◌∷◌, ◌++◌, Option, Some, is_some, inl, refl, arith}
 use Rattle.pv_model.specs.Machine.{Found, Move, move, moves_of, found_by, states_found, same_state, Bytes, live_processes, Program, Process, State, process_at, Run, step, run}
-use Rattle.pv_model.proofs.Runs.{run-append}
+use Rattle.pv_model.proofs.RunComposition.{run-append}
 use Rattle.pv_laws_states.specs.States.{EncodesPrograms, IsValid}
-use Rattle.pv_laws_states.proofs.BySteps.{step-keeps_whole}
+use Rattle.pv_laws_states.proofs.ValidBySteps.{step-keeps_valid}
 use Rattle.pv_laws_answers.specs.Witnesses.{AreSteps, IsWitness}
 use Rattle.pv_laws_answers.proofs.Lists.{Among, each-from_among, map-among}
 use Rattle.pv_laws_answers.proofs.LiveProcesses.{listed-live, moves-ascending}
@@ -56,7 +56,7 @@ module _ (program_of : Bytes → Option Program) where
       sound-move f m it within =
           let made = made-by f m it.whole within in
           subst (λ (n : Move). IsSound (found_by n)) (sym made.2) (record {
-            whole = step-keeps_whole program_of encodes f.state m.pid it.whole;
+            whole = step-keeps_valid program_of encodes f.state m.pid it.whole;
             witness = witness-more s f.state f.witness m.pid it.witness (ap is_some made.1);
           })
 

@@ -19,7 +19,7 @@ use Rattle.pv_model.specs.declared.version.Version.{Version}
 use Rattle.pv_model.specs.declared.version.Version.TheVariants.{V1, V2}
 use Rattle.pv_model.specs.Machine.{Numbers, bool_numbers, number_numbers, integer_numbers, option_numbers, list_numbers, bytes_numbers, instruction_numbers, descriptor_numbers, entry_numbers, tree_numbers, file_numbers, state_numbers, same_state, Bytes, OpenFile, Descriptor, Process, ProcessRecord, live, ended_record, State, Node, directory_node, file_node, link_node, Tree}
 use Rattle.pv_model.specs.Answers.Numbers.{mode_numbers, whence_numbers, flags_numbers, operand_numbers, origin_numbers, text_numbers, target_numbers, permissions_numbers, process_numbers, record_numbers, name_numbers, node_numbers, version_numbers}
-use Rattle.pv_laws_trees.proofs.Entries.{bytes_eq-same, bytes_eq-itself}
+use Rattle.pv_laws_trees.proofs.DirectoryEntries.{bytes_eq-same, bytes_eq-itself}
 
 -- a decoded value, and the remaining numbers
 abbrev Reading : Type 0 → Type 0

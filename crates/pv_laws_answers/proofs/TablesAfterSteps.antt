@@ -14,11 +14,11 @@ use Rattle.pv_model.specs.declared.outcome.Outcome.TheVariants.{Value, Failed}
 use Rattle.pv_model.specs.declared.perms.Perms.{Perms}
 use Rattle.pv_model.specs.declared.place.Place.{Place}
 use Rattle.pv_model.specs.Machine.{Answered, answer, answer_by_attempt, at_next_line, update, effect, Attempt, done, refused, ◌>>=◌, ◌>>◌, refuse_if, Bytes, with_result, end_process, child, fork, entries_of_table, refuse_if_locked, unveil, add_target, Effect, Reply, returns, returns_bytes, ends, waits, answers, walk_from, end_of, errno_number, collect, needs, no_permissions, read_permissions, missing_promise, Program, Process, State, process_at, with_process, Table, target_of, unveil_walk}
-use Rattle.pv_laws_states.proofs.Attempts.{Leads, leads-demand, leads-walk, leads-then, leads-bind}
-use Rattle.pv_laws_states.proofs.Outcomes.{at_call, by_answer}
+use Rattle.pv_laws_states.proofs.AttemptValues.{Leads, leads-demand, leads-walk, leads-then, leads-bind}
+use Rattle.pv_laws_states.proofs.CallOutcomes.{at_call, by_answer}
 use Rattle.pv_laws_states.proofs.Processes.{process_at-same, process_at-other}
-use Rattle.pv_laws_states.proofs.CallRests
-use Rattle.pv_laws_access.proofs.Ends.{process_at-collect, update-live, update-other, ended-not_live}
+use Rattle.pv_laws_states.proofs.CallRemainders
+use Rattle.pv_laws_access.proofs.ProcessesAfterEnds.{process_at-collect, update-live, update-other, ended-not_live}
 use Rattle.pv_laws_answers.proofs.AddedEntries.{IsAdded, leads-added}
 use Rattle.pv_laws_answers.proofs.AskingCalls.{met-answer}
 
@@ -41,10 +41,10 @@ module _ (s : State) (pid : ℕ) (me : Process) (path text : Bytes) where
 
   leads-unveil : Leads Unveils (unveil s pid me (Some path) (Some text))
   leads-unveil =
-      leads-demand Unveils EINVAL (read_permissions text) (CallRests.unveil_1 s pid me path) (λ permissions encoded.
-      leads-then Unveils (refuse_if_locked me.locked) (walk_from s me.directory Last path >>= CallRests.unveil_2 s pid me permissions)
-      (leads-walk Unveils s me.directory Last path (CallRests.unveil_2 s pid me permissions) (λ place leads.
-      leads-bind Unveils (IsAdded (entries_of_table me.table) (target_of s.tree place) permissions) (add_target s pid me (target_of s.tree place) permissions) (CallRests.unveil_3 s pid me)
+      leads-demand Unveils EINVAL (read_permissions text) (CallRemainders.unveil_1 s pid me path) (λ permissions encoded.
+      leads-then Unveils (refuse_if_locked me.locked) (walk_from s me.directory Last path >>= CallRemainders.unveil_2 s pid me permissions)
+      (leads-walk Unveils s me.directory Last path (CallRemainders.unveil_2 s pid me permissions) (λ place leads.
+      leads-bind Unveils (IsAdded (entries_of_table me.table) (target_of s.tree place) permissions) (add_target s pid me (target_of s.tree place) permissions) (CallRemainders.unveil_3 s pid me)
       (leads-added (entries_of_table me.table) (target_of s.tree place) permissions)
       (λ table added. record {
         place = place;

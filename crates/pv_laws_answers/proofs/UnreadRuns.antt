@@ -1,4 +1,4 @@
--- Runs, and runs with other bytes in a file that no step reads, and what a search reports of both.
+-- Runs, and runs with other bytes in a file that no step reads, and the reports of a search on both.
 use Rattle.std.proofs.Common.{◌≡◌, ◌≢◌, ◌∙◌, sym, ap, ap₂, subst, refl, ℕ, suc, ◌≤◌, true, false, List, [], ◌∷◌, ◌++◌, map, length, length-append, codes, bytes_eq, Option, None, Some, option_map, option_and_then, is_some, inl, inr, arith}
 use Rattle.std.specs.FinMap.Entries.{find}
 use Rattle.std.specs.List.{AllByRecursion, list_any}
@@ -6,14 +6,14 @@ use Rattle.pv_model.specs.Machine.{Found, Move, states_found, is_complete, move_
 use Rattle.pv_model.specs.Answers.Explore.{move_lines}
 use Rattle.pv_model.specs.Step.{init_program}
 use Rattle.pv_model.specs.Touch.{SameButFile}
-use Rattle.pv_laws_trees.proofs.Entries.{by_name, bytes_eq-same}
+use Rattle.pv_laws_trees.proofs.DirectoryEntries.{by_name, bytes_eq-same}
 use Rattle.pv_laws_states.specs.States.{EncodesPrograms, IsFirstTree, IsValid, is_program_in_bounds}
-use Rattle.pv_laws_states.proofs.BySteps.{first-whole, step-keeps_whole}
+use Rattle.pv_laws_states.proofs.ValidBySteps.{first-valid, step-keeps_valid}
 use Rattle.pv_laws_access.specs.Secrets.{StepsDifferInFile}
-use Rattle.pv_laws_access.proofs.SimilarTrees.{as_is, with_nodes, near-beside, entries-near, IsNear, same-but_file, near-bytes, near-length_of}
+use Rattle.pv_laws_access.proofs.SimilarTrees.{as_is, with_nodes, near-other, entries-near, IsNear, same-but_file, near-bytes, near-length_of}
 use Rattle.pv_laws_access.specs.Sealing.{RunsDifferInFile}
 use Rattle.pv_laws_answers.specs.Search.{IsSearchable, CanHappen, HasLeastWitness, ReportedSteps, text_of_step, reported}
-use Rattle.pv_laws_answers.specs.Unread.{IsReadByNone, HappensToo, ReportsTheSame, StartsWithOtherBytes}
+use Rattle.pv_laws_answers.specs.Unread.{IsNeverRead, HasSameWitness, HasSameReports, StartsWithOtherBytes}
 use Rattle.pv_laws_answers.specs.Witnesses.{AreSteps, IsSmallerWitness, IsEarlierWitness, IsNoLaterWitness, EachToLater}
 use Rattle.pv_laws_answers.proofs.CompleteSearches.{found-there, all-found, all-reported}
 use Rattle.pv_laws_answers.proofs.LeastWitnesses.{steps-split, reported-steps}
@@ -106,7 +106,7 @@ module _ (program_of : Bytes → Option Program) where
     text-same : (pids : List ℕ) (pid : ℕ) → text_of_step program_of (run program_of pids u).final pid ≡ text_of_step program_of (run program_of pids s).final pid
     text-same pids pid = ap trace_bytes (alike.lines pids pid)
 
-    happens-too : (m : Move) → CanHappen program_of s m → HappensToo program_of u m
+    happens-too : (m : Move) → CanHappen program_of s m → HasSameWitness program_of u m
     happens-too m can = record {
       before = can.before;
       witness = can.witness;
@@ -167,56 +167,56 @@ module _ (program_of : Bytes → Option Program) where
     Unread : State → Type 0
     Unread s = (pids : List ℕ) (pid : ℕ) (p : Process) → process_at (run program_of pids s).final pid ≡ Some p → Touches program_of (run program_of pids s).final pid (read_file f) → ⊥
 
-    record AreBeside (s u : State) : Type 0 where
+    record HaveOtherBytes (s u : State) : Type 0 where
       same : SameButFile f s u
       as_many : length (file_bytes u f) ≡ length (file_bytes s f)
       whole : IsValid s
       other_whole : IsValid u
       unread : Unread s
 
-    beside-step : (s u : State) → AreBeside s u → (pid : ℕ) → StepsDifferInFile f (step program_of s pid) (step program_of u pid)
+    step-other_bytes : (s u : State) → HaveOtherBytes s u → (pid : ℕ) → StepsDifferInFile f (step program_of s pid) (step program_of u pid)
     unfolding Unread
-    beside-step s u it pid =
+    step-other_bytes s u it pid =
         subst (λ (y : State). StepsDifferInFile f (step program_of s pid) (step program_of y pid)) it.same
         (unread-alike program_of s pid f (file_bytes u f) it.whole (subst IsValid (sym it.same) it.other_whole) it.as_many (it.unread [] pid))
 
-    beside-next : (s u : State) → AreBeside s u → (pid : ℕ) → AreBeside (step program_of s pid).after (step program_of u pid).after
+    next-other_bytes : (s u : State) → HaveOtherBytes s u → (pid : ℕ) → HaveOtherBytes (step program_of s pid).after (step program_of u pid).after
     unfolding Unread
-    beside-next s u it pid =
-        let alike = beside-step s u it pid in
+    next-other_bytes s u it pid =
+        let alike = step-other_bytes s u it pid in
         record {
           same = alike.after;
           as_many = alike.as_many;
-          whole = step-keeps_whole program_of encodes s pid it.whole;
-          other_whole = step-keeps_whole program_of encodes u pid it.other_whole;
+          whole = step-keeps_valid program_of encodes s pid it.whole;
+          other_whole = step-keeps_valid program_of encodes u pid it.other_whole;
           unread = λ pids. it.unread (pid ∷ pids);
         }
 
-    beside-run : (pids : List ℕ) (s u : State) → AreBeside s u → AreBeside (run program_of pids s).final (run program_of pids u).final
-    beside-run [] s u it = it
-    beside-run (pid ∷ pids) s u it = beside-run pids (step program_of s pid).after (step program_of u pid).after (beside-next s u it pid)
+    run-other_bytes : (pids : List ℕ) (s u : State) → HaveOtherBytes s u → HaveOtherBytes (run program_of pids s).final (run program_of pids u).final
+    run-other_bytes [] s u it = it
+    run-other_bytes (pid ∷ pids) s u it = run-other_bytes pids (step program_of s pid).after (step program_of u pid).after (next-other_bytes s u it pid)
 
-    beside-lines : (pids : List ℕ) (s u : State) → AreBeside s u → (run program_of pids u).lines ≡ (run program_of pids s).lines
-    beside-lines [] s u it = refl
-    beside-lines (pid ∷ pids) s u it =
-        ap₂ (λ (now : List Line) later. now ++ later) (beside-step s u it pid).lines (beside-lines pids (step program_of s pid).after (step program_of u pid).after (beside-next s u it pid))
+    lines-other_bytes : (pids : List ℕ) (s u : State) → HaveOtherBytes s u → (run program_of pids u).lines ≡ (run program_of pids s).lines
+    lines-other_bytes [] s u it = refl
+    lines-other_bytes (pid ∷ pids) s u it =
+        ap₂ (λ (now : List Line) later. now ++ later) (step-other_bytes s u it pid).lines (lines-other_bytes pids (step program_of s pid).after (step program_of u pid).after (next-other_bytes s u it pid))
 
-    beside-alike : (s u : State) → AreBeside s u → RunsAlike s u
-    beside-alike s u it = record {
-      lines = λ pids pid. (beside-step (run program_of pids s).final (run program_of pids u).final (beside-run pids s u it) pid).lines;
-      lives = λ pids pid. ap (λ (y : State). process_at y pid) (sym (beside-run pids s u it).same);
+    same-other_bytes : (s u : State) → HaveOtherBytes s u → RunsAlike s u
+    same-other_bytes s u it = record {
+      lines = λ pids pid. (step-other_bytes (run program_of pids s).final (run program_of pids u).final (run-other_bytes pids s u it) pid).lines;
+      lives = λ pids pid. ap (λ (y : State). process_at y pid) (sym (run-other_bytes pids s u it).same);
     }
 
-    run-alike : (pids : List ℕ) (s u : State) → AreBeside s u → RunsDifferInFile f (run program_of pids s) (run program_of pids u)
+    run-alike : (pids : List ℕ) (s u : State) → HaveOtherBytes s u → RunsDifferInFile f (run program_of pids s) (run program_of pids u)
     run-alike pids s u it =
-        let left = beside-run pids s u it in
-        let lines = beside-lines pids s u it in
+        let left = run-other_bytes pids s u it in
+        let lines = lines-other_bytes pids s u it in
         record { lines = lines; text = ap trace_bytes lines; final = left.same; as_many = left.as_many }
 
 -- ---- from the start of a search
 
 module _ (program_of : Bytes → Option Program) (limit : ℕ) (s : State) (f : ℕ) (bytes : Bytes) (it : IsSearchable program_of limit s) (complete : is_complete program_of limit s ≡ true)
-    (none : IsReadByNone program_of limit s f) (whole : IsValid (with_bytes s f bytes)) (long : length bytes ≡ length (file_bytes s f)) where
+    (none : IsNeverRead program_of limit s f) (whole : IsValid (with_bytes s f bytes)) (long : length bytes ≡ length (file_bytes s f)) where
   unread-by_any : Unread program_of it.encodes f s
   unfolding Unread
   unread-by_any pids pid p at =
@@ -225,8 +225,8 @@ module _ (program_of : Bytes → Option Program) (limit : ℕ) (s : State) (f : 
       (each-among (λ (g : Found). (pid : ℕ) → is_some (process_at g.state pid) ≡ true → Touches program_of g.state pid (read_file f) → ⊥) (states_found program_of limit s) none there.0 there.1 pid
       (ap (λ (t : State). is_some (process_at t pid)) there.2 ∙ ap is_some at))
 
-  start-beside : AreBeside program_of it.encodes f s (with_bytes s f bytes)
-  start-beside =
+  start-other_bytes : HaveOtherBytes program_of it.encodes f s (with_bytes s f bytes)
+  start-other_bytes =
       let near = near-bytes as_is s f bytes long in
       record {
         same = same-but_file as_is f s (with_bytes s f bytes) near;
@@ -236,14 +236,14 @@ module _ (program_of : Bytes → Option Program) (limit : ℕ) (s : State) (f : 
         unread = unread-by_any;
       }
 
-  pub unread-reported : ReportsTheSame program_of limit s f bytes
+  pub unread-reported : HasSameReports program_of limit s f bytes
   unread-reported =
       let u = with_bytes s f bytes in
-      let alike = beside-alike program_of it.encodes f s u start-beside in
+      let alike = same-other_bytes program_of it.encodes f s u start-other_bytes in
       let steps = reported-steps program_of limit s it in
       record {
-        schedules = λ pids. run-alike program_of it.encodes f pids s u start-beside;
-        witnesses = each-weaker (CanHappen program_of s) (HappensToo program_of u) (happens-too program_of s u alike) (reported program_of limit s) steps.happen;
+        schedules = λ pids. run-alike program_of it.encodes f pids s u start-other_bytes;
+        witnesses = each-weaker (CanHappen program_of s) (HasSameWitness program_of u) (happens-too program_of s u alike) (reported program_of limit s) steps.happen;
         least = each-weaker (HasLeastWitness program_of s) (HasLeastWitness program_of u) (least-too program_of s u alike) (reported program_of limit s) steps.least;
         texts = texts-too program_of s u alike limit it complete;
         search = λ more room complete'. search-too program_of s u alike limit it complete more (record { encodes = it.encodes; whole = whole; room = room }) complete';
@@ -267,7 +267,7 @@ module _ (program_of : Bytes → Option Program) (encodes : EncodesPrograms prog
     where
       by : IsNear as_is f (first_state t []) (with_bytes (first_state t []) f bytes) → (o : Option ℕ) → init_of t ≡ o → option_and_then (node_at v) o ≡ option_and_then (node_at t) o
       by near None is = refl
-      by near (Some n) is = near-beside as_is f t.nodes v.nodes near.nodes n (λ same. apart (is ∙ ap (λ k. Some k) same))
+      by near (Some n) is = near-other as_is f t.nodes v.nodes near.nodes n (λ same. apart (is ∙ ap (λ k. Some k) same))
 
   program-fits : (o : Option Node) (program : Program) → init_program program_of t o ≡ Some program → is_program_in_bounds program ≡ true
   program-fits None program is = let same : [] ≡ program = cc is in subst (λ p. is_program_in_bounds p ≡ true) same refl
@@ -299,14 +299,14 @@ module _ (program_of : Bytes → Option Program) (encodes : EncodesPrograms prog
 
 pub unread-files : (program_of : Bytes → Option Program) (limit : ℕ) (t : Tree) (s : State) (f : ℕ) (bytes : Bytes) → EncodesPrograms program_of → 1 ≤ limit
     → IsFirstTree t → IsFirstTree (with_content t f bytes) → length bytes ≡ length (bytes_of (node_at t f)) → find_entry t root (codes "init") ≢ Some f
-    → boot program_of t ≡ Some s → is_complete program_of limit s ≡ true → IsReadByNone program_of limit s f → StartsWithOtherBytes program_of limit s t f bytes
+    → boot program_of t ≡ Some s → is_complete program_of limit s ≡ true → IsNeverRead program_of limit s f → StartsWithOtherBytes program_of limit s t f bytes
 unread-files program_of limit t s f bytes encodes room first other long apart boots complete none =
     let by = boot-by program_of encodes t f bytes long s apart boots in
     let same : with_bytes s f bytes ≡ first_state (with_content t f bytes) by.0 = ap (λ (x : State). with_bytes x f bytes) by.1 in
     record {
       boots = by.3 ∙ ap (λ x. Some x) (sym same);
       reports = unread-reported program_of limit s f bytes
-          (record { encodes = encodes; whole = subst IsValid (sym by.1) (first-whole t by.0 first by.2); room = room }) complete none
-          (subst IsValid (sym same) (first-whole (with_content t f bytes) by.0 other by.2))
+          (record { encodes = encodes; whole = subst IsValid (sym by.1) (first-valid t by.0 first by.2); room = room }) complete none
+          (subst IsValid (sym same) (first-valid (with_content t f bytes) by.0 other by.2))
           (subst (λ (x : State). length bytes ≡ length (file_bytes x f)) (sym by.1) long);
     }

@@ -11,20 +11,20 @@ use Rattle.pv_model.specs.declared.judgement.Judgement.{Judgement}
 use Rattle.pv_model.specs.declared.judgement.Judgement.TheVariants.{Allowed, Hidden, Denied}
 use Rattle.pv_model.specs.Machine.{answer, answer_of, answer_where, answer_by_attempt, at_next_line, effect, Attempt, done, refused, after_walks, ◌>>=◌, ◌>>◌, refuse_if, demand, Bytes, open_file_for, within, with_content_of, with_content, executable_bytes, Effect, returns, returns_bytes, ends, waits, place_or_refusal, judgement_or_refusal, node_of, bytes_of, end_of, needs, calls_for, next, missing_promise, is_file, Program, Process, State, reads, process_at, with_tree, Stepped, step, step_by, read_file, file_bytes, with_bytes, Touches, Node, directory_node, file_node, link_node, Tree, node_at, is_directory_at, judgement, Walked, begins_walk, execve_walk}
 use Rattle.pv_model.specs.Touch.{SameButFile}
-use Rattle.pv_laws_trees.proofs.Entries.{bytes_eq-same, bytes_eq-itself}
-use Rattle.pv_laws_trees.proofs.Numbered.{at_number-below, with_number-same}
+use Rattle.pv_laws_trees.proofs.DirectoryEntries.{bytes_eq-same, bytes_eq-itself}
+use Rattle.pv_laws_trees.proofs.NumberedMaps.{at_number-below, with_number-same}
 use Rattle.pv_laws_trees.specs.Encoded.{is_byte}
 use Rattle.pv_laws_states.specs.States.{IsValid}
 use Rattle.pv_laws_states.proofs.OtherInsidesCalls.{lines-alike}
-use Rattle.pv_laws_states.proofs.Outcomes.{at_call}
-use Rattle.pv_laws_states.proofs.CallRests
+use Rattle.pv_laws_states.proofs.CallOutcomes.{at_call}
+use Rattle.pv_laws_states.proofs.CallRemainders
 use Rattle.pv_laws_access.specs.Justice.{reads_bytes, changes_bytes}
 use Rattle.pv_laws_access.specs.Secrets.{StepsDifferInFile}
-use Rattle.pv_laws_access.proofs.Ends.{step-is}
+use Rattle.pv_laws_access.proofs.ProcessesAfterEnds.{step-is}
 use Rattle.pv_laws_access.proofs.JustifiedChanges.{files-changed}
 use Rattle.pv_laws_access.proofs.JustifiedReads.{near-or_read}
 use Rattle.pv_laws_access.proofs.SimilarTrees.{as_is, as_is-fine, near-length_of, same-but_file}
-use Rattle.pv_laws_access.proofs.Decisions.{walks_in}
+use Rattle.pv_laws_access.proofs.WalkDecisions.{walks_in}
 use Rattle.pv_laws_answers.proofs.EqualSteps.{outcome-same, state-same}
 
 -- ---- the number of walks of a call that reads bytes
@@ -65,17 +65,17 @@ reading_walks call = 0
 effect-walks : (program_of : Bytes → Option Program) (s : State) (pid : ℕ) (me : Process) (call : Call) → reads_bytes call ≡ true → walks_in (effect program_of s pid me call) ≡ reading_walks call
 unfolding effect
 effect-walks program_of s pid me (TheCall.Read d n) is =
-    walks-bind 0 (demand EBADF (open_file_for s pid me reads d)) (CallRests.read_1 s pid me n) (walks-demand EBADF (open_file_for s pid me reads d)) (λ g.
-    walks-bind 0 (demand EINVAL (within 4096 n)) (CallRests.read_2 s pid me g.0 g.1) (walks-demand EINVAL (within 4096 n)) (λ count.
-    walks-then 0 (refuse_if EISDIR (is_directory_at s.tree g.1.node)) (CallRests.read_3 s pid me g.0 g.1 count) (walks-refuse EISDIR (is_directory_at s.tree g.1.node)) refl))
+    walks-bind 0 (demand EBADF (open_file_for s pid me reads d)) (CallRemainders.read_1 s pid me n) (walks-demand EBADF (open_file_for s pid me reads d)) (λ g.
+    walks-bind 0 (demand EINVAL (within 4096 n)) (CallRemainders.read_2 s pid me g.0 g.1) (walks-demand EINVAL (within 4096 n)) (λ count.
+    walks-then 0 (refuse_if EISDIR (is_directory_at s.tree g.1.node)) (CallRemainders.read_3 s pid me g.0 g.1 count) (walks-refuse EISDIR (is_directory_at s.tree g.1.node)) refl))
 effect-walks program_of s pid me (TheCall.Execve path) is =
     let w = execve_walk path in
-    walks-bind (if begins_walk path then 1 else 0) (place_or_refusal (if begins_walk path then 1 else 0) (end_of s me w)) (λ place. judgement_or_refusal (judgement s.tree me.table place w.needed) >> CallRests.execve_1 s pid me program_of place)
+    walks-bind (if begins_walk path then 1 else 0) (place_or_refusal (if begins_walk path then 1 else 0) (end_of s me w)) (λ place. judgement_or_refusal (judgement s.tree me.table place w.needed) >> CallRemainders.execve_1 s pid me program_of place)
     (walks-place (if begins_walk path then 1 else 0) (end_of s me w)) (λ place.
-    walks-then 0 (judgement_or_refusal (judgement s.tree me.table place w.needed)) (CallRests.execve_1 s pid me program_of place) (walks-judge (judgement s.tree me.table place w.needed))
-    (walks-bind 0 (demand ENOENT (node_of place)) (CallRests.execve_2 s pid me program_of) (walks-demand ENOENT (node_of place)) (λ n.
-    walks-bind 0 (demand EACCES (executable_bytes (node_at s.tree n))) (CallRests.execve_3 s pid me program_of) (walks-demand EACCES (executable_bytes (node_at s.tree n))) (λ bytes.
-    walks-bind 0 (demand ENOEXEC (program_of bytes)) (CallRests.execve_4 s pid me) (walks-demand ENOEXEC (program_of bytes)) (λ program. refl)))))
+    walks-then 0 (judgement_or_refusal (judgement s.tree me.table place w.needed)) (CallRemainders.execve_1 s pid me program_of place) (walks-judge (judgement s.tree me.table place w.needed))
+    (walks-bind 0 (demand ENOENT (node_of place)) (CallRemainders.execve_2 s pid me program_of) (walks-demand ENOENT (node_of place)) (λ n.
+    walks-bind 0 (demand EACCES (executable_bytes (node_at s.tree n))) (CallRemainders.execve_3 s pid me program_of) (walks-demand EACCES (executable_bytes (node_at s.tree n))) (λ bytes.
+    walks-bind 0 (demand ENOEXEC (program_of bytes)) (CallRemainders.execve_4 s pid me) (walks-demand ENOEXEC (program_of bytes)) (λ program. refl)))))
 effect-walks program_of s pid me call is = let bad : false ≡ true = is in cc bad
 
 walks-ends : (before x : State) (pid : ℕ) (me : Process) (a : Attempt Effect) → (answer_by_attempt before x pid me a).walks ≡ walks_in a

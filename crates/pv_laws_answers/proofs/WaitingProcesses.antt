@@ -8,15 +8,15 @@ use Rattle.pv_model.specs.declared.errno.Errno.TheVariants.{ECHILD}
 use Rattle.pv_model.specs.declared.outcome.Outcome.TheVariants.{Blocked}
 use Rattle.pv_model.specs.Machine.{answer, answer_by_attempt, at_next_line, effect, Attempt, done, refused, ◌>>◌, refuse_if, Bytes, is_empty, parent_of, statuses, children, reap, wait, Effect, Reply, returns, returns_bytes, ends, waits, live_processes, Next, inside, calls_for, next, Program, Process, ProcessRecord, live, ended_record, State, process_at, Stepped, step, step_by, run}
 use Rattle.pv_laws_states.specs.States.{EncodesPrograms, IsValid}
-use Rattle.pv_laws_states.proofs.Attempts.{Leads}
-use Rattle.pv_laws_states.proofs.BySteps.{step-keeps_whole}
-use Rattle.pv_laws_states.proofs.Outcomes.{at_call, by_answer}
+use Rattle.pv_laws_states.proofs.AttemptValues.{Leads}
+use Rattle.pv_laws_states.proofs.ValidBySteps.{step-keeps_valid}
+use Rattle.pv_laws_states.proofs.CallOutcomes.{at_call, by_answer}
 use Rattle.pv_laws_states.proofs.Processes.{process_at-other}
-use Rattle.pv_laws_states.proofs.Replies.{whole-at_call}
+use Rattle.pv_laws_states.proofs.ValidReplies.{valid-at_call}
 use Rattle.pv_laws_access.proofs.EffectByCall.{does-effect}
-use Rattle.pv_laws_access.proofs.Ends.{step-is}
+use Rattle.pv_laws_access.proofs.ProcessesAfterEnds.{step-is}
 use Rattle.pv_laws_access.proofs.CallEffects.{HasEffect, stays, restrains, begins, closes, copies, forks, reaps, moves, cuts, writes_bytes, makes, links, unlinks, renames, opens, creates, Did, continues}
-use Rattle.pv_laws_answers.specs.Waits.{ParentsAreOlder, GoesOn}
+use Rattle.pv_laws_answers.specs.Waits.{ParentsHaveLesserNumbers, HasUnblockedProcess}
 use Rattle.pv_laws_answers.proofs.Lists.{Among}
 use Rattle.pv_laws_answers.proofs.LiveProcesses.{listed-live, live-listed}
 use Rattle.pv_laws_answers.proofs.ParentNumbers.{older-at, older-called, older-step}
@@ -96,13 +96,13 @@ blocked-wait before x pid me = by (is_empty (children x pid me)) refl (statuses 
 
 -- ---- a process whose step blocks has a live child with a greater number
 
-module _ (program_of : Bytes → Option Program) (s : State) (whole : IsValid s) (all : ParentsAreOlder s) where
+module _ (program_of : Bytes → Option Program) (s : State) (whole : IsValid s) (all : ParentsHaveLesserNumbers s) where
   child-after : (pid : ℕ) (me : Process) → process_at s pid ≡ Some me → HasLiveChild (λ r. parent_of r.1 == pid) (at_call s pid me).processes
       → (k : ℕ) × (q : Process) × (process_at s k ≡ Some q) × (pid < k)
   child-after pid me at it =
       let x : State = at_call s pid me in
-      let x_all : ParentsAreOlder x = older-called s pid me all at in
-      let there : process_at x it.pid ≡ Some it.process = listed-live x it.pid it.process (whole-at_call s pid me whole at).processes.ascending it.within in
+      let x_all : ParentsHaveLesserNumbers x = older-called s pid me all at in
+      let there : process_at x it.pid ≡ Some it.process = listed-live x it.pid it.process (valid-at_call s pid me whole at).processes.ascending it.within in
       let older : it.process.parent < it.pid = older-at x it.pid it.process x_all there in
       let parent : it.process.parent ≡ pid = eqb-true it.process.parent pid it.passes in
       let other : it.pid ≢ pid = λ same. absurd (omega arith) in
@@ -158,10 +158,10 @@ module _ (program_of : Bytes → Option Program) (s : State) (whole : IsValid s)
       ] refl
 
   -- the step of the greatest does not block
-  pub some-continues : (pid : ℕ) (p : Process) → process_at s pid ≡ Some p → GoesOn program_of s
+  pub some-continues : (pid : ℕ) (p : Process) → process_at s pid ≡ Some p → HasUnblockedProcess program_of s
   some-continues pid p at = by (live_processes s.processes) refl (live-listed s pid p at)
     where
-      of : (g : ℕ × Process) → Among g (live_processes s.processes) → ((q : ℕ × Process) → Among q (live_processes s.processes) → q.0 ≤ g.0) → GoesOn program_of s
+      of : (g : ℕ × Process) → Among g (live_processes s.processes) → ((q : ℕ × Process) → Among q (live_processes s.processes) → q.0 ≤ g.0) → HasUnblockedProcess program_of s
       of g within below =
           let lives : process_at s g.0 ≡ Some g.1 = listed-live s g.0 g.1 whole.processes.ascending within in
           record {
@@ -174,7 +174,7 @@ module _ (program_of : Bytes → Option Program) (s : State) (whole : IsValid s)
                 absurd (omega (arith, low, child.3));
           }
 
-      by : (ps : List (ℕ × Process)) → live_processes s.processes ≡ ps → Among (pid, p) ps → GoesOn program_of s
+      by : (ps : List (ℕ × Process)) → live_processes s.processes ≡ ps → Among (pid, p) ps → HasUnblockedProcess program_of s
       by [] is within = absurd within
       by (r ∷ rs) is within =
           let g = greatest r rs in
@@ -182,7 +182,7 @@ module _ (program_of : Bytes → Option Program) (s : State) (whole : IsValid s)
 
 -- ---- along a run
 
-pub run-older : (program_of : Bytes → Option Program) → EncodesPrograms program_of → (pids : List ℕ) (s : State) → IsValid s → ParentsAreOlder s → ParentsAreOlder (run program_of pids s).final
+pub run-older : (program_of : Bytes → Option Program) → EncodesPrograms program_of → (pids : List ℕ) (s : State) → IsValid s → ParentsHaveLesserNumbers s → ParentsHaveLesserNumbers (run program_of pids s).final
 run-older program_of encodes [] s whole all = all
 run-older program_of encodes (pid ∷ pids) s whole all =
-    run-older program_of encodes pids (step program_of s pid).after (step-keeps_whole program_of encodes s pid whole) (older-step program_of s pid whole all)
+    run-older program_of encodes pids (step program_of s pid).after (step-keeps_valid program_of encodes s pid whole) (older-step program_of s pid whole all)

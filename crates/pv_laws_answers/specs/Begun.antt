@@ -39,8 +39,8 @@ AllListedKeepTheTrace =
     → (run program_of pids (begun_with (Some set) s)).lines ≡ (run program_of pids (begun_with None s)).lines
 
 -- if the run starts without one of them, it has a different trace; for rpath, it must lack wpath too
-abbrev pub OneLessChangesTheTrace : Type 0
-OneLessChangesTheTrace =
+abbrev pub MissingPromiseChangesTrace : Type 0
+MissingPromiseChangesTrace =
     (program_of : Bytes → Option Program) (pids : List ℕ) (s : State) (set : Promises) (a : Promise) → RunsPlainly program_of pids (begun_with None s)
     → IsTrue (is_listed_in a (asked_in program_of pids (begun_with None s))) → IsFalse (contains set a) → (a ≡ Rpath → IsFalse (contains set Wpath))
     → (run program_of pids (begun_with (Some set) s)).lines ≢ (run program_of pids (begun_with None s)).lines

@@ -6,24 +6,24 @@ use Rattle.pv_model.specs.declared.call.Call.{Call}
 use Rattle.pv_model.specs.declared.promise.Promise.{Promise}
 use Rattle.pv_model.specs.Machine.{AnswerLine, answer_line, counted_from, permissions_in_places, Judged, promises_needed, same_judged, same_promise, walks_judged, walks_to, Bytes, calls_for, next, all_promises, promise_name, Process, Program, State, process_at, run}
 use Rattle.pv_model.specs.Answers.Needs.{needing, needs_lines, promise_texts_of, target_text}
-use Rattle.pv_laws_answers.specs.ProcessImages.{IsCallOf, Moment, letters_listed, moments, process_images_of, targets_listed, what_is_asked}
+use Rattle.pv_laws_answers.specs.ProcessImages.{IsCallOf, Moment, permissions_listed, moments, process_images_of, targets_listed, demands_of_moments}
 
 -- the number of elements that pass a test
-abbrev pub number_where : {X : Type 0} → (X → Bool) → List X → ℕ
-number_where test [] = 0
-number_where test (x ∷ xs) = if test x then suc (number_where test xs) else number_where test xs
+abbrev pub number_that_passes : {X : Type 0} → (X → Bool) → List X → ℕ
+number_that_passes test [] = 0
+number_that_passes test (x ∷ xs) = if test x then suc (number_that_passes test xs) else number_that_passes test xs
 
 -- no element passes a test
-abbrev pub NoneWhere : {X : Type 0} → (X → Bool) → List X → Type 0
-NoneWhere test xs = AllByRecursion (λ x. IsFalse (test x)) xs
+abbrev pub NoElementPasses : {X : Type 0} → (X → Bool) → List X → Type 0
+NoElementPasses test xs = AllByRecursion (λ x. IsFalse (test x)) xs
 
 -- the last element that passes a test
-pub record IsLastWhere {X : Type 0} (test : X → Bool) (xs : List X) (x : X) : Type 0 where
+pub record IsLastThatPasses {X : Type 0} (test : X → Bool) (xs : List X) (x : X) : Type 0 where
   pub before : List X
   pub after : List X
   pub parts : xs ≡ before ++ x ∷ after
   pub passes : IsTrue (test x)
-  pub last : NoneWhere test after
+  pub last : NoElementPasses test after
 
 -- a number of times, and the line of the last
 abbrev pub counted_line : Bytes → ℕ → ℕ → Bytes
@@ -54,12 +54,12 @@ needed_promise a m = list_any (same_promise a) m.asked.promises
 -- line of the last of them
 abbrev pub IsPromiseCounted : Promise → List Moment → List Bytes → Type 0
 IsPromiseCounted a process_image texts =
-    (NoneWhere (needed_promise a) process_image × (texts ≡ []))
-    ⊎ ((m : Moment) × IsLastWhere (needed_promise a) process_image m
-    × (texts ≡ (promise_name a ++ counted_line (codes ", calls ") (number_where (needed_promise a) process_image) m.asked.line) ∷ []))
+    (NoElementPasses (needed_promise a) process_image × (texts ≡ []))
+    ⊎ ((m : Moment) × IsLastThatPasses (needed_promise a) process_image m
+    × (texts ≡ (promise_name a ++ counted_line (codes ", calls ") (number_that_passes (needed_promise a) process_image) m.asked.line) ∷ []))
 
 abbrev pub promise_texts_in : List Moment → Promise → List Bytes
-promise_texts_in process_image a = promise_texts_of a (needing a (what_is_asked process_image))
+promise_texts_in process_image a = promise_texts_of a (needing a (demands_of_moments process_image))
 
 abbrev pub PromisesAreCounted : Type 0
 PromisesAreCounted = (process_image : List Moment) (a : Promise) → IsPromiseCounted a process_image (promise_texts_in process_image a)
@@ -70,19 +70,19 @@ PromisesAreCounted = (process_image : List Moment) (a : Promise) → IsPromiseCo
 abbrev pub walks_of_calls : List Moment → List (Moment × Judged)
 walks_of_calls process_image = flat_map (λ m. map (λ w. (m, w)) m.asked.walks) process_image
 
-abbrev pub goes_to : Judged → Moment × Judged → Bool
-goes_to target w = same_judged target w.1
+abbrev pub leads_to_target : Judged → Moment × Judged → Bool
+leads_to_target target w = same_judged target w.1
 
 -- the text of a target: the number of the walks to it, and the line of the call of the last of them
 pub record IsTargetCounted (target : Judged) (process_image : List Moment) (text : Bytes) : Type 0 where
   pub walk : Moment × Judged
-  pub last : IsLastWhere (goes_to target) (walks_of_calls process_image) walk
+  pub last : IsLastThatPasses (leads_to_target target) (walks_of_calls process_image) walk
   pub is :
-      text ≡ permissions_in_places (letters_listed process_image target) ++ codes ", " ++ target.words
-      ++ counted_line (codes ", walks ") (number_where (goes_to target) (walks_of_calls process_image)) walk.0.asked.line
+      text ≡ permissions_in_places (permissions_listed process_image target) ++ codes ", " ++ target.words
+      ++ counted_line (codes ", walks ") (number_that_passes (leads_to_target target) (walks_of_calls process_image)) walk.0.asked.line
 
 abbrev pub target_text_in : List Moment → Judged → Bytes
-target_text_in process_image target = target_text target (walks_to target (walks_judged (what_is_asked process_image)))
+target_text_in process_image target = target_text target (walks_to target (walks_judged (demands_of_moments process_image)))
 
 abbrev pub TargetsAreCounted : Type 0
 TargetsAreCounted =

@@ -14,7 +14,7 @@ use Rattle.pv_model.specs.declared.target.Target.TheVariants.{Directory}
 use Rattle.pv_model.specs.Machine.{answer, same_promise, Setting, settings_of, make, manifest_tree, Program, Process, State, first_state, step, run, Tree, directory_node, Table}
 use Rattle.pv_model.specs.Promises.{mask}
 use Rattle.pv_laws_states.specs.ExampleStates.{no_programs}
-use Rattle.pv_laws_answers.specs.OverTime.{letters_at, IsOwnStep, place_in}
+use Rattle.pv_laws_answers.specs.OverTime.{permissions_of_name, IsOwnStep, place_in}
 use Rattle.pv_laws_answers.specs.Reach.{AsksAt, opening_for}
 use Rattle.pv_laws_answers.specs.Settings.{settings_along}
 use Rattle.pv_laws_answers.specs.ProcessImages.{Moment, IsCallOf, with_promises, with_own_table}
@@ -59,9 +59,9 @@ pub record AnswersExamples : Type 0 where
   pub renames : IsOwnStep no_programs (state_after_moves 4) 1 first moved table
   pub narrows : IsOwnStep no_programs (state_after_moves 5) 1 moved pledged table
   -- the process gains r at a name in the moved directory, and loses it by the pledge
-  pub before : letters_at (state_after_moves 4) first 4 (codes "y") ≡ only_c
-  pub come : letters_at (state_after_moves 5) moved 4 (codes "y") ≡ r_and_c
-  pub gone : letters_at (state_after_moves 6) pledged 4 (codes "y") ≡ only_c
+  pub before : permissions_of_name (state_after_moves 4) first 4 (codes "y") ≡ only_c
+  pub come : permissions_of_name (state_after_moves 5) moved 4 (codes "y") ≡ r_and_c
+  pub gone : permissions_of_name (state_after_moves 6) pledged 4 (codes "y") ≡ only_c
   -- the child has the settings of its parent
   pub settings : settings_of (settings_along no_programs (replicate 6 1) [] (first_state three_directories renaming_directory)) 2 ≡ set_at_line 1 ∷ set_at_line 2 ∷ []
   -- the process has r in the second directory, but not in the first

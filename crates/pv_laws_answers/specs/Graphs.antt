@@ -77,9 +77,9 @@ WitnessesAreRuns =
     → IsAlong (graph_lines program_of limit trees s) (decimal 0) pids last reported → IsRunAlong program_of (graph_lines program_of limit trees s) s pids last reported
 
 -- all states of a run are in the graph
-abbrev pub StaysFound : (Bytes → Option Program) → List Found → List ℕ → State → Type 0
-StaysFound program_of found [] s = IsTrue (is_found s found)
-StaysFound program_of found (pid ∷ pids) s = IsTrue (is_found s found) × StaysFound program_of found pids (step program_of s pid).after
+abbrev pub AllStatesAreVisited : (Bytes → Option Program) → List Found → List ℕ → State → Type 0
+AllStatesAreVisited program_of found [] s = IsTrue (is_found s found)
+AllStatesAreVisited program_of found (pid ∷ pids) s = IsTrue (is_found s found) × AllStatesAreVisited program_of found pids (step program_of s pid).after
 
 -- a run is such a path, with its lines explained
 pub record IsWitnessAlong (program_of : Bytes → Option Program) (ls : List AnswerLine) (s : State) (pids : List ℕ) : Type 0 where
@@ -90,7 +90,7 @@ pub record IsWitnessAlong (program_of : Bytes → Option Program) (ls : List Ans
 abbrev pub RunsAreWitnesses : Type 0
 RunsAreWitnesses =
     (program_of : Bytes → Option Program) (limit : ℕ) (trees : Bool) (s : State) (pids : List ℕ) → IsSearchable program_of limit s → AreSteps program_of pids s
-    → StaysFound program_of (states_found program_of limit s) pids s → IsWitnessAlong program_of (graph_lines program_of limit trees s) s pids
+    → AllStatesAreVisited program_of (states_found program_of limit s) pids s → IsWitnessAlong program_of (graph_lines program_of limit trees s) s pids
 
 -- if the search is complete, each run of live processes is such a path
 abbrev pub AllRunsAreWitnesses : Type 0
@@ -101,20 +101,20 @@ AllRunsAreWitnesses =
 -- ---- with the lines of `explain`
 
 -- the lines of `explain` that a path does not have
-abbrev pub is_beside : AnswerLine → Bool
-is_beside l = begins_step l || (has_word (codes "PROC") l || has_word (codes "NEXT") l)
+abbrev pub is_added_line : AnswerLine → Bool
+is_added_line l = begins_step l || (has_word (codes "PROC") l || has_word (codes "NEXT") l)
 
 -- two lists of lines are the same, except that some of the second also report where an entry was set
-abbrev pub AreSameButSettings : (Bytes → Option Program) → List AnswerLine → List AnswerLine → Type 0
-AreSameButSettings program_of [] [] = Unit {0}
-AreSameButSettings program_of [] (m ∷ ms) = ⊥
-AreSameButSettings program_of (l ∷ ls) [] = ⊥
-AreSameButSettings program_of (l ∷ ls) (m ∷ ms) =
-    ((setting : Option Setting) × (m ≡ answer_line l.pid l.word (l.text ++ setting_text program_of setting))) × AreSameButSettings program_of ls ms
+abbrev pub AreSameExceptSettings : (Bytes → Option Program) → List AnswerLine → List AnswerLine → Type 0
+AreSameExceptSettings program_of [] [] = Unit {0}
+AreSameExceptSettings program_of [] (m ∷ ms) = ⊥
+AreSameExceptSettings program_of (l ∷ ls) [] = ⊥
+AreSameExceptSettings program_of (l ∷ ls) (m ∷ ms) =
+    ((setting : Option Setting) × (m ≡ answer_line l.pid l.word (l.text ++ setting_text program_of setting))) × AreSameExceptSettings program_of ls ms
 
 -- the lines on a path are those of `explain`, without its lines STEP, PROC and NEXT and the places where entries were
 -- set
 abbrev pub WitnessesAreExplained : Type 0
 WitnessesAreExplained =
     (program_of : Bytes → Option Program) (pids : List ℕ) (s : State)
-    → AreSameButSettings program_of (explained_run program_of pids s) (filter (λ l. not (is_beside l)) (explain_lines program_of pids s))
+    → AreSameExceptSettings program_of (explained_run program_of pids s) (filter (λ l. not (is_added_line l)) (explain_lines program_of pids s))

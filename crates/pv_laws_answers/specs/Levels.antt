@@ -6,7 +6,7 @@ use Rattle.pv_model.specs.declared.target.Target.TheVariants.{Directory, Name}
 use Rattle.pv_model.specs.Answers.Levels.{Level, level, levels}
 use Rattle.pv_model.specs.Machine.{Bytes, GovernsName, Tree, root, parent, IsWellFormed, Table, entry_for, target_of, Governs, own, from_above, governing_entry}
 use Rattle.pv_model.specs.Closed.{by_name, by_directory}
-use Rattle.pv_laws_access.specs.Tables.{GovernsPlace, unnamed, absent, directory, named}
+use Rattle.pv_laws_access.specs.Tables.{GovernsPlace, unnamed, without_node, directory, named}
 
 -- the last level has this entry, or none, and no level before it has one
 abbrev pub LevelsLeadTo : Option ℕ → List Level → Type 0
@@ -28,7 +28,7 @@ module _ (t : Tree) (table : Table) where
   -- the levels of a derivation that an entry governs a place
   abbrev pub place_steps : (place : Place) (k : ℕ) → GovernsPlace t table place k → List Level
   place_steps _ _ (unnamed n k governs) = directory_steps n k governs
-  place_steps _ _ (absent d name k governs) = name_steps d name k governs
+  place_steps _ _ (without_node d name k governs) = name_steps d name k governs
   place_steps _ _ (directory d name n k is governs) = directory_steps n k governs
   place_steps _ _ (named d name n k plain governs) = name_steps d name k governs
 
@@ -38,11 +38,11 @@ module _ (t : Tree) (table : Table) where
   above_target (Name d name) = Some d
 
   -- levels go up from a target to the first that has an entry, or to the top
-  pub data GoUp : Target → List Level → Type 0 where
-    found : (target : Target) (k : ℕ) → entry_for table target ≡ Some k → GoUp target (level t table target ∷ [])
-    at_top : (target : Target) → entry_for table target ≡ None → above_target target ≡ None → GoUp target (level t table target ∷ [])
-    continues : (target : Target) (d : ℕ) (ls : List Level) → entry_for table target ≡ None → above_target target ≡ Some d → GoUp (Directory d) ls
-        → GoUp target (level t table target ∷ ls)
+  pub data AreClimbed : Target → List Level → Type 0 where
+    found : (target : Target) (k : ℕ) → entry_for table target ≡ Some k → AreClimbed target (level t table target ∷ [])
+    at_top : (target : Target) → entry_for table target ≡ None → above_target target ≡ None → AreClimbed target (level t table target ∷ [])
+    continues : (target : Target) (d : ℕ) (ls : List Level) → entry_for table target ≡ None → above_target target ≡ Some d → AreClimbed (Directory d) ls
+        → AreClimbed target (level t table target ∷ ls)
 
 -- if an entry governs a place, the levels are the steps of the derivation
 abbrev pub LevelsAreTheDerivation : Type 0
@@ -53,5 +53,5 @@ abbrev pub LevelsLeadToTheGovernor : Type 0
 LevelsLeadToTheGovernor = (t : Tree) (table : Table) (place : Place) → LevelsLeadTo (governing_entry t table place) (levels t table place)
 
 -- in every well-formed tree, the levels go up from the place
-abbrev pub LevelsGoUp : Type 0
-LevelsGoUp = (t : Tree) (table : Table) (place : Place) → IsWellFormed t → GoUp t table (target_of t place) (levels t table place)
+abbrev pub LevelsAreClimbed : Type 0
+LevelsAreClimbed = (t : Tree) (table : Table) (place : Place) → IsWellFormed t → AreClimbed t table (target_of t place) (levels t table place)

@@ -40,14 +40,14 @@ abbrev pub process_images_of : List Moment → List (List Moment)
 process_images_of [] = []
 process_images_of (now ∷ rest) = onto_moments now (process_images_of rest)
 
-abbrev pub what_is_asked : List Moment → List Asked
-what_is_asked process_image = map (λ m. m.asked) process_image
+abbrev pub demands_of_moments : List Moment → List Asked
+demands_of_moments process_image = map (λ m. m.asked) process_image
 
 -- the program images that the text lists consist of these calls
 abbrev pub ProcessImagesAreOfCalls : Type 0
 ProcessImagesAreOfCalls =
     (program_of : Bytes → Option Program) (pids : List ℕ) (s : State) (pid : ℕ)
-    → map what_is_asked (process_images_of (moments program_of pid pids s)) ≡ process_images (asked_by_one (asked_in program_of pids s) pid)
+    → map demands_of_moments (process_images_of (moments program_of pid pids s)) ≡ process_images (asked_by_one (asked_in program_of pids s) pid)
 
 -- a call of a program image of a process in a run
 pub record IsCallOf (program_of : Bytes → Option Program) (pids : List ℕ) (s : State) (pid : ℕ) (process_image : List Moment) (m : Moment) : Type 0 where
@@ -74,7 +74,7 @@ with_promises s pid set = update s pid (λ p. record p { promises = Some set })
 
 -- a promise is listed for a program image, that is, one of its calls needed it
 abbrev pub IsPromiseListed : Promise → List Moment → Type 0
-IsPromiseListed a process_image = needing a (what_is_asked process_image) ≢ []
+IsPromiseListed a process_image = needing a (demands_of_moments process_image) ≢ []
 
 -- if the process has all listed promises throughout, no promise kills it or refuses a call of the program image
 abbrev pub ListedPromisesAreEnough : Type 0
@@ -110,24 +110,24 @@ governing_target t table (Directory n) = directory_rights t table n
 governing_target t table (Name d name) = option_or (entry_for table (Name d name)) (directory_rights t table d)
 
 -- the entry that governs a target grants the permissions
-abbrev pub GivesAt : Tree → Table → Target → Perms → Type 0
-GivesAt t table target asked = (k : ℕ) × (governing_target t table target ≡ Some k) × IsTrue (covers (permissions_at table k) asked)
+abbrev pub GrantsAt : Tree → Table → Target → Perms → Type 0
+GrantsAt t table target asked = (k : ℕ) × (governing_target t table target ≡ Some k) × IsTrue (covers (permissions_at table k) asked)
 
 -- the targets listed for a program image, and the permissions listed for a target
 abbrev pub targets_listed : List Moment → List Judged
-targets_listed process_image = targets_in (walks_judged (what_is_asked process_image))
+targets_listed process_image = targets_in (walks_judged (demands_of_moments process_image))
 
-abbrev pub letters_listed : List Moment → Judged → Perms
-letters_listed process_image target = permissions_asked (walks_to target (walks_judged (what_is_asked process_image)))
+abbrev pub permissions_listed : List Moment → Judged → Perms
+permissions_listed process_image target = permissions_asked (walks_to target (walks_judged (demands_of_moments process_image)))
 
 -- a table grants all listed permissions at each listed target
 abbrev pub GrantsListed : List Moment → Table → State → Type 0
-GrantsListed process_image table s = (target : Judged) → Contains (targets_listed process_image) target → GivesAt s.tree table target.target (letters_listed process_image target)
+GrantsListed process_image table s = (target : Judged) → Contains (targets_listed process_image) target → GrantsAt s.tree table target.target (permissions_listed process_image target)
 
 -- with such a table in place of the process's own, no call has an UNVL line, except for a second walk whose call was
 -- refused at the first walk in the run
-abbrev pub ListedLettersAreEnough : Type 0
-ListedLettersAreEnough =
+abbrev pub ImagePermissionsAreEnough : Type 0
+ImagePermissionsAreEnough =
     (program_of : Bytes → Option Program) (pids : List ℕ) (s : State) (pid : ℕ) (process_image : List Moment) (m : Moment) (table : Table) (p : Process) (call : Call)
     → IsCallOf program_of pids s pid process_image m → process_at m.state pid ≡ Some p → next p ≡ calls_for call → IsFalse (is_unveil call) → GrantsListed process_image table m.state
     → IsTrue (reports_of_table (step program_of (with_own_table m.state pid table) pid).lines)
@@ -138,11 +138,11 @@ ListedLettersAreEnough =
 pub record GrantsListedExcept (process_image : List Moment) (table : Table) (s : State) (target : Target) (letter : Perms) (k : ℕ) : Type 0 where
   pub governs : governing_target s.tree table target ≡ Some k
   pub lacks : IsFalse (covers (permissions_at table k) letter)
-  pub others : (other : Judged) → Contains (targets_listed process_image) other → IsFalse (same_target other.target target) → GivesAt s.tree table other.target (letters_listed process_image other)
+  pub others : (other : Judged) → Contains (targets_listed process_image) other → IsFalse (same_target other.target target) → GrantsAt s.tree table other.target (permissions_listed process_image other)
 
 -- that entry then refuses each call that needed the permission there
-abbrev pub ListedLettersAreNeeded : Type 0
-ListedLettersAreNeeded =
+abbrev pub ImagePermissionsAreNeeded : Type 0
+ImagePermissionsAreNeeded =
     (program_of : Bytes → Option Program) (pids : List ℕ) (s : State) (pid : ℕ) (process_image : List Moment) (m : Moment) (table : Table) (p : Process) (call : Call) (judged : Judged) (letter : Perms) (k : ℕ)
     → IsCallOf program_of pids s pid process_image m → process_at m.state pid ≡ Some p → next p ≡ calls_for call → GrantsListedExcept process_image table m.state judged.target letter k
     → Contains m.asked.walks judged → IsTrue (covers judged.permissions letter)

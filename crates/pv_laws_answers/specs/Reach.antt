@@ -1,4 +1,4 @@
--- What the permissions that `reach` shows at a place mean for the next call of a process.
+-- The meaning of the permissions that `reach` shows at a place for the next call of a process.
 use Rattle.std.specs.Prelude.{◌≡◌, ◌↔◌, ℕ, Bool, true, false, ◌||◌, nat_le, IsTrue, IsFalse, List, [], ◌∷◌, ◌++◌, Option, None, Some, Ok, option_and_then}
 use Rattle.pv_model.specs.declared.call.Call.{Call}
 use Rattle.pv_model.specs.declared.call.Call.TheVariants.{Execve, Open, Unlink, Rename}
@@ -32,8 +32,8 @@ need_if false a = []
 abbrev pub needs_for : Perms → List Need
 needs_for asked = need_if asked.r Rpath ++ need_if asked.w Wpath ++ need_if asked.x Exec ++ need_if asked.c Cpath
 
-abbrev pub is_some_letter : Perms → Bool
-is_some_letter asked = asked.r || asked.w || asked.x || asked.c
+abbrev pub is_one_permission : Perms → Bool
+is_one_permission asked = asked.r || asked.w || asked.x || asked.c
 
 module _ (program_of : Bytes → Option Program) (s : State) (pid : ℕ) (p : Process) where
   -- a call with one walk, which ends at the place; there it needs permissions, and it needs exactly the promises that
@@ -50,7 +50,7 @@ module _ (program_of : Bytes → Option Program) (s : State) (pid : ℕ) (p : Pr
 abbrev pub ReachIsExact : Type 0
 ReachIsExact =
     (program_of : Bytes → Option Program) (s : State) (pid : ℕ) (p : Process) (call : Call) (place : Place) (asked : Perms) → process_at s pid ≡ Some p
-    → AsksAt program_of s pid p call place asked → IsTrue (is_some_letter asked)
+    → AsksAt program_of s pid p call place asked → IsTrue (is_one_permission asked)
     → IsFalse (is_by_sandbox (answer program_of s pid call).outcome) ↔ IsTrue (covers (reached_permissions s p place) asked)
 
 -- neither refuses a rename if and only if the process has c at both its places
@@ -66,8 +66,8 @@ abbrev pub HasRoomToOpen : State → Process → Type 0
 HasRoomToOpen s p = IsFalse (nat_le DESCRIPTORS (least_free p.descriptors)) × IsFalse (nat_le OPEN_FILES (least_free s.files))
 
 -- a path leads to a place; a link at its end is not followed
-abbrev pub LeadsThere : State → Process → Bytes → Place → Type 0
-LeadsThere s p path place = resolve s.tree Keep p.directory path ≡ Ok place
+abbrev pub LeadsToItself : State → Process → Bytes → Place → Type 0
+LeadsToItself s p path place = resolve s.tree Keep p.directory path ≡ Ok place
 
 -- an open that creates nothing and does not follow a final link
 abbrev pub opening_for : Mode → OpenFlags
@@ -76,24 +76,24 @@ opening_for mode = record { mode = mode; append = false; create = false; truncat
 -- an open for reading shows r
 abbrev pub OpenShowsR : Type 0
 OpenShowsR =
-    (program_of : Bytes → Option Program) (s : State) (pid : ℕ) (p : Process) (path : Bytes) (place : Place) → process_at s pid ≡ Some p → HasRoomToOpen s p → LeadsThere s p path place
+    (program_of : Bytes → Option Program) (s : State) (pid : ℕ) (p : Process) (path : Bytes) (place : Place) → process_at s pid ≡ Some p → HasRoomToOpen s p → LeadsToItself s p path place
     → IsFalse (is_by_sandbox (answer program_of s pid (Open path (opening_for Read))).outcome) ↔ IsTrue (reached_permissions s p place).r
 
 -- an open for writing shows w
 abbrev pub OpenShowsW : Type 0
 OpenShowsW =
-    (program_of : Bytes → Option Program) (s : State) (pid : ℕ) (p : Process) (path : Bytes) (place : Place) → process_at s pid ≡ Some p → HasRoomToOpen s p → LeadsThere s p path place
+    (program_of : Bytes → Option Program) (s : State) (pid : ℕ) (p : Process) (path : Bytes) (place : Place) → process_at s pid ≡ Some p → HasRoomToOpen s p → LeadsToItself s p path place
     → IsFalse (is_by_sandbox (answer program_of s pid (Open path (opening_for Write))).outcome) ↔ IsTrue (reached_permissions s p place).w
 
 -- an execve of a node that is not a link shows x
 abbrev pub ExecveShowsX : Type 0
 ExecveShowsX =
-    (program_of : Bytes → Option Program) (s : State) (pid : ℕ) (p : Process) (path : Bytes) (place : Place) → process_at s pid ≡ Some p → LeadsThere s p path place
+    (program_of : Bytes → Option Program) (s : State) (pid : ℕ) (p : Process) (path : Bytes) (place : Place) → process_at s pid ≡ Some p → LeadsToItself s p path place
     → IsFalse (is_link (option_and_then (node_at s.tree) (node_of place)))
     → IsFalse (is_by_sandbox (answer program_of s pid (Execve path)).outcome) ↔ IsTrue (reached_permissions s p place).x
 
 -- an unlink shows c
 abbrev pub UnlinkShowsC : Type 0
 UnlinkShowsC =
-    (program_of : Bytes → Option Program) (s : State) (pid : ℕ) (p : Process) (path : Bytes) (place : Place) → process_at s pid ≡ Some p → LeadsThere s p path place
+    (program_of : Bytes → Option Program) (s : State) (pid : ℕ) (p : Process) (path : Bytes) (place : Place) → process_at s pid ≡ Some p → LeadsToItself s p path place
     → IsFalse (is_by_sandbox (answer program_of s pid (Unlink path)).outcome) ↔ IsTrue (reached_permissions s p place).c

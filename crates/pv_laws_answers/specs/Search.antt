@@ -31,8 +31,8 @@ abbrev pub StatesAreReached : Type 0
 StatesAreReached = (program_of : Bytes → Option Program) (limit : ℕ) (s : State) → IsSearchable program_of limit s → FoundStates program_of limit s
 
 -- if the search is complete, every schedule ends in a visited state
-abbrev pub CompleteHasAll : Type 0
-CompleteHasAll =
+abbrev pub CompleteVisitsAll : Type 0
+CompleteVisitsAll =
     (program_of : Bytes → Option Program) (limit : ℕ) (s : State) (pids : List ℕ) → IsSearchable program_of limit s → IsTrue (is_complete program_of limit s)
     → IsTrue (is_found (run program_of pids s).final (states_found program_of limit s))
 
@@ -94,7 +94,7 @@ abbrev pub EndingsHappen : Type 0
 EndingsHappen = (program_of : Bytes → Option Program) (limit : ℕ) (s : State) → IsSearchable program_of limit s → Endings program_of limit s
 
 -- if the search is complete, each schedule that leaves no process live leaves one of them
-abbrev pub EndingsAreAll : Type 0
-EndingsAreAll =
+abbrev pub EndingsAreComplete : Type 0
+EndingsAreComplete =
     (program_of : Bytes → Option Program) (limit : ℕ) (s : State) (pids : List ℕ) → IsSearchable program_of limit s → IsTrue (is_complete program_of limit s)
     → IsTrue (has_ended (run program_of pids s).final) → Contains (endings (states_found program_of limit s)) (final_tree program_of pids s)

@@ -8,7 +8,7 @@ use Rattle.pv_model.specs.Machine.{is_complete, graph_lines, AnswerLine, answer_
 use Rattle.pv_model.specs.Sealed.{is_sealed}
 use Rattle.pv_laws_states.specs.ExampleStates.{no_programs, flags}
 use Rattle.pv_laws_answers.specs.Graphs.{IsAlong}
-use Rattle.pv_laws_answers.specs.Unread.{IsReadByNone}
+use Rattle.pv_laws_answers.specs.Unread.{IsNeverRead}
 
 -- node 2 is read, node 3 is not
 abbrev pub two_text_files : Tree
@@ -23,7 +23,7 @@ start = first_state two_text_files reading_first
 -- there are four states; no step from them reads node 3, which is exposed in the first; but one reads node 2
 pub record UnreadExamples : Type 0 where
   pub complete : IsTrue (is_complete no_programs 4 start)
-  pub unread : IsReadByNone no_programs 4 start 3
+  pub unread : IsNeverRead no_programs 4 start 3
   pub exposed : IsFalse (is_sealed start 3)
   pub read : Touches no_programs (run no_programs (1 ∷ []) start).final 1 (read_file 2)
 

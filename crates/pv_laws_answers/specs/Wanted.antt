@@ -1,4 +1,4 @@
--- What the lines PLDG and UNVL of a step report about the needs of its call.
+-- The lines PLDG and UNVL of a step, and the needs of its call.
 use Rattle.std.specs.Prelude.{◌≡◌, ◌↔◌, ◌⊎◌, ℕ, ◌≤◌, Bool, true, false, IsTrue, IsFalse, List, Option, None, Some, Ok}
 use Rattle.std.specs.List.{list_any, list_all}
 use Rattle.pv_model.specs.declared.perms.Perms.{Perms}
@@ -8,13 +8,13 @@ use Rattle.pv_model.specs.Machine.{answer, Bytes, end_of, needs, covers, calls_f
 use Rattle.pv_model.specs.Trace.{for_kill, for_refusal}
 
 -- whether a line reports that a missing promise killed or refused the call
-abbrev pub is_want : Word → Bool
-is_want (pldg_word call promise for_kill) = true
-is_want (pldg_word call promise for_refusal) = true
-is_want word = false
+abbrev pub is_missing_promise_line : Word → Bool
+is_missing_promise_line (pldg_word call promise for_kill) = true
+is_missing_promise_line (pldg_word call promise for_refusal) = true
+is_missing_promise_line word = false
 
 abbrev pub reports_need : List Line → Bool
-reports_need ls = list_any (λ l. is_want l.word) ls
+reports_need ls = list_any (λ l. is_missing_promise_line l.word) ls
 
 -- a process is not pledged, or its promises meet all needs of a call
 abbrev pub HasAllNeeds : Option Promises → Call → Type 0
@@ -45,7 +45,7 @@ Permits t held place asked =
 abbrev pub HasTableLine : (Bytes → Option Program) → State → ℕ → Call → ℕ → Type 0
 HasTableLine program_of s pid call number = IsTrue (reports_of_table (step program_of s pid).lines) × (number ≡ (answer program_of s pid call).walks)
 
--- a walk that is judged and ends at a place has no UNVL line if and only if no table is in force or the entry that
+-- a walk that is checked and ends at a place has no UNVL line if and only if no table is in force or the entry that
 -- governs the place has the needed permissions
 abbrev pub RefusalIsReported : Type 0
 RefusalIsReported =

@@ -1,6 +1,6 @@
 //! Laws of the levels of a decision, unveil(2).
 
-ghost use Rattle.pv_laws_answers.specs.Levels.{LevelsAreTheDerivation, LevelsLeadToTheGovernor, LevelsGoUp};
+ghost use Rattle.pv_laws_answers.specs.Levels.{LevelsAreTheDerivation, LevelsLeadToTheGovernor, LevelsAreClimbed};
 
 /// If an entry governs a place, the levels of the place are the steps of the derivation that it governs.
 pub fn levels_are_the_derivation()
@@ -16,5 +16,5 @@ pub fn levels_lead_to_the_governor()
 /// The levels go up from the place, each to the directory above, to the first that has an entry, the root, or a removed
 /// directory.
 pub fn levels_go_up()
-    ensures { LevelsGoUp }
+    ensures { LevelsAreClimbed }
 {}

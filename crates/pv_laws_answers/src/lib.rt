@@ -1,12 +1,12 @@
-//! Laws of the answers: what a reader may conclude from the texts of `reach`, `needs`, `explain`, `explore` and
-//! `graph`.
+//! Laws of the answers: the conclusions that a reader may draw from the texts of `reach`, `needs`, `explain`, `explore`
+//! and `graph`.
 //!
 //! Each law is a function with an empty body whose contract is the statement, defined in `specs/`.
 //!
 //! - One state: `reach` (names, and permissions at each place), `over_time` (their changes), `levels` (decisions of a table).
 //! - A run: `explained` (its text), `settings` (where entries were set), `wanted` (the lines PLDG and UNVL),
-//!   `process_images`, `counts` and `begun` (what a program needs).
-//! - All schedules: `search` (states and texts), `observed` (what is reported of steps), `graph` (its paths are the runs),
+//!   `process_images`, `counts` and `begun` (the needs of a program).
+//! - All schedules: `search` (states and texts), `observed` (the reports on steps), `graph` (its paths are the runs),
 //!   `unread` (files that no step reads), `waits` (no deadlocks). The modules `*examples` have worked runs.
 #![tactic(auto)]
 

@@ -1,6 +1,7 @@
-//! Laws of the answer `needs`: what is sufficient for one program image of a process, and what is necessary.
+//! Laws of the answer `needs`: the sufficient and the necessary promises and permissions of one program image of a
+//! process.
 
-ghost use Rattle.pv_laws_answers.specs.ProcessImages.{ProcessImagesAreOfCalls, ProcessImagesAreOfTheRun, ListedPromisesAreEnough, ListedPromisesAreNeeded, ListedLettersAreEnough, ListedLettersAreNeeded};
+ghost use Rattle.pv_laws_answers.specs.ProcessImages.{ProcessImagesAreOfCalls, ProcessImagesAreOfTheRun, ListedPromisesAreEnough, ListedPromisesAreNeeded, ImagePermissionsAreEnough, ImagePermissionsAreNeeded};
 
 /// The program images that the text lists consist of the calls of the run.
 pub fn process_images_are_of_calls()
@@ -27,12 +28,12 @@ pub fn listed_promises_are_needed()
 /// If the process's table is replaced by one that grants all listed permissions at each listed target, no call has an
 /// UNVL line, except for a second walk whose call was refused at the first walk in the run.
 pub fn listed_letters_are_enough()
-    ensures { ListedLettersAreEnough }
+    ensures { ImagePermissionsAreEnough }
 {}
 
 /// If the process's table is replaced by one that lacks a listed permission at one target, but grants all listed
 /// permissions at the others, the entry that governs the target refuses every call that needed the permission there, in
 /// particular the first one.
 pub fn listed_letters_are_needed()
-    ensures { ListedLettersAreNeeded }
+    ensures { ImagePermissionsAreNeeded }
 {}

@@ -1,6 +1,6 @@
 //! Laws of the search of all schedules: the states that it visits and the texts that it reports.
 
-ghost use Rattle.pv_laws_answers.specs.Search.{StatesAreDistinguished, StatesAreReached, CompleteHasAll, EachTextIsReported, WitnessesAreLeast, EndingsHappen, EndingsAreAll};
+ghost use Rattle.pv_laws_answers.specs.Search.{StatesAreDistinguished, StatesAreReached, CompleteVisitsAll, EachTextIsReported, WitnessesAreLeast, EndingsHappen, EndingsAreComplete};
 
 /// The encoding of states is injective: a search identifies two states if and only if they are equal.
 pub fn states_are_distinguished()
@@ -15,7 +15,7 @@ pub fn states_are_reached()
 
 /// If a search is complete, every schedule ends in a visited state.
 pub fn complete_has_all()
-    ensures { CompleteHasAll }
+    ensures { CompleteVisitsAll }
 {}
 
 /// If a search is complete, it reports the text of every step of a live process in every schedule.
@@ -37,5 +37,5 @@ pub fn endings_happen()
 
 /// If a search is complete, each schedule that leaves no process live leaves one of the trees that are counted.
 pub fn endings_are_all()
-    ensures { EndingsAreAll }
+    ensures { EndingsAreComplete }
 {}

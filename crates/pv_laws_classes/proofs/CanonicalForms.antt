@@ -7,9 +7,9 @@ use Rattle.pv_model.specs.Machine.{among, used_files, Numbered, at_number, OpenF
 use Rattle.pv_laws_answers.proofs.StateDecoding.{reported-apart}
 use Rattle.pv_laws_states.specs.Held.{used}
 use Rattle.pv_laws_states.specs.States.{IsValid}
-use Rattle.pv_laws_states.proofs.Collect.{is_collected}
-use Rattle.pv_laws_states.proofs.Members.{all_of, used-among}
-use Rattle.pv_laws_classes.specs.Canonical.{AreAlike, AlikeIsEquivalence, first_ones, references, index_in, canonical_number, no_file, canonical_files, canonical, CanonicalIsUnique, ClassesAreDistinguished}
+use Rattle.pv_laws_states.proofs.CollectedStates.{is_collected}
+use Rattle.pv_laws_states.proofs.ReferenceMembers.{all_of, used-among}
+use Rattle.pv_laws_classes.specs.Canonical.{AreEqualRenumbered, RenumberingIsEquivalence, distinct_without, references, index_in, canonical_number, no_file, canonical_files, canonical, CanonicalIsUnique, ClassesAreDistinguished}
 use Rattle.pv_laws_classes.specs.Renumbering.{renumbered_descriptor, renumbered_descriptors, renumbered_processes, IsInUse, Renumbered}
 use Rattle.pv_laws_classes.proofs.RenumberedLists.{EachUses, uses-of, agree-processes, used-renumbered}
 use Rattle.pv_laws_classes.proofs.RenumberedStates.{IsPresent}
@@ -64,7 +64,7 @@ module _ (s : State) (whole : IsValid s) where
 
 -- ---- the equivalence
 
-reflexive : (s : State) → AreAlike s s
+reflexive : (s : State) → AreEqualRenumbered s s
 reflexive s = (
   λ n. n,
   record {
@@ -77,7 +77,7 @@ reflexive s = (
   },
 )
 
-pub transitive : (s t u : State) → AreAlike s t → AreAlike t u → AreAlike s u
+pub transitive : (s t u : State) → AreEqualRenumbered s t → AreEqualRenumbered t u → AreEqualRenumbered s u
 transitive s t u (f, is) (g, next) = (
   both f g,
   record {
@@ -130,10 +130,10 @@ module _ (f : ℕ → ℕ) (s t : State) (whole : IsValid s) (is : Renumbered f 
     no_others = λ m there. (f m, taken m there, back-f m there);
   }
 
-pub symmetric : (s t : State) → IsValid s → AreAlike s t → AreAlike t s
+pub symmetric : (s t : State) → IsValid s → AreEqualRenumbered s t → AreEqualRenumbered t s
 symmetric s t whole (f, is) = (back f s t whole is, inverse f s t whole is)
 
-pub equivalence : AlikeIsEquivalence
+pub equivalence : RenumberingIsEquivalence
 equivalence = record { reflexive = reflexive; symmetric = symmetric; transitive = transitive }
 
 -- ---- lists of distinct numbers
@@ -143,38 +143,38 @@ AreDistinct : List ℕ → Type 0
 AreDistinct [] = Unit {0}
 AreDistinct (n ∷ ns) = (among ns n ≡ false) × AreDistinct ns
 
-first-from : (had ns : List ℕ) (n : ℕ) → among (first_ones had ns) n ≡ true → among ns n ≡ true
+first-from : (had ns : List ℕ) (n : ℕ) → among (distinct_without had ns) n ≡ true → among ns n ≡ true
 first-from had [] n is = is
 first-from had (m ∷ ns) n is = by (first-from had ns n) (first-from (m ∷ had) ns n) (among had m) is
   where
-    by : (among (first_ones had ns) n ≡ true → among ns n ≡ true) → (among (first_ones (m ∷ had) ns) n ≡ true → among ns n ≡ true)
-        → (b : Bool) → among (if b then first_ones had ns else m ∷ first_ones (m ∷ had) ns) n ≡ true → (m == n || among ns n) ≡ true
+    by : (among (distinct_without had ns) n ≡ true → among ns n ≡ true) → (among (distinct_without (m ∷ had) ns) n ≡ true → among ns n ≡ true)
+        → (b : Bool) → among (if b then distinct_without had ns else m ∷ distinct_without (m ∷ had) ns) n ≡ true → (m == n || among ns n) ≡ true
     by old new true is = or_right (m == n) _ (old is)
-    by old new false is = ⊎_elim (λ here. or_left (m == n) _ here) (λ there. or_right (m == n) _ (new there)) (or_cases (m == n) (among (first_ones (m ∷ had) ns) n) is)
+    by old new false is = ⊎_elim (λ here. or_left (m == n) _ here) (λ there. or_right (m == n) _ (new there)) (or_cases (m == n) (among (distinct_without (m ∷ had) ns) n) is)
 
-first-new : (had ns : List ℕ) (n : ℕ) → among had n ≡ true → among (first_ones had ns) n ≡ false
+first-new : (had ns : List ℕ) (n : ℕ) → among had n ≡ true → among (distinct_without had ns) n ≡ false
 first-new had [] n is = refl
 first-new had (m ∷ ns) n is = by (first-new had ns n is) (first-new (m ∷ had) ns n (or_right (m == n) _ is)) (among had m) refl
   where
-    by : among (first_ones had ns) n ≡ false → among (first_ones (m ∷ had) ns) n ≡ false → (b : Bool) → among had m ≡ b → among (if b then first_ones had ns else m ∷ first_ones (m ∷ had) ns) n ≡ false
+    by : among (distinct_without had ns) n ≡ false → among (distinct_without (m ∷ had) ns) n ≡ false → (b : Bool) → among had m ≡ b → among (if b then distinct_without had ns else m ∷ distinct_without (m ∷ had) ns) n ≡ false
     by none none' true old = none
     by none none' false new = ap₂ (λ a b. a || b) (ne_eqb m n (λ same. let bad : true ≡ false = sym is ∙ ap (among had) (sym same) ∙ new in cc bad)) none'
 
-first-distinct : (had ns : List ℕ) → AreDistinct (first_ones had ns)
+first-distinct : (had ns : List ℕ) → AreDistinct (distinct_without had ns)
 unfolding AreDistinct
 first-distinct had [] = tt
 first-distinct had (m ∷ ns) = by (first-distinct had ns) (first-distinct (m ∷ had) ns) (among had m)
   where
-    by : AreDistinct (first_ones had ns) → AreDistinct (first_ones (m ∷ had) ns) → (b : Bool) → AreDistinct (if b then first_ones had ns else m ∷ first_ones (m ∷ had) ns)
+    by : AreDistinct (distinct_without had ns) → AreDistinct (distinct_without (m ∷ had) ns) → (b : Bool) → AreDistinct (if b then distinct_without had ns else m ∷ distinct_without (m ∷ had) ns)
     by old new true = old
     by old new false = (first-new (m ∷ had) ns m (or_left (m == m) _ (eq-eqb m m refl)), new)
 
-first-has : (had ns : List ℕ) (n : ℕ) → among ns n ≡ true → among had n ≡ false → among (first_ones had ns) n ≡ true
+first-has : (had ns : List ℕ) (n : ℕ) → among ns n ≡ true → among had n ≡ false → among (distinct_without had ns) n ≡ true
 first-has had [] n is new = is
 first-has had (m ∷ ns) n is new = by (λ there. first-has had ns n there new) (λ there fresh. first-has (m ∷ had) ns n there fresh) (among had m) refl
   where
-    by : (among ns n ≡ true → among (first_ones had ns) n ≡ true) → (among ns n ≡ true → among (m ∷ had) n ≡ false → among (first_ones (m ∷ had) ns) n ≡ true)
-        → (b : Bool) → among had m ≡ b → among (if b then first_ones had ns else m ∷ first_ones (m ∷ had) ns) n ≡ true
+    by : (among ns n ≡ true → among (distinct_without had ns) n ≡ true) → (among ns n ≡ true → among (m ∷ had) n ≡ false → among (distinct_without (m ∷ had) ns) n ≡ true)
+        → (b : Bool) → among had m ≡ b → among (if b then distinct_without had ns else m ∷ distinct_without (m ∷ had) ns) n ≡ true
     by old more true was = ⊎_elim (λ here. let bad : true ≡ false = sym was ∙ ap (among had) (eqb-true m n here) ∙ new in cc bad) old (or_cases (m == n) (among ns n) is)
     by old more false was =
         ⊎_elim (λ same. or_left (m == n) _ (eq-eqb m n same))
@@ -213,7 +213,7 @@ module _ (fs : Numbered OpenFile) (rest : Numbered OpenFile) where
       let apart : m ≢ old.0 = λ same. let bad : true ≡ false = sym old.1 ∙ ap (among ms) (sym same) ∙ distinct.0 in cc bad in
       (old.0, or_right (m == old.0) _ old.1, ap (λ b. if b then 0 else suc (index_in ms old.0)) (ne_eqb m old.0 apart) ∙ ap suc old.2, old.3)
 
--- ---- the canonical form is alike
+-- ---- the canonical form is equal up to a renumbering
 
 nothing : (j k : ℕ) → is_some (at_number (replicate j no_file) k) ≡ false
 nothing zero k = refl
@@ -241,7 +241,7 @@ module _ (s : State) (whole : IsValid s) where
         (had.0, had.3, had.2);
   }
 
--- ---- alike states have equal canonical forms
+-- ---- states that are equal up to a renumbering have equal canonical forms
 
 each-of : (P : ℕ → Type 0) (ms : List ℕ) → ((n : ℕ) → among ms n ≡ true → P n) → AllByRecursion P ms
 each-of P [] all = tt
@@ -255,14 +255,14 @@ module _ (f : ℕ → ℕ) (P : ℕ → Type 0) (injective : (m n : ℕ) → P m
   among-renumbered [] n all in_n = refl
   among-renumbered (m ∷ ms) n all in_n = ap₂ (λ a b. a || b) (same-test m n all.0 in_n) (among-renumbered ms n all.1 in_n)
 
-  first-renumbered : (had ns : List ℕ) → AllByRecursion P had → AllByRecursion P ns → first_ones (map f had) (map f ns) ≡ map f (first_ones had ns)
+  first-renumbered : (had ns : List ℕ) → AllByRecursion P had → AllByRecursion P ns → distinct_without (map f had) (map f ns) ≡ map f (distinct_without had ns)
   first-renumbered had [] all_had all = refl
   first-renumbered had (n ∷ ns) all_had all =
-      ap (λ b. if b then first_ones (map f had) (map f ns) else f n ∷ first_ones (map f (n ∷ had)) (map f ns)) (among-renumbered had n all_had all.0)
+      ap (λ b. if b then distinct_without (map f had) (map f ns) else f n ∷ distinct_without (map f (n ∷ had)) (map f ns)) (among-renumbered had n all_had all.0)
       ∙ by (first-renumbered had ns all_had all.1) (first-renumbered (n ∷ had) ns (all.0, all_had) all.1) (among had n)
     where
-      by : first_ones (map f had) (map f ns) ≡ map f (first_ones had ns) → first_ones (map f (n ∷ had)) (map f ns) ≡ map f (first_ones (n ∷ had) ns)
-          → (b : Bool) → (if b then first_ones (map f had) (map f ns) else f n ∷ first_ones (map f (n ∷ had)) (map f ns)) ≡ map f (if b then first_ones had ns else n ∷ first_ones (n ∷ had) ns)
+      by : distinct_without (map f had) (map f ns) ≡ map f (distinct_without had ns) → distinct_without (map f (n ∷ had)) (map f ns) ≡ map f (distinct_without (n ∷ had) ns)
+          → (b : Bool) → (if b then distinct_without (map f had) (map f ns) else f n ∷ distinct_without (map f (n ∷ had)) (map f ns)) ≡ map f (if b then distinct_without had ns else n ∷ distinct_without (n ∷ had) ns)
       by old new true = old
       by old new false = ap (λ xs. f n ∷ xs) new
 
@@ -283,7 +283,7 @@ module _ (f : ℕ → ℕ) (s t : State) (whole : IsValid s) (is : Renumbered f 
   used-is = ap (all_of used_files) is.processes ∙ used-renumbered f s.processes
 
   references-is : references t ≡ map f (references s)
-  references-is = ap (first_ones []) used-is ∙ first-renumbered f (IsPresent s.files) is.injective [] (used s) tt (each-of (IsPresent s.files) (used s) (used-present s whole))
+  references-is = ap (distinct_without []) used-is ∙ first-renumbered f (IsPresent s.files) is.injective [] (used s) tt (each-of (IsPresent s.files) (used s) (used-present s whole))
 
   all-present : AllByRecursion (IsPresent s.files) (references s)
   all-present = each-of (IsPresent s.files) (references s) (references-present s whole)
@@ -314,7 +314,7 @@ module _ (f : ℕ → ℕ) (s t : State) (whole : IsValid s) (is : Renumbered f 
 pub unique : CanonicalIsUnique
 unique s t whole_s whole_t = (
   λ same. transitive s (canonical s) t (canonical_number s, canonical-alike s whole_s)
-      (subst (λ (x : State). AreAlike x t) (sym same) (symmetric t (canonical t) whole_t (canonical_number t, canonical-alike t whole_t))),
+      (subst (λ (x : State). AreEqualRenumbered x t) (sym same) (symmetric t (canonical t) whole_t (canonical_number t, canonical-alike t whole_t))),
   λ (f, is). canonical-same f s t whole_s is,
 )
 

@@ -5,7 +5,7 @@ use Rattle.std.specs.FinMap.Entries.{find}
 use Rattle.std.specs.Ordering.{nat_cmp}
 use Rattle.pv_model.specs.Machine.{has_ended, Bytes, is_empty, live_processes, Program, Process, ProcessRecord, live, ended_record, State, live_process, process_at, step}
 use Rattle.pv_laws_states.specs.States.{EncodesPrograms, IsValid}
-use Rattle.pv_laws_states.proofs.BySteps.{step-keeps_whole}
+use Rattle.pv_laws_states.proofs.ValidBySteps.{step-keeps_valid}
 use Rattle.pv_laws_classes.specs.Canonical.{canonical, canonical_number}
 use Rattle.pv_laws_classes.specs.Renumbering.{renumbered_process, renumbered_processes, Renumbered}
 use Rattle.pv_laws_classes.proofs.CanonicalForms.{unique}
@@ -19,7 +19,7 @@ module _ (class_of : State → State) (program_of : Bytes → Option Program) wh
     pub lines : (step program_of t pid).lines ≡ (step program_of s pid).lines
     pub after : class_of (step program_of s pid).after ≡ class_of (step program_of t pid).after
 
-  -- what two valid states of one class have in common
+  -- the common properties of two valid states of one class
   pub record AreClasses : Type 0 where
     pub steps : (s t : State) (pid : ℕ) → IsValid s → IsValid t → class_of s ≡ class_of t → AreStepsAlike s t pid
     pub tree : (s t : State) → class_of s ≡ class_of t → s.tree ≡ t.tree
@@ -69,7 +69,7 @@ canonical-states program_of encodes = record {
       record {
         lives = lives-renumbered alike.0 s t pid alike.1;
         lines = both.lines;
-        after = (unique (step program_of s pid).after (step program_of t pid).after (step-keeps_whole program_of encodes s pid whole_s) (step-keeps_whole program_of encodes t pid whole_t)).1 (both.renumbering, both.after);
+        after = (unique (step program_of s pid).after (step program_of t pid).after (step-keeps_valid program_of encodes s pid whole_s) (step-keeps_valid program_of encodes t pid whole_t)).1 (both.renumbering, both.after);
       };
   tree = λ s t same. sym (canonical-tree s) ∙ ap (λ (u : State). u.tree) same ∙ canonical-tree t;
   ended = λ s t same. sym (canonical-ended s) ∙ ap has_ended same ∙ canonical-ended t;

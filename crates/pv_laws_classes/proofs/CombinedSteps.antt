@@ -3,7 +3,7 @@ use Rattle.std.proofs.Common.{◌≡◌, ◌≢◌, ◌↔◌, ◌⊎◌, ⊎_el
 use Rattle.pv_model.specs.Machine.{has_ended, Bytes, Program, State, process_at, Stepped, step, run, trace_bytes}
 use Rattle.pv_laws_states.specs.States.{EncodesPrograms, IsValid}
 use Rattle.pv_laws_answers.specs.Witnesses.{AreSteps}
-use Rattle.pv_laws_classes.specs.Together.{is_step_on_registers, StepResult, step_result, CombinedTurn, steps_of_turns, count_of_process, replies, AreOnRegisters, IsTurn, AreTurns, Combined, one_more, together, steps_together, after_together, AreCombined, IsCombined, AreTheirSteps, EndsAlike, CombinedForm, EndsTogether, HasSchedule, HasCombined, IsLeast}
+use Rattle.pv_laws_classes.specs.Together.{is_step_on_registers, StepResult, step_result, CombinedTurn, steps_of_turns, count_of_process, replies, AreOnRegisters, IsTurn, AreTurns, Combined, one_more, together, steps_together, after_together, AreCombined, IsCombined, AreTheirSteps, EndsInSameStep, CombinedForm, EndsTogether, HasSchedule, HasCombined, IsLeast}
 use Rattle.pv_laws_classes.proofs.RegisterSteps.{on-lives, lives-on, no-lines, final-append, none-left}
 use Rattle.pv_laws_classes.proofs.CombinedTurns.{count-none, count-append, replies-append, replies-off, replies-turn, normal-form}
 
@@ -282,7 +282,7 @@ module _ (program_of : Bytes → Option Program) where
         (subst (λ x. Ends x r turns) (final-last n k s) (ends turns (run program_of (replicate (suc n) k) s).final are.1 rs r later))
 
     module _ (encodes : EncodesPrograms program_of) (s : State) (whole : IsValid s) where
-      pub ends-alike : (pids : List ℕ) (pid : ℕ) → AreSteps program_of (pids ++ pid ∷ []) s → is_step_on_registers (run program_of pids s).final pid ≡ false → EndsAlike program_of most s pids pid
+      pub ends-alike : (pids : List ℕ) (pid : ℕ) → AreSteps program_of (pids ++ pid ∷ []) s → is_step_on_registers (run program_of pids s).final pid ≡ false → EndsInSameStep program_of most s pids pid
       ends-alike pids pid steps off =
           let form = normal-form program_of encodes s (pids ++ pid ∷ []) whole steps in
           let is =

@@ -3,7 +3,7 @@ use Rattle.std.proofs.Common.{◌≡◌, ◌≢◌, ⊎_elim, ℕ, zero, suc, �
 use Rattle.std.proofs.lemmas.Bool.{cases_eq}
 use Rattle.pv_model.specs.Machine.{Bytes, Program, State, step, run, Line}
 use Rattle.pv_laws_states.specs.States.{EncodesPrograms, IsValid}
-use Rattle.pv_laws_states.proofs.BySteps.{step-keeps_whole}
+use Rattle.pv_laws_states.proofs.ValidBySteps.{step-keeps_valid}
 use Rattle.pv_laws_answers.specs.Witnesses.{AreSteps}
 use Rattle.pv_laws_classes.specs.Together.{is_step_on_registers, StepResult, step_result, CombinedTurn, steps_of_turns, count_of_process, replies, AreOnRegisters, IsTurn, AreTurns, NormalForm}
 use Rattle.pv_laws_classes.proofs.RegisterSteps.{on-lives, no-lines, final-append, PassesTurn, passes-turn}
@@ -103,9 +103,9 @@ module _ (program_of : Bytes → Option Program) where
       answers : replies program_of (steps_of_turns turns) s ≡ replies program_of (steps_of_turns others) (step program_of s a).after
       final : (run program_of left (run program_of (steps_of_turns turns) s).final).final ≡ (run program_of (steps_of_turns others) (step program_of s a).after).final
 
-    keeps-whole : (pid count : ℕ) (s : State) → IsValid s → IsValid (run program_of (replicate count pid) s).final
-    keeps-whole pid zero s whole = whole
-    keeps-whole pid (suc count) s whole = keeps-whole pid count (step program_of s pid).after (step-keeps_whole program_of encodes s pid whole)
+    keeps-valid : (pid count : ℕ) (s : State) → IsValid s → IsValid (run program_of (replicate count pid) s).final
+    keeps-valid pid zero s whole = whole
+    keeps-valid pid (suc count) s whole = keeps-valid pid count (step program_of s pid).after (step-keeps_valid program_of encodes s pid whole)
 
     -- before a turn of the same process
     inserted-here : (n : ℕ) (others : List CombinedTurn) (s : State) (k a : ℕ) → k ≡ a → is_step_on_registers s a ≡ true → AreTurns program_of ((k, n) ∷ others) (step program_of s a).after
@@ -165,7 +165,7 @@ module _ (program_of : Bytes → Option Program) where
         (λ differ.
         let past = passes-turn program_of encodes k a differ n s whole on are.0 in
         inserted-past n others s k a differ are past
-        (insert others (run program_of (replicate (suc n) k) s).final a (keeps-whole k (suc n) s whole) past.on (subst (AreTurns program_of others) (sym past.after) are.1)))
+        (insert others (run program_of (replicate (suc n) k) s).final a (keeps-valid k (suc n) s whole) past.on (subst (AreTurns program_of others) (sym past.after) are.1)))
         (cases_eq k a)
 
     -- ---- the normal form
@@ -187,7 +187,7 @@ module _ (program_of : Bytes → Option Program) where
     join : (pids : List ℕ) (s : State) → IsValid s → AreSteps program_of pids s → Joined s pids
     join [] s whole steps =
         record { turns = []; left = []; joined = tt; at_end = tt; count = refl; each = λ m. omega (arith, count-none m); answers = refl; final = refl }
-    join (pid ∷ pids) s whole steps = by (join pids (step program_of s pid).after (step-keeps_whole program_of encodes s pid whole) steps.1) (is_step_on_registers s pid) refl
+    join (pid ∷ pids) s whole steps = by (join pids (step program_of s pid).after (step-keeps_valid program_of encodes s pid whole) steps.1) (is_step_on_registers s pid) refl
       where
         by : Joined (step program_of s pid).after pids → (b : Bool) → is_step_on_registers s pid ≡ b → Joined s (pid ∷ pids)
         by rest false off = record {

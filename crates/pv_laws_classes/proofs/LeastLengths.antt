@@ -2,9 +2,9 @@
 use Rattle.std.proofs.Common.{◌≡◌, ◌≢◌, ◌⊎◌, ⊎_elim, inl, inr, ℕ, zero, suc, ◌<◌, ◌≤◌, Bool, true, false, bytes_eq, List, [], ◌∷◌, ◌++◌, length, Option, None, Some, is_some, refl, ap, sym, subst, ◌∙◌, arith, length-append}
 use Rattle.std.proofs.lemmas.Bool.{cases_lt, cases_eq}
 use Rattle.pv_model.specs.Machine.{Bytes, live_processes, Program, Process, State, process_at, step, run}
-use Rattle.pv_laws_trees.proofs.Entries.{bytes_eq-same, bytes_eq-itself}
+use Rattle.pv_laws_trees.proofs.DirectoryEntries.{bytes_eq-same, bytes_eq-itself}
 use Rattle.pv_laws_states.specs.States.{EncodesPrograms, IsValid}
-use Rattle.pv_laws_states.proofs.BySteps.{step-keeps_whole}
+use Rattle.pv_laws_states.proofs.ValidBySteps.{step-keeps_valid}
 use Rattle.pv_laws_answers.specs.Search.{text_of_step}
 use Rattle.pv_laws_answers.specs.Witnesses.{AreSteps}
 use Rattle.pv_laws_answers.proofs.Lists.{Among}
@@ -116,7 +116,7 @@ module _ (program_of : Bytes → Option Program) (encodes : EncodesPrograms prog
       (λ (none : (r : ℕ × Process) → Among r (live_processes s.processes) → Starts s n r.0 → ⊥).
       inr (λ had. let first = starts s n had in let p = live-process s first.0 first.1 in none (first.0, p.0) (live-listed s first.0 p.0 p.1) first.2))
       (decide-any (λ (r : ℕ × Process). Starts s n r.0) (live_processes s.processes)
-      (λ r within. decide-starts s n r.0 (decide n (step program_of s r.0).after (step-keeps_whole program_of encodes s r.0 whole))))
+      (λ r within. decide-starts s n r.0 (decide n (step program_of s r.0).after (step-keeps_valid program_of encodes s r.0 whole))))
 
   pub has-least_length : (most : ℕ) (s : State) → IsValid s → bytes ≢ [] → (m : ℕ) → Has s m → HasLeastLength program_of most s bytes m
   has-least_length most s whole some m had =

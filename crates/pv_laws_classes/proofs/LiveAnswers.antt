@@ -1,4 +1,4 @@
--- Answers in two states that are the same but for registers and buffers.
+-- Answers in two states that are the same except for registers and buffers.
 use Rattle.std.proofs.Common.{◌≡◌, ◌≢◌, ℕ, ℤ, pos, negsuc, if◌then◌else◌, List, [], ◌++◌, length, drop, take, Option, None, Some, is_some, refl, ap, sym, subst, ◌∙◌}
 use Rattle.std.proofs.lemmas.List.{take_at}
 use Rattle.pv_model.specs.declared.outcome.Outcome.{Outcome}

@@ -1,4 +1,4 @@
--- The effects of calls in two states whose callers agree in live variables, but for the result.
+-- The effects of calls in two states whose callers agree in live variables, except for the result.
 use Rattle.std.proofs.Common.{◌≡◌, ◌≢◌, ℕ, suc, ◌≤◌, ℤ, pos, negsuc, Bool, true, false, nat_le, List, take, Option, None, Some, refl, sym, subst, ap, if◌then◌else◌}
 use Rattle.std.specs.FinMap.Entries.{put, where_key, is_sorted}
 use Rattle.std.specs.Ordering.{nat_cmp}
@@ -10,7 +10,7 @@ use Rattle.pv_model.specs.Machine.{effect, Attempt, Bytes, child, statuses, with
 use Rattle.pv_model.specs.State.{no_registers, no_bytes}
 use Rattle.pv_laws_states.proofs.ValidEnds.{sorted-filtered}
 use Rattle.pv_laws_states.proofs.ValidStates.{sorted-put_number}
-use Rattle.pv_laws_classes.specs.Liveness.{Live, with_values, AgreeOnLive, SameButValues}
+use Rattle.pv_laws_classes.specs.Liveness.{Live, with_values, AgreeOnLive, SameExceptValues}
 use Rattle.pv_laws_states.proofs.RelatedAttempts.{AreBoth, both-kept, both-done, both-room}
 use Rattle.pv_laws_states.proofs.RelatedCalls.{RespectsOwn, call-both}
 use Rattle.pv_laws_states.proofs.RespectedParts.{OthersRespect, pledge-both, unveil-both, execve-both, walked-same, others-own, others-respect}
@@ -18,7 +18,7 @@ use Rattle.pv_laws_classes.proofs.LiveLists.{length-same, children-same, where-s
 use Rattle.pv_laws_classes.proofs.LiveStates.{Related, tree-related, collect-related}
 use Rattle.pv_laws_classes.proofs.LiveValues.{Agrees, AwaitResult, result-agrees}
 
--- the caller agrees but for the result, and the other processes agree
+-- the caller agrees except for the result, and the other processes agree
 abbrev pub Awaits : Live → ℕ → ℕ → Process → List ℤ → Bytes → Type 0
 Awaits is_live pid n p rs bs = AwaitResult is_live p rs bs × (n ≢ pid → AgreeOnLive is_live p rs bs)
 
@@ -28,7 +28,7 @@ await-agree is_live p rs bs is = record { registers_count = is.registers_count; 
 pub awaits-all : (is_live : Live) (pid n : ℕ) (p : Process) (rs : List ℤ) (bs : Bytes) → AgreeOnLive is_live p rs bs → Awaits is_live pid n p rs bs
 awaits-all is_live pid n p rs bs is = (await-agree is_live p rs bs is, λ other. is)
 
-module _ (is_live : Live) (s : State) (pid : ℕ) (me : Process) (rs : List ℤ) (bs : Bytes) (ps : List (ℕ × ProcessRecord)) (sorted : is_sorted nat_cmp s.processes ≡ true) (each : SameButValues (Awaits is_live pid) s.processes ps)
+module _ (is_live : Live) (s : State) (pid : ℕ) (me : Process) (rs : List ℤ) (bs : Bytes) (ps : List (ℕ × ProcessRecord)) (sorted : is_sorted nat_cmp s.processes ≡ true) (each : SameExceptValues (Awaits is_live pid) s.processes ps)
     (mine : AwaitResult is_live me rs bs) where
   abbrev u : State
   u = record s { processes = ps }

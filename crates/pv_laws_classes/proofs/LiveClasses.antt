@@ -1,11 +1,11 @@
--- States that are equal but for dead variables form classes.
+-- States that are equal up to dead variables form classes.
 use Rattle.std.proofs.Common.{ℕ, List, [], ◌∷◌, refl, sym, ◌∙◌}
 use Rattle.pv_model.specs.Machine.{ProcessRecord, live, ended_record}
-use Rattle.pv_laws_classes.specs.Liveness.{Live, IsRead, by_test, with_values, AgreeOnLive, SameButValues, none, both_live, both_ended, AlikeButDeadIsEquivalence, AlikeStatesFormClasses}
+use Rattle.pv_laws_classes.specs.Liveness.{Live, IsRead, by_test, with_values, AgreeOnLive, SameExceptValues, none, both_live, both_ended, EqualUpToDeadIsEquivalence, EqualStatesFormClasses}
 
 module _ (is_live : Live) where
   abbrev Same : List (ℕ × ProcessRecord) → List (ℕ × ProcessRecord) → Type 0
-  Same = SameButValues (λ number. AgreeOnLive is_live)
+  Same = SameExceptValues (λ number. AgreeOnLive is_live)
 
   itself : (rs : List (ℕ × ProcessRecord)) → Same rs rs
   itself [] = none
@@ -27,7 +27,7 @@ module _ (is_live : Live) where
       (both qs vs xs rest later)
   both rs ts us (both_ended n parent status qs vs rest) (both_ended m other_parent other_status ws xs later) = both_ended n parent status qs xs (both qs vs xs rest later)
 
-  pub equivalence : AlikeButDeadIsEquivalence is_live
+  pub equivalence : EqualUpToDeadIsEquivalence is_live
   equivalence = record {
     reflexive = λ s. record { tree = refl; files = refl; last_process = refl; processes = itself s.processes };
     symmetric = λ s t is. record { tree = sym is.tree; files = sym is.files; last_process = sym is.last_process; processes = back s.processes t.processes is.processes };
@@ -39,5 +39,5 @@ module _ (is_live : Live) where
     };
   }
 
-pub form-classes : AlikeStatesFormClasses
+pub form-classes : EqualStatesFormClasses
 form-classes = (equivalence IsRead, λ test. equivalence (by_test test))

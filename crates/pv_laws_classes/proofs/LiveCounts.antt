@@ -11,7 +11,7 @@ use Rattle.pv_model.specs.declared.outcome.Outcome.TheVariants.{Value, Text, Kil
 use Rattle.pv_model.specs.declared.promise.Promise.{Promise}
 use Rattle.pv_model.specs.Machine.{Answered, answer, answer_of, answer_where, answer_by_attempt, at_next_line, effect, Attempt, done, refused, after_walks, ◌>>=◌, ◌>>◌, refuse_if, demand, Bytes, is_past_greatest, write_end, after_write, write, end_process, Effect, returns, returns_bytes, ends, waits, answers, with_room, collect, needs, missing_promise, is_lenient, OpenFile, Program, Process, State, process_at, with_process, gio_word, gave, moved_words, call_lines}
 use Rattle.pv_model.specs.Trace.{took}
-use Rattle.pv_laws_states.proofs.CallRests
+use Rattle.pv_laws_states.proofs.CallRemainders
 use Rattle.pv_laws_steps.proofs.ReportedParts.{lines_of}
 use Rattle.pv_laws_classes.proofs.LiveAnswers.{GivesAlike}
 use Rattle.pv_laws_classes.specs.Liveness.{Live}
@@ -56,13 +56,13 @@ module _ (program_of : Bytes → Option Program) (d n : ℤ) where
   write-returns : (s : State) (pid : ℕ) (me : Process) → Returns IsCount (write s pid me d n)
   write-returns s pid me = returns-bind IsCount _ _ (λ v. by n refl v.0 v.1)
     where
-      of : (m : ℕ) (b : Bool) → (b ≡ true → IsCount m) → (j : ℕ) (file : OpenFile) → Returns IsCount (demand EINVAL (cond b (Some m) None) >>= CallRests.write_2 s pid me j file)
-      of m true is j file = returns-after IsCount 0 (CallRests.write_2 s pid me j file m)
-          (returns-then IsCount (refuse_if EFBIG (is_past_greatest s.tree (write_end s pid me file m))) (CallRests.write_3 s pid me j file m)
+      of : (m : ℕ) (b : Bool) → (b ≡ true → IsCount m) → (j : ℕ) (file : OpenFile) → Returns IsCount (demand EINVAL (cond b (Some m) None) >>= CallRemainders.write_2 s pid me j file)
+      of m true is j file = returns-after IsCount 0 (CallRemainders.write_2 s pid me j file m)
+          (returns-then IsCount (refuse_if EFBIG (is_past_greatest s.tree (write_end s pid me file m))) (CallRemainders.write_3 s pid me j file m)
           (returns-bind IsCount (with_room (after_write s pid me j file m)) (λ roomy. answers roomy m) (λ roomy. is refl)))
       of m false is j file = tt
 
-      by : (k : ℤ) → n ≡ k → (j : ℕ) (file : OpenFile) → Returns IsCount (CallRests.write_1 s pid me k (j, file))
+      by : (k : ℤ) → n ≡ k → (j : ℕ) (file : OpenFile) → Returns IsCount (CallRemainders.write_1 s pid me k (j, file))
       by (pos m) same j file = of m (nat_le m 4096) (λ within. (same, leb-true m 4096 within)) j file
       by (negsuc m) same j file = tt
 

@@ -3,7 +3,7 @@ use Rattle.std.proofs.Common.{◌≡◌, ℕ, zero, suc, ℤ, true, false, repli
 use Rattle.pv_model.specs.Machine.{machine_on_literals, Process, first_process, process_at}
 use Rattle.pv_model.specs.Program.{register}
 use Rattle.pv_model.specs.State.{no_registers, no_bytes}
-use Rattle.pv_laws_classes.specs.Liveness.{Variable, register_variable, byte_variable, value_in, by_test, is_live_at, AgreeOnLive, SameButValues, none, both_live}
+use Rattle.pv_laws_classes.specs.Liveness.{Variable, register_variable, byte_variable, value_in, by_test, is_live_at, AgreeOnLive, SameExceptValues, none, both_live}
 use Rattle.pv_laws_classes.specs.LivenessExamples.{setting, opened, opened_otherwise, DeadExamples, LiveExamples}
 
 -- the process after the open
@@ -50,7 +50,7 @@ same-last : opened_otherwise.last_process ≡ opened.last_process
 unfolding machine_on_literals
 same-last = refl
 
-same-processes : SameButValues (λ number. AgreeOnLive (by_test is_live_at)) opened.processes opened_otherwise.processes
+same-processes : SameExceptValues (λ number. AgreeOnLive (by_test is_live_at)) opened.processes opened_otherwise.processes
 unfolding machine_on_literals
 same-processes = both_live 1 opener other_registers other_bytes [] [] agree none
 

@@ -1,4 +1,4 @@
--- States that are the same but for registers and buffers, and operations on both.
+-- States that are the same except for registers and buffers, and operations on both.
 use Rattle.std.proofs.Common.{◌≡◌, ◌≢◌, ℕ, ℤ, true, false, if◌then◌else◌, cond, Bool, List, ◌∷◌, ◌++◌, map, not, Option, None, Some, refl, ap, sym, subst, ◌∙◌}
 use Rattle.std.specs.Cmp.{unsigned_ties}
 use Rattle.std.specs.FinMap.Entries.{find, put, is_sorted, below_all}
@@ -7,10 +7,10 @@ use Rattle.std.proofs.lemmas.Bool.{and_parts, eqb-true}
 use Rattle.pv_model.specs.Machine.{update_live, update, Bytes, adopt, is_unclaimed, adopter, end_process, among, used_files, held_by_process, collect, present, keep, OpenFile, Process, ProcessRecord, live, ended_record, State, live_process, process_at, with_process}
 use Rattle.pv_laws_trees.specs.Preserved.{preserved}
 use Rattle.pv_laws_states.proofs.ValidEnds.{adopted, sorted-mapped, sorted-filtered, map-adopt}
-use Rattle.pv_laws_states.proofs.Members.{all_of}
+use Rattle.pv_laws_states.proofs.ReferenceMembers.{all_of}
 use Rattle.pv_laws_states.proofs.Processes.{number-itself}
 use Rattle.pv_laws_states.proofs.ValidStates.{sorted-put_number}
-use Rattle.pv_laws_classes.specs.Liveness.{with_values, SameButValues, none, both_live, both_ended}
+use Rattle.pv_laws_classes.specs.Liveness.{with_values, SameExceptValues, none, both_live, both_ended}
 use Rattle.pv_laws_classes.proofs.LiveLists.{AreLive, claimed, used-same, held-same, live-same, lives-same, adopted-same, turned, not-after, put-live, put-ended}
 
 -- y is x with other registers and buffers, related by R
@@ -18,7 +18,7 @@ pub record Related (R : ℕ → Process → List ℤ → Bytes → Type 0) (x y 
   pub processes : List (ℕ × ProcessRecord)
   pub same : y ≡ record x { processes = processes }
   pub sorted : is_sorted nat_cmp x.processes ≡ true
-  pub each : SameButValues R x.processes processes
+  pub each : SameExceptValues R x.processes processes
 
 module _ (R : ℕ → Process → List ℤ → Bytes → Type 0) where
   pub tree-related : (x y : State) → Related R x y → y.tree ≡ x.tree
@@ -43,7 +43,7 @@ module _ (R : ℕ → Process → List ℤ → Bytes → Type 0) where
     processes = is.processes;
     same = ap collect is.same ∙ collect-with x is.processes (used-same R x.processes is.processes is.each) (held-same R x.processes is.processes is.each);
     sorted = ap (is_sorted nat_cmp) (collect-processes x) ∙ is.sorted;
-    each = subst (λ es. SameButValues R es is.processes) (sym (collect-processes x)) is.each;
+    each = subst (λ es. SameExceptValues R es is.processes) (sym (collect-processes x)) is.each;
   }
 
   -- the process with a number, in both
@@ -61,13 +61,13 @@ module _ (R S : ℕ → Process → List ℤ → Bytes → Type 0) (j : ℕ) (ot
   }
 
   -- no process has this number
-  absent : (es ps : List (ℕ × ProcessRecord)) → is_sorted nat_cmp es ≡ true → live_process (find nat_cmp j es) ≡ None → SameButValues R es ps → SameButValues S es ps
+  absent : (es ps : List (ℕ × ProcessRecord)) → is_sorted nat_cmp es ≡ true → live_process (find nat_cmp j es) ≡ None → SameExceptValues R es ps → SameExceptValues S es ps
   absent es ps sorted gone none = none
   absent es ps sorted gone (both_live n p rs bs fs qs is rest) =
       let parts = and_parts (below_all nat_cmp n fs) (is_sorted nat_cmp fs) sorted in by (eq_by_cmp nat_cmp j n) refl gone (λ gone. absent fs qs parts.1 gone rest)
     where
-      by : (b : Bool) → eq_by_cmp nat_cmp j n ≡ b → live_process (cond b (Some (live p)) (find nat_cmp j fs)) ≡ None → (live_process (find nat_cmp j fs) ≡ None → SameButValues S fs qs)
-          → SameButValues S ((n, live p) ∷ fs) ((n, live (with_values rs bs p)) ∷ qs)
+      by : (b : Bool) → eq_by_cmp nat_cmp j n ≡ b → live_process (cond b (Some (live p)) (find nat_cmp j fs)) ≡ None → (live_process (find nat_cmp j fs) ≡ None → SameExceptValues S fs qs)
+          → SameExceptValues S ((n, live p) ∷ fs) ((n, live (with_values rs bs p)) ∷ qs)
       by true tied gone more = cc gone
       by false apart gone more =
           let other : n ≢ j = λ same. let no : true ≡ false = sym (ap (λ m. eq_by_cmp nat_cmp j m) same ∙ ap is_eq (number-itself j)) ∙ apart in cc no in
@@ -76,7 +76,7 @@ module _ (R S : ℕ → Process → List ℤ → Bytes → Type 0) (j : ℕ) (ot
       let parts = and_parts (below_all nat_cmp n fs) (is_sorted nat_cmp fs) sorted in both_ended n parent status fs qs (by (eq_by_cmp nat_cmp j n) refl parts.0 gone (λ gone. absent fs qs parts.1 gone rest))
     where
       by : (b : Bool) → eq_by_cmp nat_cmp j n ≡ b → below_all nat_cmp n fs ≡ true → live_process (cond b (Some (ended_record parent status)) (find nat_cmp j fs)) ≡ None
-          → (live_process (find nat_cmp j fs) ≡ None → SameButValues S fs qs) → SameButValues S fs qs
+          → (live_process (find nat_cmp j fs) ≡ None → SameExceptValues S fs qs) → SameExceptValues S fs qs
       by true tied below gone more =
           let same : j ≡ n = eqb-true j n (unsigned_ties j n ∙ tied) in turned R S j others n (λ m later here. not-after n m later (here ∙ same)) fs qs below rest
       by false apart below gone more = more gone
@@ -122,5 +122,5 @@ module _ (R S : ℕ → Process → List ℤ → Bytes → Type 0) (j : ℕ) (ot
       heir : ℕ
       heir = adopter (record x { processes = gone })
 
-      both : SameButValues S gone gone'
+      both : SameExceptValues S gone gone'
       both = put-ended R S j others me.parent status x.processes is.processes is.sorted is.each

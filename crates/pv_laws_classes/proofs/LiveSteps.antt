@@ -1,4 +1,4 @@
--- Steps and runs from two states that are equal but for dead variables.
+-- Steps and runs from two states that are equal up to dead variables.
 use Rattle.std.proofs.Common.{◌≡◌, ◌≢◌, ℕ, ℤ, Bool, true, false, if◌then◌else◌, List, [], ◌∷◌, ◌++◌, Option, None, Some, refl, ap₂, sym, subst, ◌∙◌}
 use Rattle.pv_model.specs.declared.call.Call.{Call}
 use Rattle.pv_model.specs.declared.call.Call.TheVariants as TheCall
@@ -11,13 +11,13 @@ use Rattle.pv_model.specs.Machine.{answer, answer_of, answer_where, answer_by_at
 use Rattle.pv_model.specs.Answer.{answer_without_promise}
 use Rattle.pv_model.specs.Calls.Processes.{exit_status}
 use Rattle.pv_laws_states.specs.States.{IsValid}
-use Rattle.pv_laws_classes.specs.Liveness.{Live, IsClosedTest, IsRead, here, later, by_test, with_values, AgreeOnLive, AlikeButDead, ReadIsClosed, ClosedTestsAcceptRead, StepsIgnoreDead, RunsIgnoreDead, UnreadVariablesAlterNothing, RejectedVariablesAlterNothing}
+use Rattle.pv_laws_classes.specs.Liveness.{Live, IsClosedTest, IsRead, here, later, by_test, with_values, AgreeOnLive, EqualUpToDead, ReadIsClosed, ClosedTestsAcceptRead, StepsIgnoreDead, RunsIgnoreDead, UnreadVariablesAreDead, RejectedVariablesAreDead}
 use Rattle.pv_laws_classes.proofs.LiveAnswers.{Agree, agree-parent, AreAnswered, attempt-both}
 use Rattle.pv_laws_states.proofs.RelatedAttempts.{AreBoth, both-refused}
 use Rattle.pv_laws_classes.proofs.LiveCalls.{Awaits, awaits-all, WritesAlike, calls-both}
 use Rattle.pv_laws_classes.proofs.LiveCounts.{write-count, TakesAlike, lines-alike}
 use Rattle.pv_laws_classes.proofs.LiveLists.{AreLive}
-use Rattle.pv_laws_classes.proofs.LiveNext.{IsReady, NextAgrees, next-agrees}
+use Rattle.pv_laws_classes.proofs.NextLiveSteps.{IsReady, NextAgrees, next-agrees}
 use Rattle.pv_laws_classes.proofs.LiveStates.{Related, collect-related, process-related, with-related, end-related}
 use Rattle.pv_laws_classes.proofs.LiveValues.{AwaitResult}
 
@@ -158,7 +158,7 @@ run-alike program_of is_live closed (pid ∷ pids) s t both =
 -- ---- the laws
 
 module _ (is_live : Live) (closed : IsClosedTest is_live) where
-  related-of : (s t : State) → IsValid s → AlikeButDead is_live s t → Related (Agree is_live) s t
+  related-of : (s t : State) → IsValid s → EqualUpToDead is_live s t → Related (Agree is_live) s t
   related-of s t whole is = record {
     processes = t.processes;
     same = λ i. record { tree = is.tree i; files = is.files i; processes = t.processes; last_process = is.last_process i };
@@ -166,8 +166,8 @@ module _ (is_live : Live) (closed : IsClosedTest is_live) where
     each = is.processes;
   }
 
-  alike-of : (s t : State) → Related (Agree is_live) s t → AlikeButDead is_live s t
-  alike-of s t is = subst (AlikeButDead is_live s) (sym is.same) (record { tree = refl; files = refl; last_process = refl; processes = is.each })
+  alike-of : (s t : State) → Related (Agree is_live) s t → EqualUpToDead is_live s t
+  alike-of s t is = subst (EqualUpToDead is_live s) (sym is.same) (record { tree = refl; files = refl; last_process = refl; processes = is.each })
 
   pub steps-ignore-dead : StepsIgnoreDead is_live
   steps-ignore-dead program_of s t pid whole is =
@@ -186,8 +186,8 @@ pub closed-accepts : ClosedTestsAcceptRead
 closed-accepts test closed program n w (here line i v at is) = closed.of_line program line i v at is
 closed-accepts test closed program n w (later line next i v at may stays is) = closed.of_next program line next i v at may stays (closed-accepts test closed program next v is)
 
-pub unread-alter-nothing : UnreadVariablesAlterNothing
+pub unread-alter-nothing : UnreadVariablesAreDead
 unread-alter-nothing = (steps-ignore-dead IsRead read-is-closed, runs-ignore-dead IsRead read-is-closed)
 
-pub rejected-alter-nothing : RejectedVariablesAlterNothing
+pub rejected-alter-nothing : RejectedVariablesAreDead
 rejected-alter-nothing test closed = (steps-ignore-dead (by_test test) closed, runs-ignore-dead (by_test test) closed)

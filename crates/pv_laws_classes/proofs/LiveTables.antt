@@ -113,7 +113,7 @@ module _ (program : Program) (v : Variable) where
   next-at xs line (j ∷ rest) zero i is = let same : j ≡ i = cc is in ap (is_needed program v xs line) same ∙ ap (λ n. is_needed program v xs n i) (omega arith)
   next-at xs line (j ∷ rest) (suc k) i is = next-at xs (suc line) rest k i is ∙ ap (λ n. is_needed program v xs n i) (omega arith)
 
-  -- what a line needs is live there
+  -- the variables that a line needs are live there
   needs : (line : ℕ) (i : Instruction) → slice_get program (line - 1) ≡ Some i → is_needed program v table line i ≡ true → has_line table line ≡ true
   needs zero i is need = refl
   needs (suc k) i is need =

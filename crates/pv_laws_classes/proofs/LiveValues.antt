@@ -63,7 +63,7 @@ pub record Agrees (except : Variable → Bool) (is_live : Live) (program : Progr
   pub buffer_length : length bs ≡ length buffer
   pub values : (v : Variable) → is_live program line v → except v ≡ false → value_in rs bs v ≡ value_in registers buffer v
 
--- they agree, but for the registers where a call returns its result
+-- they agree, except for the registers where a call returns its result
 abbrev pub AwaitResult : Live → Process → List ℤ → Bytes → Type 0
 AwaitResult is_live p rs bs = Agrees is_result is_live p.program p.line p.registers p.buffer rs bs
 

@@ -1,21 +1,21 @@
--- Classes of states that are equal but for the numbers of open files and for dead variables.
+-- Classes of states that are equal up to the numbers of open files and for dead variables.
 use Rattle.std.proofs.Common.{◌≡◌, ℕ, suc, ℤ, pos, Bool, true, false, if◌then◌else◌, ◌&&◌, List, [], ◌∷◌, map, Option, Some, is_some, refl, ap, sym, subst, ◌∙◌, arith}
 use Rattle.std.specs.List.{list_all}
 use Rattle.std.proofs.lemmas.Bool.{and_parts, and_from}
 use Rattle.pv_model.specs.Machine.{Bytes, is_empty, parent_of, live_processes, Program, Process, ProcessRecord, live, ended_record, State, process_at, step}
 use Rattle.pv_laws_states.specs.States.{is_word, is_byte, EncodesPrograms, IsRunning, IsPlaced, is_process_number, AreProcesses, IsValid}
 use Rattle.pv_laws_states.specs.ExampleStates.{no_programs}
-use Rattle.pv_laws_states.proofs.BySteps.{step-keeps_whole}
+use Rattle.pv_laws_states.proofs.ValidBySteps.{step-keeps_valid}
 use Rattle.pv_laws_states.proofs.ValidEnds.{sorted-mapped, found-mapped}
-use Rattle.pv_laws_states.proofs.Members.{live-found, found-live}
+use Rattle.pv_laws_states.proofs.ReferenceMembers.{live-found, found-live}
 use Rattle.pv_laws_classes.specs.Canonical.{canonical}
-use Rattle.pv_laws_classes.specs.Liveness.{Variable, register_variable, byte_variable, is_live_below, by_test, with_values, AgreeOnLive, AlikeButDead, cleared_from, cleared_registers, cleared_buffer, cleared_record, cleared, StepsAreAlike}
+use Rattle.pv_laws_classes.specs.Liveness.{Variable, register_variable, byte_variable, is_live_below, by_test, with_values, AgreeOnLive, EqualUpToDead, cleared_from, cleared_registers, cleared_buffer, cleared_record, cleared, StepsAreEqualUpToDead}
 use Rattle.pv_laws_classes.specs.Reduced.{representative}
 use Rattle.pv_laws_classes.specs.Renumbering.{renumbered_process, renumbered_processes, Renumbered}
 use Rattle.pv_laws_classes.specs.Together.{is_step_on_registers}
 use Rattle.pv_laws_classes.proofs.ClassFunctions.{AreStepsAlike, AreClasses, canonical-states}
 use Rattle.pv_laws_classes.proofs.CanonicalForms.{unique}
-use Rattle.pv_laws_classes.proofs.LiveCleared.{cleared-length, cleared-represent}
+use Rattle.pv_laws_classes.proofs.ClearedVariables.{cleared-length, cleared-represent}
 use Rattle.pv_laws_classes.proofs.LiveLists.{length-same, used-same, held-same, lives-same}
 use Rattle.pv_laws_classes.proofs.LiveStates.{collect-with}
 use Rattle.pv_laws_classes.proofs.LiveSteps.{steps-ignore-dead}
@@ -47,7 +47,7 @@ module _ (test : Program → ℕ → Variable → Bool) where
   abbrev cleared_all : List (ℕ × ProcessRecord) → List (ℕ × ProcessRecord)
   cleared_all es = map (λ r. (r.0, cleared_record test r.1)) es
 
-  alike : (s : State) → AlikeButDead (by_test test) s (cleared test s)
+  alike : (s : State) → EqualUpToDead (by_test test) s (cleared test s)
   alike s = (cleared-represent test).alike s
 
   running-cleared : (p : Process) → IsRunning p → IsRunning (cleared_process p)
@@ -110,8 +110,8 @@ module _ (test : Program → ℕ → Variable → Bool) where
         is.ended k parent status (was.1 ∙ ap Some (was-ended was.0 parent status was.2));
   }
 
-  pub cleared-whole : (s : State) → IsValid s → IsValid (cleared test s)
-  cleared-whole s whole = record {
+  pub cleared-valid : (s : State) → IsValid s → IsValid (cleared test s)
+  cleared-valid s whole = record {
     tree = whole.tree;
     files = whole.files;
     processes = processes-cleared s whole.processes;
@@ -130,7 +130,7 @@ module _ (test : Program → ℕ → Variable → Bool) where
   all-renumbered f ((k, live p) ∷ es) = ap (λ (rs : List (ℕ × ProcessRecord)). (k, live (renumbered_process f (cleared_process p))) ∷ rs) (all-renumbered f es)
   all-renumbered f ((k, ended_record parent status) ∷ es) = ap (λ (rs : List (ℕ × ProcessRecord)). (k, ended_record parent status) ∷ rs) (all-renumbered f es)
 
-  -- they are so after clearing, under the same numbering
+  -- they are equal after clearing, under the same numbering
   pub cleared-renumbered : (f : ℕ → ℕ) (s t : State) → Renumbered f s t → Renumbered f (cleared test s) (cleared test t)
   cleared-renumbered f s t is = record {
     tree = is.tree;
@@ -142,7 +142,7 @@ module _ (test : Program → ℕ → Variable → Bool) where
   }
 
   forms-same : (f : ℕ → ℕ) (s t : State) → IsValid s → IsValid t → Renumbered f s t → canonical (cleared test s) ≡ canonical (cleared test t)
-  forms-same f s t whole_s whole_t is = (unique (cleared test s) (cleared test t) (cleared-whole s whole_s) (cleared-whole t whole_t)).1 (f, cleared-renumbered f s t is)
+  forms-same f s t whole_s whole_t is = (unique (cleared test s) (cleared test t) (cleared-valid s whole_s) (cleared-valid t whole_t)).1 (f, cleared-renumbered f s t is)
 
   -- ---- endings
 
@@ -158,19 +158,19 @@ zeroed s = cleared is_live_below s
 
 module _ (program_of : Bytes → Option Program) (encodes : EncodesPrograms program_of) where
   -- the steps from a state, and from the state with zero in dead variables
-  zeroed-steps : (s : State) (pid : ℕ) → IsValid s → StepsAreAlike (by_test is_live_below) (step program_of s pid) (step program_of (zeroed s) pid)
+  zeroed-steps : (s : State) (pid : ℕ) → IsValid s → StepsAreEqualUpToDead (by_test is_live_below) (step program_of s pid) (step program_of (zeroed s) pid)
   zeroed-steps s pid whole = steps-ignore-dead (by_test is_live_below) computed-is-closed.1 program_of s (zeroed s) pid whole (alike is_live_below s)
 
   zeroed-after : (s : State) (pid : ℕ) → IsValid s → zeroed (step program_of (zeroed s) pid).after ≡ zeroed (step program_of s pid).after
   zeroed-after s pid whole = (cleared-represent is_live_below).same (step program_of s pid).after (step program_of (zeroed s) pid).after (zeroed-steps s pid whole).after
 
-  whole-after : (s : State) (pid : ℕ) → IsValid s → IsValid (step program_of (zeroed s) pid).after
-  whole-after s pid whole = step-keeps_whole program_of encodes (zeroed s) pid (cleared-whole is_live_below s whole)
+  valid-after : (s : State) (pid : ℕ) → IsValid s → IsValid (step program_of (zeroed s) pid).after
+  valid-after s pid whole = step-keeps_valid program_of encodes (zeroed s) pid (cleared-valid is_live_below s whole)
 
   steps-alike : (s t : State) (pid : ℕ) → IsValid s → IsValid t → canonical (zeroed s) ≡ canonical (zeroed t) → AreStepsAlike (λ u. canonical (zeroed u)) program_of s t pid
   steps-alike s t pid whole_s whole_t same =
-      let zeroed_s = cleared-whole is_live_below s whole_s in
-      let zeroed_t = cleared-whole is_live_below t whole_t in
+      let zeroed_s = cleared-valid is_live_below s whole_s in
+      let zeroed_t = cleared-valid is_live_below t whole_t in
       let between = (canonical-states program_of encodes).steps (zeroed s) (zeroed t) pid zeroed_s zeroed_t same in
       let numbering = (unique (zeroed s) (zeroed t) zeroed_s zeroed_t).0 same in
       let both = renumbered-steps program_of numbering.0 (zeroed s) (zeroed t) pid zeroed_s zeroed_t numbering.1 in
@@ -179,7 +179,7 @@ module _ (program_of : Bytes → Option Program) (encodes : EncodesPrograms prog
         lines = sym (zeroed-steps t pid whole_t).lines ∙ between.lines ∙ (zeroed-steps s pid whole_s).lines;
         after =
             ap canonical (sym (zeroed-after s pid whole_s))
-            ∙ forms-same is_live_below both.renumbering (step program_of (zeroed s) pid).after (step program_of (zeroed t) pid).after (whole-after s pid whole_s) (whole-after t pid whole_t) both.after
+            ∙ forms-same is_live_below both.renumbering (step program_of (zeroed s) pid).after (step program_of (zeroed t) pid).after (valid-after s pid whole_s) (valid-after t pid whole_t) both.after
             ∙ ap canonical (zeroed-after t pid whole_t);
       }
 

@@ -3,7 +3,7 @@ use Rattle.std.proofs.Common.{◌≡◌, ap₂, Bool, true, false, ◌&&◌, byt
 use Rattle.std.proofs.lemmas.Bool.{and_parts}
 use Rattle.pv_model.specs.Machine.{states_found, is_complete, move_text, Bytes}
 use Rattle.pv_model.specs.Answers.OnLiterals.{answers_on_literals}
-use Rattle.pv_laws_trees.proofs.Entries.{bytes_eq-same}
+use Rattle.pv_laws_trees.proofs.DirectoryEntries.{bytes_eq-same}
 use Rattle.pv_laws_states.specs.ExampleStates.{no_programs}
 use Rattle.pv_laws_answers.specs.Search.{reported}
 use Rattle.pv_laws_classes.specs.Canonical.{canonical}

@@ -1,15 +1,15 @@
 -- Steps on registers, and steps of another process that they pass.
 use Rattle.std.proofs.Common.{◌≡◌, ◌≢◌, ◌↔◌, ℕ, zero, suc, true, List, [], ◌∷◌, ◌++◌, replicate, Option, None, Some, is_some, refl, ap, sym, subst, ◌∙◌}
 use Rattle.pv_model.specs.Machine.{has_ended, Bytes, is_empty, live_processes, Next, inside, calls_for, next, Program, Process, State, process_at, with_process, Stepped, Run, step, step_of, step_by, run, Line, call_lines}
-use Rattle.pv_model.proofs.Runs.{run-append}
+use Rattle.pv_model.proofs.RunComposition.{run-append}
 use Rattle.pv_laws_states.specs.States.{EncodesPrograms, IsValid}
-use Rattle.pv_laws_states.proofs.BySteps.{step-keeps_whole}
+use Rattle.pv_laws_states.proofs.ValidBySteps.{step-keeps_valid}
 use Rattle.pv_laws_states.proofs.Processes.{process_at-same, process_at-other}
-use Rattle.pv_laws_answers.proofs.OfLawsAccess.Ends.{step-is}
+use Rattle.pv_laws_answers.proofs.OfLawsAccess.ProcessesAfterEnds.{step-is}
 use Rattle.pv_laws_answers.proofs.Lists.{Among}
 use Rattle.pv_laws_answers.proofs.LiveProcesses.{live-listed}
-use Rattle.pv_laws_steps.specs.Commuting.{Commute, IsAlone}
-use Rattle.pv_laws_steps.proofs.LoneSteps.{lone-commute}
+use Rattle.pv_laws_steps.specs.Commuting.{Commute, IsOwnStepAlone}
+use Rattle.pv_laws_steps.proofs.IndependentSteps.{lone-commute}
 use Rattle.pv_laws_classes.specs.Together.{is_next_inside, is_inside_next, is_step_on_registers, step_result, AreOnRegisters, IsTurn}
 
 -- ---- steps on registers
@@ -104,7 +104,7 @@ module _ (program_of : Bytes → Option Program) where
     pub passes : (s : State) → IsValid s → is_step_on_registers s a ≡ true → Passes s
     passes s whole on =
         let is = on-is s a on in
-        let commute : Commute program_of s k a = lone-commute program_of encodes s k a is.before whole apart is.at (subst (IsAlone is.before) (sym is.goes) tt) in
+        let commute : Commute program_of s k a = lone-commute program_of encodes s k a is.before whole apart is.at (subst (IsOwnStepAlone is.before) (sym is.goes) tt) in
         record {
           on = silent (step program_of s k).after a ∙ ap is_empty commute.second.lines ∙ sym (silent s a) ∙ on;
           after = sym commute.after;
@@ -126,7 +126,7 @@ module _ (program_of : Bytes → Option Program) where
         record { turn = (sym one.lives ∙ turn.0, sym one.same ∙ turn.1); on = one.on; after = one.after; reply = one.reply }
     passes-turn (suc count) s whole on turn =
         let one = passes s whole on in
-        let rest = passes-turn count (step program_of s k).after (step-keeps_whole program_of encodes s k whole) one.on (subst (IsTurn program_of k count) (sym one.after) turn.1) in
+        let rest = passes-turn count (step program_of s k).after (step-keeps_valid program_of encodes s k whole) one.on (subst (IsTurn program_of k count) (sym one.after) turn.1) in
         record {
           turn = (sym one.same ∙ turn.0, rest.turn);
           on = rest.on;

@@ -1,5 +1,5 @@
 -- The accesses of a step do not depend on the numbers of open files.
-use Rattle.std.proofs.Common.{◌≡◌, ◌∙◌, ap, ap₂, ℕ, ℤ, pos, if◌then◌else◌, ◌==◌, List, [], ◌∷◌, ◌++◌, map, filter, filter_map, codes, Option, None, Some, is_none, option_map, option_and_then, option_to_list, refl}
+use Rattle.std.proofs.Common.{◌≡◌, ◌∙◌, ap, ap₂, ℕ, ℤ, pos, if◌then◌else◌, ◌==◌, List, [], ◌++◌, map, filter, filter_map, Option, None, Some, is_none, option_map, option_and_then, option_to_list, refl}
 use Rattle.pv_model.specs.declared.call.Call.{Call}
 use Rattle.pv_model.specs.declared.call.Call.TheVariants.{Execve, Read, Write, Ftruncate}
 use Rattle.pv_model.specs.declared.call.Start.{Start}
@@ -10,12 +10,13 @@ use Rattle.pv_model.specs.declared.outcome.Outcome.{Outcome}
 use Rattle.pv_model.specs.declared.outcome.Outcome.TheVariants.{Value, Text, Failed}
 use Rattle.pv_model.specs.declared.place.Place.{Place}
 use Rattle.pv_model.specs.Answers.Access
-use Rattle.pv_model.specs.Machine.{node_brief, AnswerLine, answer_line, of_next, of_process, of_calls, Bytes, node_of, name_of, open_file, start_directory, Numbered, Next, inside, calls_for, next, OpenFile, Program, Process, State, process_at, Stepped, step, descriptor_of, flags_of, place_found, places, has_succeeded, mode_text, is_absolute, resolve, Walk, walks_of}
+use Rattle.pv_model.specs.Machine.{of_next, of_process, of_calls, Bytes, node_of, name_of, open_file, start_directory, Numbered, Next, inside, calls_for, next, OpenFile, Program, Process, State, process_at, Stepped, step, descriptor_of, flags_of, place_found, places, has_succeeded, Tree, is_absolute, resolve, Walk, walks_of}
 use Rattle.pv_model.specs.Answers.Observed.{CallObserver}
 use Rattle.pv_model.specs.Touch.{reports_of_place, reports_of_descriptor}
+use Rattle.pv_model_questions.specs.Accesses.{lines_of_accesses, lines_of_kept}
 use Rattle.pv_laws_states.specs.States.{EncodesPrograms, IsValid}
-use Rattle.pv_laws_states.proofs.BySteps.{step-keeps_whole}
-use Rattle.pv_laws_classes.specs.Canonical.{AreAlike}
+use Rattle.pv_laws_states.proofs.ValidBySteps.{step-keeps_valid}
+use Rattle.pv_laws_classes.specs.Canonical.{AreEqualRenumbered}
 use Rattle.pv_laws_classes.specs.Renumbering.{renumbered_process}
 use Rattle.pv_laws_classes.proofs.RenumberedLists.{Uses}
 use Rattle.pv_laws_classes.proofs.RenumberedDescriptors.{opened-same, directory-file}
@@ -118,20 +119,9 @@ module _ (f : ℕ → ℕ) (gs : Numbered OpenFile) (s : State) (pid : ℕ) (p :
         ∙ ap₂ (λ ws xs. map Access.reads (Access.nodes_read s p call now.outcome) ++ map Access.executes (Access.nodes_executed s p call now.outcome) ++ map Access.writes ws ++ (if has_succeeded now.outcome then xs else []))
         (written-same f gs s pid p fits mine call now.outcome) success-same
 
-    line-same : (a : Access.Access) → Access.access_line (renumbered f gs s) pid (renumbered_process f p) call now' a ≡ Access.access_line s pid p call now a
-    line-same (Access.reads n) = refl
-    line-same (Access.executes n) = refl
-    line-same (Access.writes n) = refl
-    line-same (Access.changes_name d name) = refl
-    line-same (Access.reports n) = refl
-    line-same (Access.opens n mode) = ap (λ tree. answer_line pid (codes "OPEN") (mode_text mode ++ codes " " ++ node_brief tree n)) (tree-related now.after now'.after after)
-
-    lines-same : (xs : List Access.Access) → map (Access.access_line (renumbered f gs s) pid (renumbered_process f p) call now') xs ≡ map (Access.access_line s pid p call now) xs
-    lines-same [] = refl
-    lines-same (a ∷ xs) = ap₂ (λ l (ls : List AnswerLine). l ∷ ls) (line-same a) (lines-same xs)
-
-    pub access-lines-same : Access.lines_of_accesses (renumbered f gs s) pid (renumbered_process f p) call now' ≡ Access.lines_of_accesses s pid p call now
-    access-lines-same = ap (map (Access.access_line (renumbered f gs s) pid (renumbered_process f p) call now')) accesses-same ∙ lines-same (Access.accesses s pid p call now)
+    access-lines-same : (files : List Bytes) (first : Tree) → lines_of_accesses files first (renumbered f gs s) pid (renumbered_process f p) call now' ≡ lines_of_accesses files first s pid p call now
+    access-lines-same files first =
+        ap₂ (λ tree (xs : List Access.Access). lines_of_kept files first s.tree tree pid xs) (tree-related now.after now'.after after) accesses-same
 
 -- ---- observers of calls
 
@@ -158,11 +148,15 @@ module _ {X : Type 0} (observe : CallObserver X) where
       of : (f : ℕ → ℕ) (gs : Numbered OpenFile) → Fits f gs s → of_calls observe (renumbered f gs s) pid now' ≡ of_calls observe s pid now
       of f gs fits = ap (of_process observe (renumbered f gs s) pid now') (process-renumbered f gs s pid) ∙ by f gs fits (process_at s pid) refl
 
+-- the lines of accesses are such an observer
+pub lines-same : (files : List Bytes) (first : Tree) → IsSame (lines_of_accesses files first)
+lines-same files first f gs s pid p fits mine now now' outcome after call = access-lines-same f gs s pid p fits mine now now' outcome after call files first
+
 -- an observer of calls has the same items for the steps of a process from two states that are equal up to a renumbering
 pub of-classes : {X : Type 0} (observe : CallObserver X) → IsSame observe → (program_of : Bytes → Option Program) → EncodesPrograms program_of
-    → (s t : State) (pid : ℕ) → IsValid s → IsValid t → AreAlike s t → of_calls observe t pid (step program_of t pid) ≡ of_calls observe s pid (step program_of s pid)
+    → (s t : State) (pid : ℕ) → IsValid s → IsValid t → AreEqualRenumbered s t → of_calls observe t pid (step program_of t pid) ≡ of_calls observe s pid (step program_of s pid)
 of-classes observe same program_of encodes s t pid whole_s whole_t (f, is) =
     let both = renumbered-steps program_of f s t pid whole_s whole_t is in
     observed-same observe same pid (step program_of s pid) (step program_of t pid) both.outcome
-    (related-of both.renumbering (step program_of s pid).after (step program_of t pid).after (step-keeps_whole program_of encodes s pid whole_s) (step-keeps_whole program_of encodes t pid whole_t) both.after)
+    (related-of both.renumbering (step program_of s pid).after (step program_of t pid).after (step-keeps_valid program_of encodes s pid whole_s) (step-keeps_valid program_of encodes t pid whole_t) both.after)
     s t (related-of f s t whole_s whole_t is)

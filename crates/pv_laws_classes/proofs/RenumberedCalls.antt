@@ -6,9 +6,9 @@ use Rattle.std.specs.Ordering.{nat_cmp}
 use Rattle.pv_model.specs.declared.call.Call.{Call}
 use Rattle.pv_model.specs.declared.open_flags.OpenFlags.{OpenFlags}
 use Rattle.pv_model.specs.Machine.{effect, Attempt, Bytes, without_descriptor, after_write, list_name, new_open_file, with_open_file, child, with_program, Effect, returns, answers, with_room, descriptor_at, open_file, Numbered, at_number, with_number, least_free, OpenFile, Descriptor, Program, Process, ProcessRecord, live, State, with_process, Tree, walk, judge, end_of, judgement, answers_bytes, status, resolve, ◌>>=◌, ◌>>◌, Walk}
-use Rattle.pv_laws_trees.proofs.Numbered.{at_number-below, with_number-same, with_number-other, with_number-same_within, with_number-other_within, least_free-within, least_free-free}
-use Rattle.pv_laws_states.proofs.ByFile.{open_file-at}
-use Rattle.pv_laws_states.proofs.CallRests
+use Rattle.pv_laws_trees.proofs.NumberedMaps.{at_number-below, with_number-same, with_number-other, with_number-same_within, with_number-other_within, least_free-within, least_free-free}
+use Rattle.pv_laws_states.proofs.ValidByFile.{open_file-at}
+use Rattle.pv_laws_states.proofs.CallRemainders
 use Rattle.pv_laws_states.proofs.RelatedAttempts.{AreBoth, KeptByAll, kept-by-checks, all-then, all-bind, both-kept, both-done}
 use Rattle.pv_laws_states.proofs.RelatedCalls.{BothHave, AreOnSame, Opened, RespectsProcesses, RespectsOwn, RespectsFiles, RespectsTree, RespectsRoom, call-both}
 use Rattle.pv_laws_states.proofs.RespectedParts.{walked-alike, twice-alike, pledge-both, unveil-both, execve-both, starts-alike}
@@ -248,17 +248,17 @@ module _ (f : ℕ → ℕ) (gs : Numbered OpenFile) (s : State) (pid : ℕ) (me 
     files = record {
       opened = opens;
       full = full-matches f s.files gs fits.matches;
-      reads = λ d n is v w opened may count. moved (λ v w. B (CallRests.read_2 s pid me v.0 v.1 count) (CallRests.read_2 u pid you w.0 w.1 count)) d v w opened (λ k x at.
-          all-then B all _ _ refl (CallRests.read_3 s pid me k x count) (CallRests.read_3 u pid you (f k) x count) (both-done AreRelated 0 _ _ _ (put-both k x at s.tree _)));
-      writes = λ d n is v w opened may count few. moved (λ v w. B (CallRests.write_2 s pid me v.0 v.1 count) (CallRests.write_2 u pid you w.0 w.1 count)) d v w opened (λ k x at.
-          all-then B all _ _ refl (CallRests.write_3 s pid me k x count) (CallRests.write_3 u pid you (f k) x count) (both-room _ _ count (written k x at count)));
-      seeks = λ d by whence is v w opened. moved (λ v w. B (CallRests.lseek_2 s pid me by whence v.0 v.1) (CallRests.lseek_2 u pid you by whence w.0 w.1)) d v w opened (λ k x at.
-          all-bind B all _ _ refl (CallRests.lseek_3 s pid me k x) (CallRests.lseek_3 u pid you (f k) x) (λ offset. both-done AreRelated 0 _ _ _ (put-both k x at s.tree _)));
+      reads = λ d n is v w opened may count. moved (λ v w. B (CallRemainders.read_2 s pid me v.0 v.1 count) (CallRemainders.read_2 u pid you w.0 w.1 count)) d v w opened (λ k x at.
+          all-then B all _ _ refl (CallRemainders.read_3 s pid me k x count) (CallRemainders.read_3 u pid you (f k) x count) (both-done AreRelated 0 _ _ _ (put-both k x at s.tree _)));
+      writes = λ d n is v w opened may count few. moved (λ v w. B (CallRemainders.write_2 s pid me v.0 v.1 count) (CallRemainders.write_2 u pid you w.0 w.1 count)) d v w opened (λ k x at.
+          all-then B all _ _ refl (CallRemainders.write_3 s pid me k x count) (CallRemainders.write_3 u pid you (f k) x count) (both-room _ _ count (written k x at count)));
+      seeks = λ d by whence is v w opened. moved (λ v w. B (CallRemainders.lseek_2 s pid me by whence v.0 v.1) (CallRemainders.lseek_2 u pid you by whence w.0 w.1)) d v w opened (λ k x at.
+          all-bind B all _ _ refl (CallRemainders.lseek_3 s pid me k x) (CallRemainders.lseek_3 u pid you (f k) x) (λ offset. both-done AreRelated 0 _ _ _ (put-both k x at s.tree _)));
       reports = λ d is v w opened. moved (λ v w. B (answers_bytes s 0 (status s.tree v.1.node)) (answers_bytes u 0 (status u.tree w.1.node))) d v w opened
           (λ k x at. both-done AreRelated 0 _ s u (related f gs s fits));
-      cuts = λ d n is v w opened size. moved (λ v w. B (CallRests.ftruncate_3 s pid me v.1 size) (CallRests.ftruncate_3 u pid you w.1 size)) d v w opened (λ k x at.
-          all-then B all _ _ refl (CallRests.ftruncate_4 s pid me x size) (CallRests.ftruncate_4 u pid you x size) (both-room _ _ 0 (tree-both _)));
-      lists = λ d is v w opened. moved (λ v w. B (CallRests.getdents_2 s pid me v.0 v.1) (CallRests.getdents_2 u pid you w.0 w.1)) d v w opened (λ k x at. listed k x at _);
+      cuts = λ d n is v w opened size. moved (λ v w. B (CallRemainders.ftruncate_3 s pid me v.1 size) (CallRemainders.ftruncate_3 u pid you w.1 size)) d v w opened (λ k x at.
+          all-then B all _ _ refl (CallRemainders.ftruncate_4 s pid me x size) (CallRemainders.ftruncate_4 u pid you x size) (both-room _ _ 0 (tree-both _)));
+      lists = λ d is v w opened. moved (λ v w. B (CallRemainders.getdents_2 s pid me v.0 v.1) (CallRemainders.getdents_2 u pid you w.0 w.1)) d v w opened (λ k x at. listed k x at _);
     }
 
     tree : RespectsTree ws_B program_of s u pid me you call
@@ -273,8 +273,8 @@ module _ (f : ℕ → ℕ) (gs : Numbered OpenFile) (s : State) (pid : ℕ) (me 
     }
 
     -- the number of the new descriptor is the same
-    made : (x y : State) → AreRelated x y → B (CallRests.open_7 s pid me x) (CallRests.open_7 u pid you y)
-    made x y is = subst (λ m. B (CallRests.open_7 s pid me x) (with_room y >>= (λ z. answers z m))) (sym (descriptor-free f me.descriptors)) (both-room x y (least_free me.descriptors) is)
+    made : (x y : State) → AreRelated x y → B (CallRemainders.open_7 s pid me x) (CallRemainders.open_7 u pid you y)
+    made x y is = subst (λ m. B (CallRemainders.open_7 s pid me x) (with_room y >>= (λ z. answers z m))) (sym (descriptor-free f me.descriptors)) (both-room x y (least_free me.descriptors) is)
 
     room : RespectsRoom ws_B program_of s u pid me you call
     room = record {

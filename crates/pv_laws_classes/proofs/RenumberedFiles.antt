@@ -3,8 +3,8 @@ use Rattle.std.proofs.Common.{◌≡◌, ◌≢◌, ℕ, zero, suc, ◌<◌, ◌
 use Rattle.std.proofs.lemmas.Bool.{leb-false, cases_eq, eq-eqb, ne_eqb, le-leb, leb-true}
 use Rattle.std.specs.Cmp.{both_ways}
 use Rattle.pv_model.specs.Machine.{among, Numbered, at_number, with_number, without_number, least_free, present, keep, OpenFile}
-use Rattle.pv_laws_trees.proofs.Numbered.{at_number-below, length-with_number, with_number-same, with_number-other, with_number-same_within, with_number-other_within, without_number-other, least_free-free, least_free-within, least_free-below, present-all, keep-some, keep-passes, length-keep}
-use Rattle.pv_laws_states.proofs.Members.{among-present, present-at}
+use Rattle.pv_laws_trees.proofs.NumberedMaps.{at_number-below, length-with_number, with_number-same, with_number-other, with_number-same_within, with_number-other_within, without_number-other, least_free-free, least_free-within, least_free-below, present-all, keep-some, keep-passes, length-keep}
+use Rattle.pv_laws_states.proofs.ReferenceMembers.{among-present, present-at}
 use Rattle.pv_laws_classes.proofs.RenumberedLists.{among-map, map-among}
 
 -- ---- the number of values

@@ -9,7 +9,7 @@ use Rattle.std.proofs.lemmas.List.{map-append}
 use Rattle.std.proofs.lemmas.List.Folds.{list_any-append}
 use Rattle.pv_model.specs.Machine.{is_empty, parent_of, adopt, is_unclaimed, statuses, among, used_files, held_by_process, Numbered, at_number, with_number, without_number, least_free, present, Descriptor, ProcessRecord, live, ended_record, live_process}
 use Rattle.pv_model.specs.Calls.Processes.{descriptor_after_exec}
-use Rattle.pv_laws_states.proofs.Members.{all_of}
+use Rattle.pv_laws_states.proofs.ReferenceMembers.{all_of}
 use Rattle.pv_laws_classes.specs.Renumbering.{renumbered_descriptor, renumbered_descriptors, renumbered_process, renumbered_record, renumbered_processes}
 
 -- ---- lists of numbers

@@ -1,28 +1,29 @@
--- What `access`, `policy` and `exposure` show of a process does not depend on the numbers of open files.
+-- The data of a process that `access`, `policy` and `exposure` show do not depend on the numbers of open files.
 use Rattle.std.proofs.Common.{◌≡◌, ◌∙◌, sym, ap, ap₂, subst, ℕ, suc, Bool, true, false, cond, if◌then◌else◌, List, [], ◌∷◌, ◌++◌, map, filter, filter_map, take, Option, None, Some, option_map, refl}
 use Rattle.pv_model.specs.declared.call.Call.{Call}
 use Rattle.pv_model.specs.declared.call.Call.TheVariants.{Unveil}
 use Rattle.pv_model.specs.declared.promise.Promise.TheVariants.{Rpath, Cpath, Exec}
 use Rattle.pv_model.specs.declared.verdict.Why.{Why}
 use Rattle.pv_model.specs.declared.verdict.Why.TheVariants.{Reads}
-use Rattle.pv_model.specs.Machine.{Answered, answer, answer_of, accesses, lines_of_accesses, judged_walks, promises_needed, asked_by, of_next, of_process, of_calls, Bytes, Numbered, at_number, numbered_from, Next, inside, calls_for, next, leaks, OpenFile, Descriptor, Program, Process, State, reads, process_at, Stepped, step, place_found, Table, resolve, Walk, walks_of}
+use Rattle.pv_model.specs.Machine.{Answered, answer, answer_of, accesses, judged_walks, promises_needed, asked_by, of_next, of_process, of_calls, Bytes, Numbered, at_number, numbered_from, Next, inside, calls_for, next, leaks, OpenFile, Descriptor, Program, Process, State, reads, process_at, Stepped, step, place_found, Table, resolve, Walk, walks_of}
 use Rattle.pv_model.specs.Answers.Needs.{judged_at, begins_program}
 use Rattle.pv_model.specs.Answers.Observed.{CallObserver}
 use Rattle.pv_model.specs.Answers.Policy.{request}
 use Rattle.pv_model.specs.Sealed
 use Rattle.pv_model.specs.Sealed.{is_pledged_without, least_first}
+use Rattle.pv_model_questions.specs.Accesses.{lines_of_accesses}
 use Rattle.pv_laws_states.specs.States.{EncodesPrograms, IsValid}
-use Rattle.pv_laws_classes.specs.Canonical.{AreAlike}
+use Rattle.pv_laws_classes.specs.Canonical.{AreEqualRenumbered}
 use Rattle.pv_laws_classes.specs.Liveness.{is_live_below, cleared}
 use Rattle.pv_laws_classes.specs.Reduced.{representative}
 use Rattle.pv_laws_classes.specs.Renumbering.{renumbered_descriptor, renumbered_descriptors, renumbered_process}
 use Rattle.pv_laws_classes.specs.Shown.{ShownCall, shown_call, shown_process, shown_in}
-use Rattle.pv_laws_classes.proofs.RenumberedAccesses.{start-same, accesses-same, access-lines-same, IsSame, of-classes}
+use Rattle.pv_laws_classes.proofs.RenumberedAccesses.{start-same, accesses-same, lines-same, IsSame, of-classes}
 use Rattle.pv_laws_classes.proofs.RenumberedAttempts.{AreAnswered}
 use Rattle.pv_laws_classes.proofs.RenumberedFiles.{some-value}
 use Rattle.pv_laws_classes.proofs.CanonicalForms.{unique}
 use Rattle.pv_laws_classes.proofs.RenumberedLists.{Uses}
-use Rattle.pv_laws_classes.proofs.ReducedClasses.{cleared-whole}
+use Rattle.pv_laws_classes.proofs.ReducedClasses.{cleared-valid}
 use Rattle.pv_laws_classes.proofs.RenumberedStates.{IsPresent, renumbered, Fits, AreRelated, related, by-related, process-renumbered, process-uses}
 use Rattle.pv_laws_classes.proofs.RenumberedSteps.{answer-both, related-of, renumbered-steps}
 
@@ -43,7 +44,7 @@ answers-related program_of f gs s pid fits call = by (process_at s pid) refl
     by (Some p) at = answer-both program_of f gs s pid fits p at call
 
 module _ (f : ℕ → ℕ) (gs : Numbered OpenFile) (s : State) (pid : ℕ) (p : Process) (fits : Fits f gs s) (mine : Uses (IsPresent s.files) p.descriptors) where
-  -- the walks that a table decides about, and what a call asked
+  -- the walks that a table decides about, and the demands of a call
   judged-same : (call : Call) (n : ℕ) → judged_walks (renumbered f gs s) (renumbered_process f p) call n ≡ judged_walks s p call n
   judged-same (Unveil path permissions) n = refl
   judged-same call n =
@@ -58,7 +59,7 @@ module _ (f : ℕ → ℕ) (gs : Numbered OpenFile) (s : State) (pid : ℕ) (p :
     ends_process_image = begins_program call (both.outcome i);
   }
 
--- the observer of what `policy` shows of a call
+-- the observer of the data of a call that `policy` shows
 module _ (program_of : Bytes → Option Program) where
   abbrev calls_shown : CallObserver ShownCall
   calls_shown s pid p call now = map shown_call (request program_of s pid p call now)
@@ -144,7 +145,7 @@ module _ (f : ℕ → ℕ) (gs : Numbered OpenFile) (s : State) (p : Process) (f
       ap₂ (λ (ns : List ℕ) (whys : List Why). least_first Reads ns ++ (if is_pledged_without (Rpath ∷ Exec ∷ Cpath ∷ []) p then [] else whys))
       (numbers-same 0 p.descriptors mine) (table-same p.table)
 
--- what `exposure` shows of a process
+-- the data of a process that `exposure` shows
 processes-shown : (s t : State) (pid : ℕ) → AreRelated s t → option_map (shown_process t) (process_at t pid) ≡ option_map (shown_process s) (process_at s pid)
 processes-shown s t pid is =
     by-related (λ s t. option_map (shown_process t) (process_at t pid) ≡ option_map (shown_process s) (process_at s pid)) s t is of
@@ -163,15 +164,15 @@ processes-shown s t pid is =
         → option_map (shown_process (renumbered f gs s)) (process_at (renumbered f gs s) pid) ≡ option_map (shown_process s) (process_at s pid)
     of f gs fits = ap (option_map (shown_process (renumbered f gs s))) (process-renumbered f gs s pid) ∙ by f gs fits (process_at s pid) refl
 
--- ---- what is shown
+-- ---- the shown data
 
 -- in two states that are equal up to a renumbering, the same is shown
 pub renumbered-shown : (program_of : Bytes → Option Program) → EncodesPrograms program_of
-    → (s t : State) (pid : ℕ) → IsValid s → IsValid t → AreAlike s t → shown_in program_of t pid ≡ shown_in program_of s pid
+    → (s t : State) (pid : ℕ) → IsValid s → IsValid t → AreEqualRenumbered s t → shown_in program_of t pid ≡ shown_in program_of s pid
 renumbered-shown program_of encodes s t pid whole_s whole_t alike = λ i. record {
   outcome = (renumbered-steps program_of alike.0 s t pid whole_s whole_t alike.1).outcome i;
   accesses = of-classes accesses accesses-same program_of encodes s t pid whole_s whole_t alike i;
-  access_lines = of-classes lines_of_accesses access-lines-same program_of encodes s t pid whole_s whole_t alike i;
+  access_lines = λ files first. of-classes (lines_of_accesses files first) (lines-same files first) program_of encodes s t pid whole_s whole_t alike i;
   calls = calls-are i;
   process = processes-shown s t pid (related-of alike.0 s t whole_s whole_t alike.1) i;
 }
@@ -182,14 +183,14 @@ renumbered-shown program_of encodes s t pid whole_s whole_t alike = λ i. record
         ∙ of-classes (calls_shown program_of) (calls-same program_of) program_of encodes s t pid whole_s whole_t alike
         ∙ sym (of-mapped shown_call (request program_of) s pid (step program_of s pid))
 
--- and in two states of one class, if zero in dead variables does not change what is shown
+-- and in two states of one class, if zero in dead variables does not change the shown data
 pub identified-shown : (program_of : Bytes → Option Program) → EncodesPrograms program_of
     → ((s : State) (pid : ℕ) → IsValid s → shown_in program_of (cleared is_live_below s) pid ≡ shown_in program_of s pid)
     → (s t : State) (pid : ℕ) → IsValid s → IsValid t → representative s ≡ representative t → shown_in program_of t pid ≡ shown_in program_of s pid
 unfolding representative
 identified-shown program_of encodes cleared-shown s t pid whole_s whole_t same =
-    let zeroed_s = cleared-whole is_live_below s whole_s in
-    let zeroed_t = cleared-whole is_live_below t whole_t in
+    let zeroed_s = cleared-valid is_live_below s whole_s in
+    let zeroed_t = cleared-valid is_live_below t whole_t in
     let alike = (unique (cleared is_live_below s) (cleared is_live_below t) zeroed_s zeroed_t).0 same in
     sym (cleared-shown t pid whole_t)
     ∙ renumbered-shown program_of encodes (cleared is_live_below s) (cleared is_live_below t) pid zeroed_s zeroed_t alike

@@ -7,10 +7,10 @@ use Rattle.pv_model.specs.Machine.{update_live, update, adopt, is_unclaimed, ado
 use Rattle.pv_model.specs.Calls.Processes.{adopt_orphans}
 use Rattle.pv_laws_trees.specs.Preserved.{preserved}
 use Rattle.pv_laws_trees.proofs.Collection.{preserved-agree}
-use Rattle.pv_laws_trees.proofs.Numbered.{keep-passes}
+use Rattle.pv_laws_trees.proofs.NumberedMaps.{keep-passes}
 use Rattle.pv_laws_states.specs.Held.{used}
-use Rattle.pv_laws_states.proofs.Collect.{held_after}
-use Rattle.pv_laws_states.proofs.Members.{all_of, present-at, among-used}
+use Rattle.pv_laws_states.proofs.CollectedStates.{held_after}
+use Rattle.pv_laws_states.proofs.ReferenceMembers.{all_of, present-at, among-used}
 use Rattle.pv_laws_classes.specs.Renumbering.{renumbered_process, renumbered_processes}
 use Rattle.pv_laws_classes.proofs.RenumberedFiles.{Matches, nodes-match, keep-matches}
 use Rattle.pv_laws_classes.proofs.RenumberedLists.{find-renumbered, put-renumbered, live-renumbered, adopted-renumbered, claimed, used-renumbered, held-renumbered, Uses, EachUses, among-uses, of-uses, uses-of, uses-put, uses-filter, uses-adopt}

@@ -11,10 +11,10 @@ use Rattle.pv_model.specs.Machine.{answer, answer_of, answer_where, answer_by_at
 use Rattle.pv_model.specs.Answer.{answer_without_promise}
 use Rattle.pv_model.specs.Program.{is_zero, is_negative, register}
 use Rattle.pv_laws_states.specs.States.{IsValid}
-use Rattle.pv_laws_states.proofs.Members.{used-among}
-use Rattle.pv_laws_states.proofs.Outcomes.{at_call}
+use Rattle.pv_laws_states.proofs.ReferenceMembers.{used-among}
+use Rattle.pv_laws_states.proofs.CallOutcomes.{at_call}
 use Rattle.pv_laws_steps.proofs.ReportedParts.{lines-reported}
-use Rattle.pv_laws_classes.specs.Renumbering.{renumbered_process, Renumbered, RenumberedStepsAnswerAlike, RenumberedRunsAnswerAlike}
+use Rattle.pv_laws_classes.specs.Renumbering.{renumbered_process, Renumbered, RenumberedStepsAreEqual, RenumberedRunsAreEqual}
 use Rattle.pv_laws_states.proofs.RelatedAttempts.{both-refused}
 use Rattle.pv_laws_classes.proofs.RenumberedAttempts.{AreAnswered, attempt-both}
 use Rattle.pv_laws_classes.proofs.RenumberedFiles.{some-value}
@@ -230,12 +230,12 @@ of-related s t is = record {
       (had.0, ap is_some had.1, had.2);
 }
 
-pub renumbered-steps : RenumberedStepsAnswerAlike
+pub renumbered-steps : RenumberedStepsAreEqual
 renumbered-steps program_of f s t pid whole whole_t is =
     let both = step-related program_of s t pid (related-of f s t whole whole_t is) in
     record { outcome = both.outcome; lines = both.lines; renumbering = both.after.f; after = of-related (step program_of s pid).after (step program_of t pid).after both.after }
 
-pub renumbered-runs : RenumberedRunsAnswerAlike
+pub renumbered-runs : RenumberedRunsAreEqual
 renumbered-runs program_of f s t pids whole whole_t is =
     let both = run-related program_of pids s t (related-of f s t whole whole_t is) in
     record { lines = both.lines; renumbering = both.final.f; final = of-related (run program_of pids s).final (run program_of pids t).final both.final }

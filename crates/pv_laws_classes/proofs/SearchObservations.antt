@@ -1,4 +1,4 @@
--- What is observed of the steps of a search, for any steps and any classes: each item that is observed of a step of a
+-- The observations of the steps of a search, for any steps and any classes: each item that is observed of a step of a
 -- schedule, with a shortest witness.
 use Rattle.std.proofs.Common.{◌≡◌, ◌∙◌, sym, ap, subst, ℕ, suc, ◌≤◌, Bool, true, List, [], ◌∷◌, ◌++◌, length, length-append, map, flat_map, Option, ◌⊎◌, inl, inr, refl, arith}
 use Rattle.std.specs.List.{list_all}

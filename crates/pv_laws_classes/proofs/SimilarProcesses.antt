@@ -1,5 +1,5 @@
--- A process that looks alike in two states: the accesses of its next step, and why it is not closed to a file.
-use Rattle.std.proofs.Common.{◌≡◌, ◌∙◌, sym, ap, ap₂, subst, ℕ, ℤ, pos, negsuc, Bool, if◌then◌else◌, ◌==◌, List, [], ◌∷◌, ◌++◌, map, filter, filter_map, take, codes, Option, None, Some, is_none, option_map, option_and_then, option_to_list, refl}
+-- A process that looks the same in two states: the accesses of its next step, and why it is not closed to a file.
+use Rattle.std.proofs.Common.{◌≡◌, ◌∙◌, sym, ap, ap₂, subst, ℕ, ℤ, pos, negsuc, Bool, if◌then◌else◌, ◌==◌, List, [], ◌∷◌, ◌++◌, map, filter, filter_map, take, Option, None, Some, is_none, option_map, option_and_then, option_to_list, refl}
 use Rattle.pv_model.specs.declared.call.Call.{Call}
 use Rattle.pv_model.specs.declared.call.Call.TheVariants.{Execve, Read, Unveil, Write, Ftruncate}
 use Rattle.pv_model.specs.declared.call.Start.{Start}
@@ -13,16 +13,17 @@ use Rattle.pv_model.specs.declared.place.Place.{Place}
 use Rattle.pv_model.specs.declared.promise.Promise.TheVariants.{Rpath, Cpath, Exec as ExecPromise}
 use Rattle.pv_model.specs.declared.verdict.Why.TheVariants.{Reads}
 use Rattle.pv_model.specs.Answers.Access
-use Rattle.pv_model.specs.Machine.{node_brief, answer_line, judged_walks, Bytes, node_of, name_of, open_file_of, open_file, directory_of_file, start_directory, end_of, at_number, numbered, Next, inside, calls_for, next, OpenFile, Descriptor, Process, ProcessRecord, State, reads, process_at, Stepped, descriptor_of, flags_of, place_found, places, has_succeeded, mode_text, Table, is_absolute, resolve, Walk, walks_of}
+use Rattle.pv_model.specs.Machine.{judged_walks, Bytes, node_of, name_of, open_file_of, open_file, directory_of_file, start_directory, end_of, at_number, numbered, Next, inside, calls_for, next, OpenFile, Descriptor, Process, ProcessRecord, State, reads, process_at, Stepped, descriptor_of, flags_of, place_found, places, has_succeeded, Table, Tree, is_absolute, resolve, Walk, walks_of}
 use Rattle.pv_model.specs.Answers.Needs.{judged, judged_at}
 use Rattle.pv_model.specs.Sealed
 use Rattle.pv_model.specs.Touch.{reports_of_place, reports_of_descriptor}
+use Rattle.pv_model_questions.specs.Accesses.{lines_of_accesses, lines_of_kept}
 use Rattle.pv_laws_classes.specs.Liveness.{with_values}
 use Rattle.pv_laws_classes.specs.Shown.{shown_process}
 
--- ---- states in which a process looks alike
+-- ---- states in which a process looks the same
 
--- two processes are the same but for registers and buffer
+-- two processes are the same except for registers and buffer
 abbrev pub AreAlike : Option Process → Option Process → Type 0
 AreAlike None o = o ≡ None
 AreAlike (Some p) o = (registers : List ℤ) × (buffer : Bytes) × (o ≡ Some (with_values registers buffer p))
@@ -33,7 +34,7 @@ pub record LooksAlike (pid : ℕ) (s t : State) : Type 0 where
   pub files : t.files ≡ s.files
   pub process : AreAlike (process_at s pid) (process_at t pid)
 
--- what holds of the state with other processes holds of a state with the same tree and open files
+-- a property of the state with other processes holds for a state with the same tree and open files
 pub by-fields : (P : State → Type 0) (s t : State) → t.tree ≡ s.tree → t.files ≡ s.files → P (record s { processes = t.processes; last_process = t.last_process }) → P t
 by-fields P s t tree files is = subst P (λ i. record { tree = sym tree i; files = sym files i; processes = t.processes; last_process = t.last_process }) is
 
@@ -197,13 +198,5 @@ module _ (s : State) (ps : List (ℕ × ProcessRecord)) (last : ℕ) (pid : ℕ)
         ++ map Access.writes (written-same s ps last p rs bs call now.outcome i)
         ++ (if has_succeeded now.outcome then success-same i else []))
 
-    line-same : (a : Access.Access) → Access.access_line there pid other call now' a ≡ Access.access_line s pid p call now a
-    line-same (Access.reads n) = refl
-    line-same (Access.executes n) = refl
-    line-same (Access.writes n) = refl
-    line-same (Access.changes_name d name) = refl
-    line-same (Access.reports n) = refl
-    line-same (Access.opens n mode) = ap (λ tree. answer_line pid (codes "OPEN") (mode_text mode ++ codes " " ++ node_brief tree n)) after.tree
-
-    pub access-lines-same : Access.lines_of_accesses there pid other call now' ≡ Access.lines_of_accesses s pid p call now
-    access-lines-same = λ i. map (λ (a : Access.Access). line-same a i) (accesses-same i)
+    pub access-lines-same : (files : List Bytes) (first : Tree) → lines_of_accesses files first there pid other call now' ≡ lines_of_accesses files first s pid p call now
+    access-lines-same files first = λ i. lines_of_kept files first s.tree (after.tree i) pid (accesses-same i)

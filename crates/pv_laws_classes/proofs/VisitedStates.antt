@@ -1,11 +1,11 @@
 -- The visited states and the reported steps of a search, for any steps and any classes.
 use Rattle.std.proofs.Common.{◌≡◌, ◌≢◌, ◌∙◌, sym, ap, subst, ℕ, ◌≤◌, Bool, true, false, if◌then◌else◌, bytes_eq, List, [], ◌∷◌, ◌++◌, map, flat_map, filter, append_assoc, append-nil, Option, is_some, ◌⊎◌, inl, inr, refl, arith}
 use Rattle.std.specs.List.{AllByRecursion, list_any, list_all}
-use Rattle.pv_model.specs.Machine.{Found, Move, found_by, move, moves_of, move_text, new_ones, has_ended, endings, Numbers, tree_numbers, Bytes, named_tree, Program, State, process_at, step, run, trace_bytes, Tree}
+use Rattle.pv_model.specs.Machine.{Found, Move, found_by, move, moves_of, move_text, elements_with_new_keys, has_ended, endings, Numbers, tree_numbers, Bytes, named_tree, Program, State, process_at, step, run, trace_bytes, Tree}
 use Rattle.pv_model.specs.Answers.Explore.{reported_moves}
-use Rattle.pv_laws_trees.proofs.Entries.{bytes_eq-itself}
+use Rattle.pv_laws_trees.proofs.DirectoryEntries.{bytes_eq-itself}
 use Rattle.pv_laws_states.specs.States.{EncodesPrograms, IsValid}
-use Rattle.pv_laws_states.proofs.BySteps.{step-keeps_whole}
+use Rattle.pv_laws_states.proofs.ValidBySteps.{step-keeps_valid}
 use Rattle.pv_laws_answers.specs.Search.{CanHappen, EndsIn}
 use Rattle.pv_laws_answers.specs.Witnesses.{IsWitness, IsEarlierWitness, IsNoLaterWitness, EachToLater}
 use Rattle.pv_laws_answers.proofs.Lists.{Among, each-among, each-from_among, each-weaker, among-map, map-among, among-flat, flat-among, among-filter, filter-among, any-among, all-among}
@@ -17,13 +17,13 @@ use Rattle.pv_laws_answers.proofs.Witnesses.{before-one_more, before-longer, no_
 use Rattle.pv_laws_answers.proofs.WitnessOrders.{Earlier, to_later-weaker, moves-earlier}
 
 -- the elements with new keys among images
-new-map : {X Y : Type 0} (h : X → Y) (key : Y → Numbers) (had : List Numbers) (xs : List X) → new_ones key had (map h xs) ≡ map h (new_ones (λ x. key (h x)) had xs)
+new-map : {X Y : Type 0} (h : X → Y) (key : Y → Numbers) (had : List Numbers) (xs : List X) → elements_with_new_keys key had (map h xs) ≡ map h (elements_with_new_keys (λ x. key (h x)) had xs)
 new-map h key had [] = refl
 new-map {X} {Y} h key had (x ∷ xs) = by (list_any (bytes_eq (key (h x))) had) (new-map h key had xs) (new-map h key (key (h x) ∷ had) xs)
   where
-    by : (b : Bool) → new_ones key had (map h xs) ≡ map h (new_ones (λ x. key (h x)) had xs) → new_ones key (key (h x) ∷ had) (map h xs) ≡ map h (new_ones (λ x. key (h x)) (key (h x) ∷ had) xs)
-        → (if b then new_ones key had (map h xs) else h x ∷ new_ones key (key (h x) ∷ had) (map h xs))
-        ≡ map h (if b then new_ones (λ x. key (h x)) had xs else x ∷ new_ones (λ x. key (h x)) (key (h x) ∷ had) xs)
+    by : (b : Bool) → elements_with_new_keys key had (map h xs) ≡ map h (elements_with_new_keys (λ x. key (h x)) had xs) → elements_with_new_keys key (key (h x) ∷ had) (map h xs) ≡ map h (elements_with_new_keys (λ x. key (h x)) (key (h x) ∷ had) xs)
+        → (if b then elements_with_new_keys key had (map h xs) else h x ∷ elements_with_new_keys key (key (h x) ∷ had) (map h xs))
+        ≡ map h (if b then elements_with_new_keys (λ x. key (h x)) had xs else x ∷ elements_with_new_keys (λ x. key (h x)) (key (h x) ∷ had) xs)
     by true old new = old
     by false old new = ap (λ ys. h x ∷ ys) new
 
@@ -103,7 +103,7 @@ module _ {program_of : Bytes → Option Program} {s : State} {C : Type 0} {class
         witness = ap (λ (n : Move). n.witness) by.2;
         lives = ap is_some by.1;
         sound = subst (λ (n : Move). IsSound program_of s (found_by n)) (sym by.2) (record {
-          whole = step-keeps_whole program_of it.encodes f.state m.pid sound.whole;
+          whole = step-keeps_valid program_of it.encodes f.state m.pid sound.whole;
           witness = witness-more program_of s f.state f.witness m.pid sound.witness (ap is_some by.1);
         });
       }
@@ -272,7 +272,7 @@ module _ {program_of : Bytes → Option Program} {s : State} {C : Type 0} {class
     one-of-class (h ∷ fs) differ f g (inr k) (inl e) alike = absurd (each-among (λ x. class_of h ≢ class_of x) fs differ.0 f k (ap class_of (sym e) ∙ sym alike))
     one-of-class (h ∷ fs) differ f g (inr j) (inr k) alike = one-of-class fs differ.1 f g j k alike
 
-    -- a visited state has the least witness of all that the steps of the search reach in its class
+    -- a visited state has the least witness of all states that the steps of the search reach in its class
     pub visited-least : (f : Found) → Among f found → (g : Found) → IsReached program_of s moves g → class_of g ≡ class_of f → IsNoLaterWitness f.witness g.witness
     unfolding HasNoLater
     visited-least f h g reached alike = by (no_later-reached g reached)
@@ -291,7 +291,7 @@ module _ {program_of : Bytes → Option Program} {s : State} {C : Type 0} {class
       key_of f = key f.state
 
       abbrev pub firsts : List Found
-      firsts = new_ones key_of [] passed
+      firsts = elements_with_new_keys key_of [] passed
 
       passed-like : (g : Found) → Among g found → (f : Found) → class_of g ≡ class_of f → test f.state ≡ true → Among g passed × (key_of g ≡ key_of f)
       passed-like g within f alike passes = (among-filter (λ (f : Found). test f.state) g found within (depend.same_test g f alike ∙ passes), depend.same_key g f alike)

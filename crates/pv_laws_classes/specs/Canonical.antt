@@ -7,27 +7,27 @@ use Rattle.pv_laws_states.specs.States.{IsValid}
 use Rattle.pv_laws_classes.specs.Renumbering.{renumbered_processes, Renumbered}
 
 -- two states are equal up to some renumbering of open files
-abbrev pub AreAlike : State → State → Type 0
-AreAlike s t = (f : ℕ → ℕ) × Renumbered f s t
+abbrev pub AreEqualRenumbered : State → State → Type 0
+AreEqualRenumbered s t = (f : ℕ → ℕ) × Renumbered f s t
 
 -- this relation is an equivalence on valid states. Symmetry needs a valid state: otherwise a descriptor may refer to a
 -- number that no open file has
-pub record AlikeIsEquivalence : Type 0 where
-  pub reflexive : (s : State) → AreAlike s s
-  pub symmetric : (s t : State) → IsValid s → AreAlike s t → AreAlike t s
-  pub transitive : (s t u : State) → AreAlike s t → AreAlike t u → AreAlike s u
+pub record RenumberingIsEquivalence : Type 0 where
+  pub reflexive : (s : State) → AreEqualRenumbered s s
+  pub symmetric : (s t : State) → IsValid s → AreEqualRenumbered s t → AreEqualRenumbered t s
+  pub transitive : (s t u : State) → AreEqualRenumbered s t → AreEqualRenumbered t u → AreEqualRenumbered s u
 
 -- ---- the canonical form
 
 -- the numbers of a list that are not among the given ones, each once, in the order of the list
-abbrev pub first_ones : List ℕ → List ℕ → List ℕ
-first_ones had [] = []
-first_ones had (n ∷ ns) = if among had n then first_ones had ns else n ∷ first_ones (n ∷ had) ns
+abbrev pub distinct_without : List ℕ → List ℕ → List ℕ
+distinct_without had [] = []
+distinct_without had (n ∷ ns) = if among had n then distinct_without had ns else n ∷ distinct_without (n ∷ had) ns
 
--- the open files that descriptors refer to, in the order of their first reference: processes by ascending number, and
+-- the open files to which descriptors refer, in the order of their first reference: processes by ascending number, and
 -- the descriptors of a process by ascending number
 abbrev pub references : State → List ℕ
-references s = first_ones [] (used s)
+references s = distinct_without [] (used s)
 
 -- the index of a number in a list, or the length of the list
 abbrev pub index_in : List ℕ → ℕ → ℕ
@@ -52,12 +52,12 @@ abbrev pub are_same_class : State → State → Bool
 are_same_class s t = same_state (canonical s) (canonical t)
 
 -- a valid state is equal to its canonical form up to a renumbering
-abbrev pub CanonicalIsAlike : Type 0
-CanonicalIsAlike = (s : State) → IsValid s → Renumbered (canonical_number s) s (canonical s)
+abbrev pub CanonicalIsEqualRenumbered : Type 0
+CanonicalIsEqualRenumbered = (s : State) → IsValid s → Renumbered (canonical_number s) s (canonical s)
 
 -- two valid states have equal canonical forms if and only if they are equal up to a renumbering, and the test decides it
 abbrev pub CanonicalIsUnique : Type 0
-CanonicalIsUnique = (s t : State) → IsValid s → IsValid t → (canonical s ≡ canonical t) ↔ AreAlike s t
+CanonicalIsUnique = (s t : State) → IsValid s → IsValid t → (canonical s ≡ canonical t) ↔ AreEqualRenumbered s t
 
 abbrev pub ClassesAreDistinguished : Type 0
-ClassesAreDistinguished = (s t : State) → IsValid s → IsValid t → IsTrue (are_same_class s t) ↔ AreAlike s t
+ClassesAreDistinguished = (s t : State) → IsValid s → IsValid t → IsTrue (are_same_class s t) ↔ AreEqualRenumbered s t

@@ -4,8 +4,8 @@ use Rattle.pv_model.specs.Machine.{answer_bytes, state_lines}
 use Rattle.pv_laws_classes.specs.Canonical.{references, canonical}
 use Rattle.pv_laws_classes.specs.Examples.{parent_first, child_first, two_open_files, one_open_file}
 
--- the open files 1 and 2 are swapped, and both states have one canonical form. Two open files and one that is shared do
--- not
+-- the open files 1 and 2 are swapped, and both states have one canonical form. Two open files and one shared open file
+-- have different canonical forms
 pub record CanonicalExamples : Type 0 where
   pub of_parent : references parent_first ≡ 0 ∷ 1 ∷ 2 ∷ []
   pub of_child : references child_first ≡ 0 ∷ 2 ∷ 1 ∷ []

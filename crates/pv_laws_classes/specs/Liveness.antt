@@ -1,4 +1,4 @@
--- Live variables of programs, and states that are equal but for dead variables.
+-- Live variables of programs, and states that are equal up to dead variables.
 use Rattle.std.specs.Prelude.{◌≡◌, ℕ, zero, suc, ◌-◌, ◌≤◌, ℤ, pos, negsuc, Bool, true, false, not, ◌&&◌, ◌||◌, ◌==◌, if◌then◌else◌, IsTrue, IsFalse, nat_lt, min, max, List, [], ◌∷◌, map, length, slice_get, slice_index, slice_index_or, Option, Some}
 use Rattle.std.specs.List.{list_any}
 use Rattle.pv_model.specs.declared.instruction.Instruction.{Instruction}
@@ -175,7 +175,7 @@ abbrev pub is_live_below : Program → ℕ → Variable → Bool
 is_live_below program line (register_variable r) = is_live_at program line (register_variable r)
 is_live_below program line (byte_variable k) = nat_lt k (live_bytes program line)
 
--- ---- states that are equal but for dead variables
+-- ---- states that are equal up to dead variables
 
 -- a process with other registers and another buffer
 abbrev pub with_values : List ℤ → Bytes → Process → Process
@@ -187,20 +187,20 @@ pub record AgreeOnLive (is_live : Live) (p : Process) (registers : List ℤ) (bu
   pub buffer_length : length buffer ≡ length p.buffer
   pub values : (v : Variable) → is_live p.program p.line v → value_in registers buffer v ≡ value_in p.registers p.buffer v
 
--- the same records in the same order, but for registers and buffers that are related by `Agree`
-pub data SameButValues (Agree : ℕ → Process → List ℤ → Bytes → Type 0) : List (ℕ × ProcessRecord) → List (ℕ × ProcessRecord) → Type 0 where
-  none : SameButValues Agree [] []
-  both_live : (number : ℕ) (p : Process) (registers : List ℤ) (buffer : Bytes) (rs ts : List (ℕ × ProcessRecord)) → Agree number p registers buffer → SameButValues Agree rs ts
-      → SameButValues Agree ((number, live p) ∷ rs) ((number, live (with_values registers buffer p)) ∷ ts)
-  both_ended : (number parent status : ℕ) (rs ts : List (ℕ × ProcessRecord)) → SameButValues Agree rs ts
-      → SameButValues Agree ((number, ended_record parent status) ∷ rs) ((number, ended_record parent status) ∷ ts)
+-- the same records in the same order, except for registers and buffers that are related by `Agree`
+pub data SameExceptValues (Agree : ℕ → Process → List ℤ → Bytes → Type 0) : List (ℕ × ProcessRecord) → List (ℕ × ProcessRecord) → Type 0 where
+  none : SameExceptValues Agree [] []
+  both_live : (number : ℕ) (p : Process) (registers : List ℤ) (buffer : Bytes) (rs ts : List (ℕ × ProcessRecord)) → Agree number p registers buffer → SameExceptValues Agree rs ts
+      → SameExceptValues Agree ((number, live p) ∷ rs) ((number, live (with_values registers buffer p)) ∷ ts)
+  both_ended : (number parent status : ℕ) (rs ts : List (ℕ × ProcessRecord)) → SameExceptValues Agree rs ts
+      → SameExceptValues Agree ((number, ended_record parent status) ∷ rs) ((number, ended_record parent status) ∷ ts)
 
--- state t is state s but for variables of processes that are dead at their lines
-pub record AlikeButDead (is_live : Live) (s t : State) : Type 0 where
+-- state t is state s up to variables of processes that are dead at their lines
+pub record EqualUpToDead (is_live : Live) (s t : State) : Type 0 where
   pub tree : t.tree ≡ s.tree
   pub files : t.files ≡ s.files
   pub last_process : t.last_process ≡ s.last_process
-  pub processes : SameButValues (λ number. AgreeOnLive is_live) s.processes t.processes
+  pub processes : SameExceptValues (λ number. AgreeOnLive is_live) s.processes t.processes
 
 -- ---- dead variables set to zero
 
@@ -243,49 +243,49 @@ ComputedIsClosed = IsClosedTest (by_test is_live_at) × IsClosedTest (by_test is
 abbrev pub ComputedIsRead : Type 0
 ComputedIsRead = (program : Program) → IsTrue (is_program_in_bounds program) → (line : ℕ) (v : Variable) → 1 ≤ line → IsTrue (is_live_at program line v) → IsRead program line v
 
--- states that are equal but for dead variables form classes
-pub record AlikeButDeadIsEquivalence (is_live : Live) : Type 0 where
-  pub reflexive : (s : State) → AlikeButDead is_live s s
-  pub symmetric : (s t : State) → AlikeButDead is_live s t → AlikeButDead is_live t s
-  pub transitive : (s t u : State) → AlikeButDead is_live s t → AlikeButDead is_live t u → AlikeButDead is_live s u
+-- states that are equal up to dead variables form classes
+pub record EqualUpToDeadIsEquivalence (is_live : Live) : Type 0 where
+  pub reflexive : (s : State) → EqualUpToDead is_live s s
+  pub symmetric : (s t : State) → EqualUpToDead is_live s t → EqualUpToDead is_live t s
+  pub transitive : (s t u : State) → EqualUpToDead is_live s t → EqualUpToDead is_live t u → EqualUpToDead is_live s u
 
-abbrev pub AlikeStatesFormClasses : Type 0
-AlikeStatesFormClasses = AlikeButDeadIsEquivalence IsRead × ((test : Program → ℕ → Variable → Bool) → AlikeButDeadIsEquivalence (by_test test))
+abbrev pub EqualStatesFormClasses : Type 0
+EqualStatesFormClasses = EqualUpToDeadIsEquivalence IsRead × ((test : Program → ℕ → Variable → Bool) → EqualUpToDeadIsEquivalence (by_test test))
 
 -- the state with zero in dead variables represents its class
 pub record ClearedRepresents (test : Program → ℕ → Variable → Bool) : Type 0 where
-  pub alike : (s : State) → AlikeButDead (by_test test) s (cleared test s)
-  pub same : (s t : State) → AlikeButDead (by_test test) s t → cleared test t ≡ cleared test s
-  pub only : (s t : State) → cleared test t ≡ cleared test s → AlikeButDead (by_test test) s t
+  pub alike : (s : State) → EqualUpToDead (by_test test) s (cleared test s)
+  pub same : (s t : State) → EqualUpToDead (by_test test) s t → cleared test t ≡ cleared test s
+  pub only : (s t : State) → cleared test t ≡ cleared test s → EqualUpToDead (by_test test) s t
 
 abbrev pub ClearedStatesRepresent : Type 0
 ClearedStatesRepresent = (test : Program → ℕ → Variable → Bool) → ClearedRepresents test
 
--- two steps have the same outcome and lines, and the next states are equal but for dead variables
-pub record StepsAreAlike (is_live : Live) (a b : Stepped) : Type 0 where
+-- two steps have the same outcome and lines, and the next states are equal up to dead variables
+pub record StepsAreEqualUpToDead (is_live : Live) (a b : Stepped) : Type 0 where
   pub outcome : b.outcome ≡ a.outcome
   pub lines : b.lines ≡ a.lines
-  pub after : AlikeButDead is_live a.after b.after
+  pub after : EqualUpToDead is_live a.after b.after
 
 -- the steps of a process from a valid state, and from a state that is equal to it but for dead variables, are alike
 abbrev pub StepsIgnoreDead : Live → Type 0
 StepsIgnoreDead is_live =
-    (program_of : Bytes → Option Program) (s t : State) (pid : ℕ) → IsValid s → AlikeButDead is_live s t → StepsAreAlike is_live (step program_of s pid) (step program_of t pid)
+    (program_of : Bytes → Option Program) (s t : State) (pid : ℕ) → IsValid s → EqualUpToDead is_live s t → StepsAreEqualUpToDead is_live (step program_of s pid) (step program_of t pid)
 
--- two runs have the same lines, and the final states are equal but for dead variables
-pub record RunsAreAlike (is_live : Live) (a b : Run) : Type 0 where
+-- two runs have the same lines, and the final states are equal up to dead variables
+pub record RunsAreEqualUpToDead (is_live : Live) (a b : Run) : Type 0 where
   pub lines : b.lines ≡ a.lines
-  pub final : AlikeButDead is_live a.final b.final
+  pub final : EqualUpToDead is_live a.final b.final
 
 -- the runs of one schedule from two such states are alike
 abbrev pub RunsIgnoreDead : Live → Type 0
 RunsIgnoreDead is_live =
-    (program_of : Bytes → Option Program) (s t : State) (pids : List ℕ) → IsValid s → AlikeButDead is_live s t → RunsAreAlike is_live (run program_of pids s) (run program_of pids t)
+    (program_of : Bytes → Option Program) (s t : State) (pids : List ℕ) → IsValid s → EqualUpToDead is_live s t → RunsAreEqualUpToDead is_live (run program_of pids s) (run program_of pids t)
 
 -- this holds if the dead variables are those that no path reads before setting them
-abbrev pub UnreadVariablesAlterNothing : Type 0
-UnreadVariablesAlterNothing = StepsIgnoreDead IsRead × RunsIgnoreDead IsRead
+abbrev pub UnreadVariablesAreDead : Type 0
+UnreadVariablesAreDead = StepsIgnoreDead IsRead × RunsIgnoreDead IsRead
 
 -- and if they are those that a closed test rejects
-abbrev pub RejectedVariablesAlterNothing : Type 0
-RejectedVariablesAlterNothing = (test : Program → ℕ → Variable → Bool) → IsClosedTest (by_test test) → StepsIgnoreDead (by_test test) × RunsIgnoreDead (by_test test)
+abbrev pub RejectedVariablesAreDead : Type 0
+RejectedVariablesAreDead = (test : Program → ℕ → Variable → Bool) → IsClosedTest (by_test test) → StepsIgnoreDead (by_test test) × RunsIgnoreDead (by_test test)

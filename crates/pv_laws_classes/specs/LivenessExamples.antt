@@ -14,7 +14,7 @@ use Rattle.pv_model.specs.Machine.{update, Program, State, step, run, call_word,
 use Rattle.pv_model.specs.State.{no_registers, no_bytes}
 use Rattle.pv_model.specs.Trace.{took, value_of}
 use Rattle.pv_laws_states.specs.ExampleStates.{no_programs, state_after, flags}
-use Rattle.pv_laws_classes.specs.Liveness.{register_variable, byte_variable, by_test, is_live_at, live_bytes, with_values, AlikeButDead}
+use Rattle.pv_laws_classes.specs.Liveness.{register_variable, byte_variable, by_test, is_live_at, live_bytes, with_values, EqualUpToDead}
 
 -- ---- a dead register and a dead byte
 
@@ -44,7 +44,7 @@ lines_of_write =
 
 pub record DeadExamples : Type 0 where
   pub different : opened_otherwise ≢ opened
-  pub alike : AlikeButDead (by_test is_live_at) opened opened_otherwise
+  pub alike : EqualUpToDead (by_test is_live_at) opened opened_otherwise
   pub lines_of_one : (run no_programs (1 ∷ 1 ∷ 1 ∷ []) opened).lines ≡ lines_of_write
   pub lines_of_other : (run no_programs (1 ∷ 1 ∷ 1 ∷ []) opened_otherwise).lines ≡ lines_of_write
 

@@ -1,4 +1,4 @@
--- The reduced search: it identifies states that are equal but for the numbers of open files and for dead variables, and
+-- The reduced search: it identifies states that are equal up to the numbers of open files and for dead variables, and
 -- after a step of a process on registers, the next step is of the same process. Its laws.
 use Rattle.std.specs.Prelude.{◌≡◌, ◌≢◌, ℕ, ◌≤◌, ◌==◌, Bool, ◌||◌, ◌&&◌, if◌then◌else◌, IsTrue, IsFalse, List, [], ◌∷◌, ◌++◌, length, flat_map, filter, bytes_eq, Contains, Option, is_some}
 use Rattle.std.specs.List.{AllByRecursion, list_any, list_all}

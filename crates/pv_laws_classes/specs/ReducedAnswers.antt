@@ -1,7 +1,7 @@
 -- The texts of `explore`, `access`, `exposure` and `policy` by the reduced search.
 use Rattle.std.specs.Prelude.{ℕ, Bool, if◌then◌else◌, List, [], ◌∷◌, ◌++◌, length, map, flat_map, filter, filter_map, codes, Option}
 use Rattle.std.specs.Fmt.{decimal}
-use Rattle.pv_model.specs.Machine.{accesses, lines_of_accesses, Found, endings, endings_line, node_brief, named_files, AnswerLine, answer_line, answer_line_bytes, counted_from, Observer, Observation, observed, first_observations, of_calls, groups, Request, Requests, Bytes, Program, State}
+use Rattle.pv_model.specs.Machine.{accesses, Found, endings, endings_line, node_brief, named_files, AnswerLine, answer_line, answer_line_bytes, counted_from, Observer, Observation, observed, first_observations, of_calls, groups, Request, Requests, Bytes, Program, State}
 use Rattle.pv_model.specs.Answers.Access.{file_read, is_unread, unread_line}
 use Rattle.pv_model.specs.Answers.Explore.{completeness_text, move_lines}
 use Rattle.pv_model.specs.Answers.Exposure
@@ -9,6 +9,7 @@ use Rattle.pv_model.specs.Answers.Observed.{observations_at, observation_lines}
 use Rattle.pv_model.specs.Answers.Policy.{granted_calls, request, promise_lines, target_lines, idle_promise_lines, idle_permission_lines, restricted}
 use Rattle.pv_model.specs.Answers.Policy
 use Rattle.pv_model.specs.Answers.ProgramNames.{program_line}
+use Rattle.pv_model_questions.specs.Accesses.{kept_files, lines_of_accesses}
 use Rattle.pv_laws_classes.specs.Reduced.{reduced_moves_of, reduced_found, reduced_reported, is_reduced_complete}
 
 -- ---- observations
@@ -45,10 +46,6 @@ module _ (program_of : Bytes → Option Program) (limit : ℕ) (s : State) where
 
   -- ---- access
 
-  -- the accesses of the steps of the search, each with its first step
-  abbrev pub reduced_accesses : List (Observation AnswerLine)
-  reduced_accesses = first_observations answer_line_bytes (reduced_observations (of_calls lines_of_accesses) program_of limit s)
-
   -- the files that some step reads or executes
   abbrev pub reduced_files_read : List ℕ
   reduced_files_read = filter_map (λ o. file_read o.item) (reduced_observations (of_calls accesses) program_of limit s)
@@ -57,11 +54,16 @@ module _ (program_of : Bytes → Option Program) (limit : ℕ) (s : State) where
   abbrev pub reduced_unread_files : List ℕ
   reduced_unread_files = filter (is_unread program_of limit s reduced_files_read) (named_files s.tree)
 
-  unfoldable pub reduced_access_lines : List AnswerLine
-  reduced_access_lines =
-      flat_map (observation_lines (λ l. l ∷ [])) reduced_accesses
-      ++ if_no_other (map (unread_line program_of limit s) reduced_unread_files)
-      ++ classes_done_line ∷ []
+  module _ (files : List Bytes) where
+    -- the accesses of the steps of the search, each with its first step
+    abbrev pub reduced_accesses : List (Observation AnswerLine)
+    reduced_accesses = first_observations answer_line_bytes (reduced_observations (of_calls (lines_of_accesses files s.tree)) program_of limit s)
+
+    unfoldable pub reduced_access_lines : List AnswerLine
+    reduced_access_lines =
+        flat_map (observation_lines (λ l. l ∷ [])) reduced_accesses
+        ++ if_no_other (map (unread_line program_of limit s) (kept_files files s.tree reduced_unread_files))
+        ++ classes_done_line ∷ []
 
   -- ---- policy
 
@@ -77,7 +79,7 @@ module _ (program_of : Bytes → Option Program) (limit : ℕ) (s : State) where
 
   abbrev pub lines_of_reduced_requests : Requests → List AnswerLine
   lines_of_reduced_requests rs =
-      flat_map reduced_policy_of_program (counted_from 1 (groups Policy.program_key rs))
+      flat_map reduced_policy_of_program (counted_from 1 (groups Policy.request_program_key rs))
       ++ classes_done_line ∷ []
 
   -- the lines of all calls

@@ -36,27 +36,27 @@ pub record Renumbered (f : ℕ → ℕ) (s t : State) : Type 0 where
   pub no_others : (m : ℕ) → IsInUse t m → (n : ℕ) × IsInUse s n × (f n ≡ m)
 
 -- two steps have the same outcome and lines, and the next states are equal up to a renumbering of open files
-pub record StepsAnswerAlike (a b : Stepped) : Type 0 where
+pub record StepsAreEqualRenumbered (a b : Stepped) : Type 0 where
   pub outcome : b.outcome ≡ a.outcome
   pub lines : b.lines ≡ a.lines
   pub renumbering : ℕ → ℕ
   pub after : Renumbered renumbering a.after b.after
 
--- the steps of a process from two such states do. The numbering may change: an open gets the least free number in each
--- state
-abbrev pub RenumberedStepsAnswerAlike : Type 0
-RenumberedStepsAnswerAlike =
+-- the steps of a process from two such states have these properties. The numbering may change: an open gets the least
+-- free number in each state
+abbrev pub RenumberedStepsAreEqual : Type 0
+RenumberedStepsAreEqual =
     (program_of : Bytes → Option Program) (f : ℕ → ℕ) (s t : State) (pid : ℕ) → IsValid s → IsValid t → Renumbered f s t
-    → StepsAnswerAlike (step program_of s pid) (step program_of t pid)
+    → StepsAreEqualRenumbered (step program_of s pid) (step program_of t pid)
 
 -- two runs have the same lines, and the final states are equal up to a renumbering of open files
-pub record RunsAnswerAlike (a b : Run) : Type 0 where
+pub record RunsAreEqualRenumbered (a b : Run) : Type 0 where
   pub lines : b.lines ≡ a.lines
   pub renumbering : ℕ → ℕ
   pub final : Renumbered renumbering a.final b.final
 
--- the runs of one schedule from two such states do
-abbrev pub RenumberedRunsAnswerAlike : Type 0
-RenumberedRunsAnswerAlike =
+-- the runs of one schedule from two such states have these properties
+abbrev pub RenumberedRunsAreEqual : Type 0
+RenumberedRunsAreEqual =
     (program_of : Bytes → Option Program) (f : ℕ → ℕ) (s t : State) (pids : List ℕ) → IsValid s → IsValid t → Renumbered f s t
-    → RunsAnswerAlike (run program_of pids s) (run program_of pids t)
+    → RunsAreEqualRenumbered (run program_of pids s) (run program_of pids t)

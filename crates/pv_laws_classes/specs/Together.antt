@@ -69,9 +69,9 @@ module _ (program_of : Bytes → Option Program) where
   AreTurns [] s = Unit {0}
   AreTurns (turn ∷ turns) s = IsTurn turn.0 turn.1 s × AreTurns turns (run program_of (replicate (suc turn.1) turn.0) s).final
 
--- a schedule as turns, and the steps on registers that no other step of their process follows. Each process makes as
--- many steps as in the schedule. The steps that are not on registers have the same outcomes and lines in the same
--- order, with and without the steps at the end
+-- a schedule as turns, and the steps on registers that no other step of their process follows. Each process makes the
+-- same number of steps as in the schedule. The steps that are not on registers have the same outcomes and lines in the
+-- same order, with and without the steps at the end
 pub record NormalForm (program_of : Bytes → Option Program) (s : State) (pids : List ℕ) : Type 0 where
   pub turns : List CombinedTurn
   pub left : List ℕ
@@ -149,7 +149,7 @@ CombinedStepsAreSteps =
 
 -- combined steps that have no more steps in all than a schedule, and whose last step has the outcome and the lines of
 -- the last step of the schedule
-pub record EndsAlike (program_of : Bytes → Option Program) (most : ℕ) (s : State) (pids : List ℕ) (pid : ℕ) : Type 0 where
+pub record EndsInSameStep (program_of : Bytes → Option Program) (most : ℕ) (s : State) (pids : List ℕ) (pid : ℕ) : Type 0 where
   pub before : List ℕ
   pub combined : AreCombined program_of most (before ++ pid ∷ []) s
   pub outcome : (together program_of most (after_together program_of most before s) pid).last.outcome ≡ (step program_of (run program_of pids s).final pid).outcome
@@ -160,7 +160,7 @@ pub record EndsAlike (program_of : Bytes → Option Program) (most : ℕ) (s : S
 abbrev pub CombinedStepsReachEach : Type 0
 CombinedStepsReachEach =
     (program_of : Bytes → Option Program) (most : ℕ) (s : State) (pids : List ℕ) (pid : ℕ) → EncodesPrograms program_of → IsValid s → AreSteps program_of (pids ++ pid ∷ []) s
-    → IsFalse (is_step_on_registers (run program_of pids s).final pid) → EndsAlike program_of most s pids pid
+    → IsFalse (is_step_on_registers (run program_of pids s).final pid) → EndsInSameStep program_of most s pids pid
 
 -- ---- schedules as combined steps
 

@@ -65,7 +65,7 @@ pub record EndlessExamples : Type 0 where
   pub left : form.left ≡ replicate 3 1
   pub steps : steps_together no_programs 3 (2 ∷ []) loops ≡ 2 ∷ 2 ∷ []
 
--- ---- a read is no step on registers
+-- ---- a read is not a step on registers
 
 -- a process creates and opens a file and forks; then it reads twice, and the child opens the file and writes five bytes
 abbrev pub two_reads : Program

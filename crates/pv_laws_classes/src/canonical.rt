@@ -1,15 +1,15 @@
 //! Laws of the equivalence of states up to a renumbering of open files, and of their canonical form.
 
-ghost use Rattle.pv_laws_classes.specs.Canonical.{AlikeIsEquivalence, CanonicalIsAlike, CanonicalIsUnique, ClassesAreDistinguished};
+ghost use Rattle.pv_laws_classes.specs.Canonical.{RenumberingIsEquivalence, CanonicalIsEqualRenumbered, CanonicalIsUnique, ClassesAreDistinguished};
 
 /// The relation "equal up to some renumbering of open files" is an equivalence on valid states.
 pub fn alike_is_equivalence()
-    ensures { AlikeIsEquivalence }
+    ensures { RenumberingIsEquivalence }
 {}
 
 /// A valid state is equal to its canonical form up to a renumbering.
 pub fn canonical_is_alike()
-    ensures { CanonicalIsAlike }
+    ensures { CanonicalIsEqualRenumbered }
 {}
 
 /// Valid states have equal canonical forms if and only if they are equal up to a renumbering.

@@ -10,8 +10,8 @@
 //! - `liveness`: the law for dead registers and bytes, for steps and for runs, and tests that compute which are live.
 //! - `together`: the normal form of a schedule, and combined steps.
 //! - `reduced`: the search that identifies states in both ways and makes the steps of a process on registers directly before
-//!   its next step, and what it has in common with the search of all states.
-//! - `shown`: what `access`, `policy` and `exposure` show of a process, which the reduced search finds.
+//!   its next step, and its agreement with the search of all states.
+//! - `shown`: the data of a process that `access`, `policy` and `exposure` show, which the reduced search finds.
 //! - `examples`: worked runs and searches, and counterexamples: a map of numbers that is not injective, and live registers
 //!   and bytes.
 //! - `together_examples`: worked runs, and a read, which cannot be combined with the next step.

@@ -1,7 +1,7 @@
-//! Laws of states that are equal but for dead variables: registers and bytes of the buffer that a process sets before it
+//! Laws of states that are equal up to dead variables: registers and bytes of the buffer that a process sets before it
 //! reads them.
 
-ghost use Rattle.pv_laws_classes.specs.Liveness.{ReadIsClosed, ClosedTestsAcceptRead, ComputedIsClosed, ComputedIsRead, AlikeStatesFormClasses, ClearedStatesRepresent, UnreadVariablesAlterNothing, RejectedVariablesAlterNothing};
+ghost use Rattle.pv_laws_classes.specs.Liveness.{ReadIsClosed, ClosedTestsAcceptRead, ComputedIsClosed, ComputedIsRead, EqualStatesFormClasses, ClearedStatesRepresent, UnreadVariablesAreDead, RejectedVariablesAreDead};
 
 /// The variables that some path of the program reads before setting them satisfy the conditions for live variables.
 pub fn read_variables_are_closed()
@@ -25,9 +25,9 @@ pub fn computed_variables_are_read()
     ensures { ComputedIsRead }
 {}
 
-/// To be equal but for dead variables is an equivalence of states.
+/// To be equal up to dead variables is an equivalence of states.
 pub fn alike_states_form_classes()
-    ensures { AlikeStatesFormClasses }
+    ensures { EqualStatesFormClasses }
 {}
 
 /// The state with zero in the registers and bytes that a test rejects represents its class: it is in the class, and equal
@@ -40,12 +40,12 @@ pub fn cleared_states_represent()
 /// distinguish a state from a valid one: the steps have the same outcome and lines and lead to such states, and runs have
 /// the same lines.
 pub fn unread_variables_alter_nothing()
-    ensures { UnreadVariablesAlterNothing }
+    ensures { UnreadVariablesAreDead }
 {}
 
 /// For every test that satisfies the conditions for live variables, the variables that it rejects do not distinguish a
 /// state from a valid one: the steps have the same outcome and lines and lead to such states, and runs have the same
 /// lines.
 pub fn rejected_variables_alter_nothing()
-    ensures { RejectedVariablesAlterNothing }
+    ensures { RejectedVariablesAreDead }
 {}

@@ -1,5 +1,5 @@
-//! Laws of the reduced search: it identifies states that are equal but for the numbers of open files and for dead variables,
-//! and after a step of a process on registers, the next step is of the same process.
+//! Laws of the reduced search: it identifies states that are equal up to the numbers of open files and for dead
+//! variables, and after a step of a process on registers, the next step is of the same process.
 
 ghost use Rattle.pv_laws_classes.specs.Reduced.{ReducedSchedulesReachEach, ReducedSchedulesReachEndings, ReducedStatesAreReached, EachTextIsReportedReduced, ReducedWitnessesAreShortest, ReducedEndingsHappen, ReducedEndingsAreAll, ReducedReportsAreSame, ReducedEndingsAreSame};
 

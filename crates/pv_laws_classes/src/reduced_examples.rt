@@ -3,13 +3,13 @@
 ghost use Rattle.pv_laws_classes.specs.ReducedExamples.{VisitedStates, both_open, both_make, both_set, WitnessExamples};
 
 /// If a process and its child each open a file, the full search visits 13 states, and the reduced search 10: it identifies
-/// states that are equal but for the numbers of open files.
+/// states that are equal up to the numbers of open files.
 pub fn numbered_files_happen()
     ensures { VisitedStates both_open 13 10 }
 {}
 
 /// If a process and its child make the same directory, the full search visits 13 states, and the reduced search 10: it
-/// identifies states that are equal but for dead registers.
+/// identifies states that are equal up to dead registers.
 pub fn dead_registers_happen()
     ensures { VisitedStates both_make 13 10 }
 {}

@@ -13,7 +13,7 @@ use Rattle.pv_model.specs.declared.fault.ScheduleFault.TheVariants.{Line as Turn
 use Rattle.pv_model.specs.declared.fault.What.TheVariants.{TooMany}
 use Rattle.pv_model.specs.declared.fault.What.{What}
 use Rattle.pv_model.specs.declared.instruction.Instruction.{Instruction}
-use Rattle.pv_model.specs.Machine.{spaced, Bytes, is_empty, text_at, instruction_of, decimal_of, Listed, is_manifest_path, path_of, entry_of, add_entry, add_entries, read_program, schedule_of_lines, EncodesText, ended, Entry, make, further_name, is_too_long, fits, Program, Schedule, Tree, root, find_entry, with_entry, file_node, components, Block, single, taken, blocks_from, LabelledLine, labelled_lines, labels_from, instruction_text, program_line_of, program_lines, taken_lines, instructions_of, reported_if, invalid_lines, program_faults, NumberedLine, NumberedWords, words_of, lines_that_count, last_word, written_lines}
+use Rattle.pv_model.specs.Machine.{spaced, Bytes, is_empty, text_at, instruction_of, decimal_of, Listed, is_manifest_path, path_of, entry_of, add_entry, add_entries, read_program, schedule_of_lines, EncodesText, ended, Entry, make, further_name, is_too_long, fits, Program, Schedule, Tree, root, find_entry, with_entry, file_node, components, Block, single, taken, blocks_from, LabelledLine, labelled_lines, labels_from, instruction_text, program_line_of, program_lines, taken_lines, instructions_of, reported_if, invalid_lines, program_errors, NumberedLine, NumberedWords, words_of, lines_that_count, last_word, written_lines}
 use Rattle.pv_model.specs.Grammar.Arguments.{if_last}
 use Rattle.pv_model.specs.Grammar.Entries.{EncodesEntry, of_program, Lists, at_end, at_schedule, entry}
 use Rattle.pv_model.specs.Grammar.Manifests.{Taking, if_path, container, source_of, if_room, with_source, entry_in, entry_at, and_entries}
@@ -25,9 +25,9 @@ use Rattle.pv_laws_grammar.proofs.EntryLines.{entry_found}
 use Rattle.pv_laws_grammar.proofs.EntryPaths.{IsEntryPath-from_test}
 use Rattle.pv_laws_grammar.proofs.SingleWords.{mapped_found}
 use Rattle.pv_laws_grammar.proofs.QuotedTexts.{reads_text}
-use Rattle.pv_laws_grammar.specs.Accepted.{IsRightInit}
+use Rattle.pv_laws_grammar.specs.Accepted.{IsValidInit}
 use Rattle.pv_model.specs.Source.Blocks.{program, cut_off, schedule, mark_of, lines_up_to, exec_by, exec_block, or_cut_off, blocks_at}
-use Rattle.pv_model.specs.Source.Judged.{second_text, has_three_words, exec_path, executable, entry_of_block, is_init, invalid_turn, invalid_turns, faults_in, TreeSoFar, Judgement, made_or_reported, with_entry_of, number_of, judged_block, reported_of, faults_from}
+use Rattle.pv_model.specs.Source.Judged.{second_text, has_three_words, exec_path, executable, entry_of_block, is_init, invalid_turn, invalid_turns, errors_in, TreeSoFar, Judgement, made_or_reported, with_entry_of, line_of_block, checked_block, reported_of, errors_from}
 use Rattle.pv_model.specs.Source.Programs.{label_of, after_label, labelled_words, or_exit, with_exit, number_of_label, is_jump, begins_with_letter, or_word, target_word, without_labels, ProgramLine, is_set_in, and_label, count_instruction, is_invalid}
 use Rattle.pv_model.specs.Source.Words.{is_alone, with_last_word}
 use Rattle.pv_model.specs.Source.Written.{bytes_of_lines}
@@ -100,12 +100,12 @@ nothing_second : (xs ys : List ℕ) → xs ++ ys ≡ [] → ys ≡ []
 nothing_second [] ys is = is
 nothing_second (x ∷ xs) ys is = cc
 
-pub reported_split : (b : Block) (j : Judgement) (onward : TreeSoFar → List ℕ) → reported_of b j onward ≡ [] → (j.0 ≡ false) × (faults_in b ≡ []) × (onward j.1 ≡ [])
+pub reported_split : (b : Block) (j : Judgement) (onward : TreeSoFar → List ℕ) → reported_of b j onward ≡ [] → (j.0 ≡ false) × (errors_in b ≡ []) × (onward j.1 ≡ [])
 reported_split b j onward = by j.0 refl
   where
-    by : (t : Bool) → j.0 ≡ t → reported_if t (number_of b) (faults_in b ++ onward j.1) ≡ [] → (j.0 ≡ false) × (faults_in b ≡ []) × (onward j.1 ≡ [])
+    by : (t : Bool) → j.0 ≡ t → reported_if t (line_of_block b) (errors_in b ++ onward j.1) ≡ [] → (j.0 ≡ false) × (errors_in b ≡ []) × (onward j.1 ≡ [])
     by true p is = cc
-    by false p is = (p, nothing_first (faults_in b) (onward j.1) is, nothing_second (faults_in b) (onward j.1) is)
+    by false p is = (p, nothing_first (errors_in b) (onward j.1) is, nothing_second (errors_in b) (onward j.1) is)
 
 abbrev pub known : Tree → TreeSoFar
 known t = record { tree = Some t; lacked_room = false }
@@ -286,9 +286,9 @@ programs-from (line ∷ lines) count names before within none =
         record { program = next.program; reads = next.reads; few = next.few }
     by (Some text) right later = onto-program count before text lines (record { number = line.number; label = line.label; instruction = Some text } ∷ lines) within right refl (λ under. later (omega arith))
 
-pub programs-are : (lines : List ProgramLine) → program_faults lines ≡ [] → AreLines (instructions_of lines)
+pub programs-are : (lines : List ProgramLine) → program_errors lines ≡ [] → AreLines (instructions_of lines)
     → (length (instructions_of lines) ≤ 256) × ((program : Program) × (read_program (ended (instructions_of lines)) ≡ Ok program))
-unfolding program_faults read_program
+unfolding program_errors read_program
 programs-are lines none are =
     let all = programs-from lines (length (instructions_of lines)) [] 0 (omega arith) none in
     (omega (arith, all.few), (all.program, ap (λ ls. program_from (instruction_of (min (length ls) 256)) ls 1) (lines_again (instructions_of lines) are) ∙ all.reads))
@@ -397,10 +397,10 @@ pub record Listing (in_bundle : Bool) (n : ℕ) (t : Tree) (lines : List Bytes) 
   pub tree : Tree
   pub lists : Lists in_bundle n lines listed
   pub made : add_entries listed.entries t ≡ Ok tree
-  pub init : AllByRecursion (λ e. IsRightInit e.1) listed.entries
+  pub init : AllByRecursion (λ e. IsValidInit e.1) listed.entries
   pub turns : Turns in_bundle listed.following
 
-onto-listing : (in_bundle : Bool) (m n : ℕ) (t after : Tree) (line : Bytes) (body rest : List Bytes) (e : Entry) → EncodesEntry line body e → add_entry m t e ≡ Ok after → IsRightInit e
+onto-listing : (in_bundle : Bool) (m n : ℕ) (t after : Tree) (line : Bytes) (body rest : List Bytes) (e : Entry) → EncodesEntry line body e → add_entry m t e ≡ Ok after → IsValidInit e
     → Listing in_bundle (n + 1 + length body) after rest → Listing in_bundle n t (line ∷ body ++ rest)
 onto-listing in_bundle m n t after line body rest e encodes made right later = record {
   listed = record { entries = (n, e) ∷ later.listed.entries; following = later.listed.following };
@@ -411,7 +411,7 @@ onto-listing in_bundle m n t after line body rest e encodes made right later = r
   turns = later.turns;
 }
 
-no_init : (e : Entry) → is_init (Some (path_of e)) ≡ false → IsRightInit e
+no_init : (e : Entry) → is_init (Some (path_of e)) ≡ false → IsValidInit e
 no_init e other same = let is : bytes_eq (path_of e) (codes "/init") ≡ true = (bytes_eq-Decides (path_of e) (codes "/init")).1 same in absurd (false≢true (sym other ∙ is))
 
 -- the parts of an executable file
@@ -440,12 +440,12 @@ only_word (word ∷ others) is =
 
 -- the lines of `/init` are a program
 init-taken : (others : List Bytes) (path : Bytes) (body : List NumberedLine) → HaveLines body → exec_path (codes "exec" ∷ others) ≡ Some path
-    → cond (is_init (second_text (codes "exec" ∷ others))) (program_faults (taken_lines body)) [] ≡ [] → IsRightInit (make path (file_node true (ended (bytes_of_lines body))))
+    → cond (is_init (second_text (codes "exec" ∷ others))) (program_errors (taken_lines body)) [] ≡ [] → IsValidInit (make path (file_node true (ended (bytes_of_lines body))))
 init-taken others path body lines is none same =
     let words = exec-words others path is in
     let text : second_text (codes "exec" ∷ others) ≡ Some path = exec-text others path is in
     let init : is_init (second_text (codes "exec" ∷ others)) ≡ true = ap is_init text ∙ (bytes_eq-Decides path (codes "/init")).1 same in
-    let all : program_faults (taken_lines body) ≡ [] = sym (ap (λ t. cond t (program_faults (taken_lines body)) []) init) ∙ none in
+    let all : program_errors (taken_lines body) ≡ [] = sym (ap (λ t. cond t (program_errors (taken_lines body)) []) init) ∙ none in
     let are = programs-are (taken_lines body) all (subst AreLines (sym (taken-instructions body)) (taken-lines body lines)) in
     (ended (bytes_of_lines body), are.1.0, ap (λ p. make p (file_node true (ended (bytes_of_lines body)))) same, ap (λ ls. read_program (ended ls)) (sym (taken-instructions body)) ∙ are.1.1)
 
@@ -461,29 +461,29 @@ single-encodes n words e is =
     front_none [] following is = refl
     front_none (l ∷ front) following is = cc
 
-pub listing : (blocks : List Block) → AreBlocks blocks → (t : Tree) → faults_from blocks (known t) ≡ [] → (n : ℕ) → Listing (has_schedule blocks) n t (flat_map written_lines blocks)
+pub listing : (blocks : List Block) → AreBlocks blocks → (t : Tree) → errors_from blocks (known t) ≡ [] → (n : ℕ) → Listing (has_schedule blocks) n t (flat_map written_lines blocks)
 unfolding entry_of_block
 listing _ no_block t none n = record { listed = record { entries = []; following = [] }; tree = t; lists = at_end n refl; made = refl; init = tt; turns = tt }
 listing _ (by_itself m words blocks own later) t none n =
-    let parts = reported_split (single m words) (judged_block (known t) (single m words)) (faults_from blocks) none in
+    let parts = reported_split (single m words) (checked_block (known t) (single m words)) (errors_from blocks) none in
     let made = entry-made t m false (entry_of_block (single m words)) parts.0 in
-    let rest = listing blocks later made.after (ap (faults_from blocks) (sym made.left) ∙ parts.2) (n + 1 + 0) in
+    let rest = listing blocks later made.after (ap (errors_from blocks) (sym made.left) ∙ parts.2) (n + 1 + 0) in
     onto-listing (has_schedule blocks) m n t made.after (spaced words) [] (flat_map written_lines blocks) made.its_entry (single-encodes m words made.its_entry made.found) made.made (no_init made.its_entry made.init) rest
 listing _ (up_to_mark m others body blocks own lines later) t none n =
     let block = program m (codes "exec" ∷ others) body in
-    let parts = reported_split block (judged_block (known t) block) (faults_from blocks) none in
+    let parts = reported_split block (checked_block (known t) block) (errors_from blocks) none in
     let made = entry-made t m true (entry_of_block block) parts.0 in
     let instructions = instructions_of (program_lines body) in
     let are = programs-are (program_lines body) parts.1 (program-lines body lines) in
     let file = executable-parts instructions (exec_path (codes "exec" ∷ others)) made.its_entry made.found in
     let encodes = exec-encodes others file.0 instructions (decimal (length instructions)) file.1 (omega (arith, are.0)) refl in
-    let right : IsRightInit made.its_entry = subst IsRightInit file.2 (λ same. (ended instructions, are.1.0, ap (λ p. make p (file_node true (ended instructions))) same, are.1.1)) in
-    let rest = listing blocks later made.after (ap (faults_from blocks) (sym made.left) ∙ parts.2) (n + 1 + length instructions) in
+    let right : IsValidInit made.its_entry = subst IsValidInit file.2 (λ same. (ended instructions, are.1.0, ap (λ p. make p (file_node true (ended instructions))) same, are.1.1)) in
+    let rest = listing blocks later made.after (ap (errors_from blocks) (sym made.left) ∙ parts.2) (n + 1 + length instructions) in
     onto-listing (has_schedule blocks) m n t made.after _ instructions (flat_map written_lines blocks) made.its_entry
     (subst (λ e. EncodesEntry (spaced (with_last_word (decimal (length instructions)) (codes "exec" ∷ others))) instructions e) file.2 encodes) made.made right rest
 listing _ (so_many m others body blocks own lines counts later) t none n =
     let block = taken m (codes "exec" ∷ others) body in
-    let parts = reported_split block (judged_block (known t) block) (faults_from blocks) none in
+    let parts = reported_split block (checked_block (known t) block) (errors_from blocks) none in
     let made = entry-made t m true (entry_of_block block) parts.0 in
     let taken_ = bytes_of_lines body in
     let few = taken-parts (nat_le (length body) 9999) (executable taken_ (exec_path (codes "exec" ∷ others))) made.its_entry made.found in
@@ -494,14 +494,14 @@ listing _ (so_many m others body blocks own lines counts later) t none n =
     Decimal-encoded (length body) (last_word (codes "exec" ∷ others)) (Decimal-decimal_of (last_word (codes "exec" ∷ others)) (length body) counts) (omega (arith, size, small)) ∙ ap decimal (sym size) in
     let whole : with_last_word (last_word (codes "exec" ∷ others)) (codes "exec" ∷ others) ≡ codes "exec" ∷ others = same_last (codes "exec" ∷ others) in
     let encodes = exec-encodes others file.0 taken_ (last_word (codes "exec" ∷ others)) file.1 small count in
-    let right : IsRightInit made.its_entry = subst IsRightInit file.2 (init-taken others file.0 body lines file.1 parts.1) in
-    let rest = listing blocks later made.after (ap (faults_from blocks) (sym made.left) ∙ parts.2) (n + 1 + length taken_) in
+    let right : IsValidInit made.its_entry = subst IsValidInit file.2 (init-taken others file.0 body lines file.1 parts.1) in
+    let rest = listing blocks later made.after (ap (errors_from blocks) (sym made.left) ∙ parts.2) (n + 1 + length taken_) in
     onto-listing (has_schedule blocks) m n t made.after (spaced (codes "exec" ∷ others)) taken_ (flat_map written_lines blocks) made.its_entry
     (subst (λ e. EncodesEntry (spaced (codes "exec" ∷ others)) taken_ e) file.2 (subst (λ ws. EncodesEntry (spaced ws) taken_ (make file.0 (file_node true (ended taken_)))) whole encodes)) made.made right rest
 listing _ (unended m) t none n = cc
 listing _ (then_turns m others body own lines) t none n =
     let block = schedule m (codes "schedule" ∷ others) body in
-    let parts = reported_split block (judged_block (known t) block) (faults_from []) none in
+    let parts = reported_split block (checked_block (known t) block) (errors_from []) none in
     let alone : others ≡ [] = only_word others parts.0 in
     let turns_ = turns-are (lines_that_count body) parts.1 in
     let following = map (λ line. spaced line.1) (lines_that_count body) in

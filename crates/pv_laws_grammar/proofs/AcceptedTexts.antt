@@ -15,7 +15,7 @@ use Rattle.pv_model.specs.declared.fault.ScheduleFault.TheVariants.{Line as Turn
 use Rattle.pv_model.specs.declared.fault.What.{What}
 use Rattle.pv_model.specs.declared.fault.What.TheVariants.{TooMany}
 use Rattle.pv_model.specs.declared.instruction.Instruction.{Instruction}
-use Rattle.pv_model.specs.Machine.{counted_from, spaced, Bytes, is_empty, text_at, EncodesManifest, instruction_of, lines_of, decimal_of, Listed, Manifest, is_manifest_path, path_of, entry_of, sizes_of, data_blocks, add_entry, add_entries, read_manifest, read_bundle, read_program, EncodesText, ended, Entry, make, further_name, empty_tree, Program, Schedule, Tree, directory_node, file_node, link_node, Block, single, taken, blocks_from, blocks_of, faults_of_blocks, read_source, reported_if, taken_lines, instructions_of, invalid_lines, program_faults, NumberedLine, NumberedWords, words_of, lines_that_count, written_lines, text_of_blocks}
+use Rattle.pv_model.specs.Machine.{counted_from, spaced, Bytes, is_empty, text_at, EncodesManifest, instruction_of, lines_of, decimal_of, Listed, Manifest, is_manifest_path, path_of, entry_of, sizes_of, data_blocks, add_entry, add_entries, read_manifest, read_bundle, read_program, EncodesText, ended, Entry, make, further_name, empty_tree, Program, Schedule, Tree, directory_node, file_node, link_node, Block, single, taken, blocks_from, blocks_of, errors_of_blocks, read_source, reported_if, taken_lines, instructions_of, invalid_lines, program_errors, NumberedLine, NumberedWords, words_of, lines_that_count, written_lines, text_of_blocks}
 use Rattle.pv_model.specs.Grammar.Arguments.{if_last, without_front}
 use Rattle.pv_model.specs.Grammar.Entries.{EncodesEntry, of_directory, of_file, of_program, of_link, of_name, Lists, at_end, at_schedule, entry, EncodesSizes}
 use Rattle.pv_model.specs.Grammar.Lines.{is_digit}
@@ -31,9 +31,9 @@ use Rattle.pv_laws_grammar.proofs.QuotedTexts.{reads_text}
 use Rattle.pv_laws_grammar.proofs.TextLines.{lines_from_relation}
 use Rattle.pv_laws_grammar.proofs.ManifestParsing.{EncodesManifest-whole, are_sizes_again}
 use Rattle.pv_laws_grammar.proofs.ScheduleParsing.{EncodesTurn-turn_of}
-use Rattle.pv_laws_grammar.specs.Accepted.{IsRightInit, IsRight, IsAcceptedText, HasLineEnds}
+use Rattle.pv_laws_grammar.specs.Accepted.{IsValidInit, AreValidEntries, IsAcceptedText, HasLineEnds}
 use Rattle.pv_model.specs.Source.Blocks.{if_letters, mark_of, exec_by, or_cut_off, blocks_at}
-use Rattle.pv_model.specs.Source.Judged.{second_text, exec_path, executable, entry_of_block, is_init, invalid_turn, invalid_turns, faults_in, Judgement, image_so_far, judged_first, made_or_reported, or_reported, with_entry_of, judged_block, reported_of, faults_from, or_faults}
+use Rattle.pv_model.specs.Source.Judged.{second_text, exec_path, executable, entry_of_block, is_init, invalid_turn, invalid_turns, errors_in, Judgement, image_so_far, checked_first, made_or_reported, or_reported, with_entry_of, checked_block, reported_of, errors_from, or_errors}
 use Rattle.pv_model.specs.Source.Programs.{is_invalid}
 use Rattle.pv_model.specs.Source.Written.{bytes_of_lines}
 use Rattle.pv_laws_grammar.proofs.AcceptedBlocks.{known, added-any, Turns}
@@ -165,8 +165,8 @@ taken-count : (m : ℕ) (lines : List Bytes) → length (instructions_of (taken_
 taken-count m [] = refl
 taken-count m (line ∷ lines) = ap suc (taken-count (m + 1) lines)
 
-right-program : (lines : List Bytes) (m : ℕ) (p : Program) → AreLines lines → read_program (ended lines) ≡ Ok p → program_faults (taken_lines (counted_from m lines)) ≡ []
-unfolding program_faults read_program
+right-program : (lines : List Bytes) (m : ℕ) (p : Program) → AreLines lines → read_program (ended lines) ≡ Ok p → program_errors (taken_lines (counted_from m lines)) ≡ []
+unfolding program_errors read_program
 right-program lines m p are is =
     ap (λ k. invalid_lines k [] 0 (taken_lines (counted_from m lines))) (taken-count m lines)
     ∙ right-lines lines (length lines) 0 m p (sym (ap (λ ls. program_from (instruction_of (min (length ls) 256)) ls 1) (lines_again lines are)) ∙ is)
@@ -174,13 +174,13 @@ right-program lines m p are is =
 -- ---- one block
 
 record Again (blocks : List Block) (t : Tree) (lines : List Bytes) : Type 0 where
-  right : faults_from blocks (known t) ≡ []
+  right : errors_from blocks (known t) ≡ []
   written : flat_map written_lines blocks ≡ lines
 
-block-again : (b : Block) (blocks : List Block) (t after : Tree) (line : Bytes) (body rest : List Bytes) → judged_block (known t) b ≡ (false, known after) → faults_in b ≡ [] → written_lines b ≡ line ∷ body → Again blocks after rest
+block-again : (b : Block) (blocks : List Block) (t after : Tree) (line : Bytes) (body rest : List Bytes) → checked_block (known t) b ≡ (false, known after) → errors_in b ≡ [] → written_lines b ≡ line ∷ body → Again blocks after rest
     → Again (b ∷ blocks) t (line ∷ body ++ rest)
 block-again b blocks t after line body rest judged none written_ later = record {
-  right = ap (λ j. reported_of b j (faults_from blocks)) judged ∙ ap (λ ls. ls ++ faults_from blocks (known after)) none ∙ later.right;
+  right = ap (λ j. reported_of b j (errors_from blocks)) judged ∙ ap (λ ls. ls ++ errors_from blocks (known after)) none ∙ later.right;
   written = ap (λ ls. ls ++ flat_map written_lines blocks) written_ ∙ ap (λ ls. (line ∷ body) ++ ls) later.written;
 }
 
@@ -198,7 +198,7 @@ unfolding entry_of_block
 single-entry k words line e is encodes = ap (λ l. option_map (λ (taking : Taking). taking.0) (entry_of l [])) is ∙ ap (option_map (λ (taking : Taking). taking.0)) (entry_again line [] e encodes [])
 
 -- an entry that is not an executable file is not `/init`
-not_init : (e : Entry) → IsRightInit e → ((bytes : Bytes) → e ≢ make (codes "/init") (file_node true bytes)) → is_init (Some (path_of e)) ≡ false
+not_init : (e : Entry) → IsValidInit e → ((bytes : Bytes) → e ≢ make (codes "/init") (file_node true bytes)) → is_init (Some (path_of e)) ≡ false
 not_init e right other = false_from_ne_true (bytes_eq (path_of e) (codes "/init")) (λ is. let r = right ((bytes_eq-Decides (path_of e) (codes "/init")).0 is) in other r.0 r.2)
 
 module _ (k : ℕ) (line : Bytes) (rest : List Bytes) (e : Entry) (t after : Tree) (made : add_entry k t e ≡ Ok after) (init : is_init (Some (path_of e)) ≡ false) (encodes : EncodesEntry line [] e)
@@ -227,7 +227,7 @@ no-mark n word encodes = by word (digits_all n word encodes)
         ap (λ t. if_letters (cond t (without_front (60 ∷ []) w) None)) other
 
 module _ (k : ℕ) (path word : Bytes) (body rest : List Bytes) (t after : Tree) (few : length body ≤ 9999) (encodes : EncodesText path word) (is_path : is_manifest_path path ≡ true)
-    (made : add_entry k t (make path (file_node true (ended body))) ≡ Ok after) (right : IsRightInit (make path (file_node true (ended body)))) (are : AreLines body)
+    (made : add_entry k t (make path (file_node true (ended body))) ≡ Ok after) (right : IsValidInit (make path (file_node true (ended body)))) (are : AreLines body)
     (later : Again (blocks_from (counted_from (k + 1 + length body) rest) 0) after rest) where
   abbrev count : Bytes
   count = decimal (length body)
@@ -276,10 +276,10 @@ module _ (k : ℕ) (path word : Bytes) (body rest : List Bytes) (t after : Tree)
       ap (λ b. cond b (executable (bytes_of_lines its_lines) (exec_path exec_words)) None) enough ∙ ap (executable (bytes_of_lines its_lines)) path_is
       ∙ ap (λ ls. Some (make path (file_node true (ended ls)))) (bytes-counted (k + 1) body)
 
-  exec-right : faults_in (taken k exec_words its_lines) ≡ []
-  exec-right = ap (λ o. cond (is_init o) (program_faults (taken_lines its_lines)) []) exec-text ∙ by (bytes_eq path (codes "/init")) refl
+  exec-right : errors_in (taken k exec_words its_lines) ≡ []
+  exec-right = ap (λ o. cond (is_init o) (program_errors (taken_lines its_lines)) []) exec-text ∙ by (bytes_eq path (codes "/init")) refl
     where
-      by : (b : Bool) → bytes_eq path (codes "/init") ≡ b → cond b (program_faults (taken_lines its_lines)) [] ≡ []
+      by : (b : Bool) → bytes_eq path (codes "/init") ≡ b → cond b (program_errors (taken_lines its_lines)) [] ≡ []
       by false is = refl
       by true is =
           let r = right ((bytes_eq-Decides path (codes "/init")).0 is) in
@@ -305,7 +305,7 @@ lines-second : (body rest : List Bytes) → AreLines (body ++ rest) → AreLines
 lines-second [] rest all = all
 lines-second (l ∷ body) rest all = lines-second body rest all.1
 
-again : (in_bundle : Bool) (n : ℕ) (lines : List Bytes) (listed : Listed) → Lists in_bundle n lines listed → (t tree : Tree) → add_entries listed.entries t ≡ Ok tree → AllByRecursion (λ e. IsRightInit e.1) listed.entries
+again : (in_bundle : Bool) (n : ℕ) (lines : List Bytes) (listed : Listed) → Lists in_bundle n lines listed → (t tree : Tree) → add_entries listed.entries t ≡ Ok tree → AllByRecursion (λ e. IsValidInit e.1) listed.entries
     → Turns in_bundle listed.following → AreLines lines → (k : ℕ) → Again (blocks_from (counted_from k lines) 0) t lines
 unfolding words_of
 again in_bundle _ _ _ (at_end n is) t tree made init turns are k = record { right = refl; written = refl }
@@ -350,7 +350,7 @@ again in_bundle _ _ _ (entry n _ _ rest _ others (of_name path word source other
     (subst (λ l. LineWords l (codes "name" ∷ word ∷ other ∷ [])) (sym (grouped (codes "name ") word other))
     (line-of-three (codes "name") word other (named-word 110 (97 ∷ 109 ∷ 101 ∷ []) (omega arith, (omega arith, (omega arith, (omega arith, tt))))) (text-word path word h.1) (text-word source other g.1))) refl
 
--- ---- whole texts
+-- ---- complete texts
 
 image-words : (line : Bytes) (blocks inodes : ℕ) → EncodesSizes line blocks inodes → (word other : Bytes) × LineWords line (codes "image" ∷ word ∷ other ∷ [])
 image-words line blocks inodes encodes = (
@@ -361,8 +361,8 @@ image-words line blocks inodes encodes = (
       (decimal-word blocks encodes.0 encodes.2) (decimal-word inodes encodes.1 encodes.3)),
 )
 
-read-again : (text : Bytes) (in_bundle : Bool) (m : Manifest) → EncodesManifest in_bundle text m → IsRight m → Turns in_bundle m.listed.following → HasLineEnds text → read_source text ≡ Ok text
-unfolding read_source blocks_of faults_of_blocks text_of_blocks
+read-again : (text : Bytes) (in_bundle : Bool) (m : Manifest) → EncodesManifest in_bundle text m → AreValidEntries m → Turns in_bundle m.listed.following → HasLineEnds text → read_source text ≡ Ok text
+unfolding read_source blocks_of errors_of_blocks text_of_blocks
 read-again text in_bundle m encodes right turns whole =
     let form = encodes.0 in
     let first = form.0 in
@@ -376,11 +376,11 @@ read-again text in_bundle m encodes right turns whole =
     let blocks : blocks_of text ≡ single 1 words ∷ after =
     ap (λ ls. blocks_from (counted_from 1 ls) 0) lines ∙ ap (λ ws. blocks_at 1 ws (counted_from 2 rest) (blocks_from (counted_from 2 rest))) image.2.reads in
     let sizes : sizes_of (spaced words) ≡ Some (m.blocks, m.inodes) = ap sizes_of image.2.spaced_is ∙ sizes_of-EncodesSizes first m.blocks m.inodes form.3 in
-    let judged : judged_first (single 1 words) ≡ (false, known empty) = ap image_so_far sizes ∙ ap (λ (b : Bool). cond {A = Judgement} b (false, known empty) (true, record { tree = None; lacked_room = false })) (are_sizes_again m.blocks m.inodes encodes.1) in
-    let faults : faults_of_blocks (suc (length (lines_of text))) (single 1 words ∷ after) ≡ [] = ap (λ j. reported_of (single 1 words) j (faults_from after)) judged ∙ all.right in
+    let judged : checked_first (single 1 words) ≡ (false, known empty) = ap image_so_far sizes ∙ ap (λ (b : Bool). cond {A = Judgement} b (false, known empty) (true, record { tree = None; lacked_room = false })) (are_sizes_again m.blocks m.inodes encodes.1) in
+    let faults : errors_of_blocks (suc (length (lines_of text))) (single 1 words ∷ after) ≡ [] = ap (λ j. reported_of (single 1 words) j (errors_from after)) judged ∙ all.right in
     let written_ : text_of_blocks (single 1 words ∷ after) ≡ text =
     ap (λ l. ended (l ∷ flat_map written_lines after)) image.2.spaced_is ∙ ap (λ ls. ended (first ∷ ls)) all.written ∙ ap ended (sym lines) ∙ sym whole in
-    ap (λ bs. or_faults bs (take 20 (faults_of_blocks (suc (length (lines_of text))) bs))) blocks ∙ ap (λ ls. or_faults (single 1 words ∷ after) (take 20 ls)) faults ∙ ap (λ (bs : Bytes). Ok bs) written_
+    ap (λ bs. or_errors bs (take 20 (errors_of_blocks (suc (length (lines_of text))) bs))) blocks ∙ ap (λ ls. or_errors (single 1 words ∷ after) (take 20 ls)) faults ∙ ap (λ (bs : Bytes). Ok bs) written_
 
 pub appears-for-itself : (text : Bytes) → IsAcceptedText text → HasLineEnds text → read_source text ≡ Ok text
 unfolding read_manifest read_bundle

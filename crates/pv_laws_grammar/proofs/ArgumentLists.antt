@@ -4,7 +4,7 @@ use Rattle.std.specs.Prelude.{option_map, option_and_then}
 use Rattle.std.proofs.lemmas.Bool.{cond_both}
 use Rattle.std.proofs.lemmas.Option.{same_Some}
 use Rattle.pv_model.specs.Machine.{Bytes, is_empty, Parsed, one_argument, two_arguments}
-use Rattle.pv_model.specs.Grammar.Arguments.{argument, if_last, no_argument, and_one, and_two, three_arguments}
+use Rattle.pv_model.specs.Grammar.Arguments.{argument, if_last, no_argument, and_argument, and_two, three_arguments}
 use Rattle.pv_model.specs.Grammar.Forms.{Argument, Encodes, EncodesArguments, IsAfterWord}
 use Rattle.pv_laws_grammar.proofs.SingleWords.{mapped_found}
 use Rattle.pv_laws_grammar.proofs.ParserCorrectness.{Reads}
@@ -60,7 +60,7 @@ module _ (lines : ℕ) where
     one_again a bytes h = ap if_last (first_again a [] bytes h) ∙ ap (λ r. if_last (Some (a, r))) h.3
 
   module _ {A B : Type 0} (at : Bytes → Parsed A) (sort : A → Argument) (reads : ReadsAs at sort) (next : Bytes → Parsed B) (next_sort : B → Argument) (next_reads : ReadsAs next next_sort) where
-    and_one_found : (p : Parsed A) (pair : A × B) → and_one next p ≡ Some pair → (rest : Bytes) × (p ≡ Some (pair.0, rest)) × (one_argument next rest ≡ Some pair.1)
+    and_one_found : (p : Parsed A) (pair : A × B) → and_argument next p ≡ Some pair → (rest : Bytes) × (p ≡ Some (pair.0, rest)) × (one_argument next rest ≡ Some pair.1)
     and_one_found None pair e = absurd (cc)
     and_one_found (Some p) pair e =
         let b = mapped_found (λ x. (p.0, x)) (one_argument next p.1) pair e in
@@ -74,7 +74,7 @@ module _ (lines : ℕ) where
 
     pub two_again : (a : A) (b : B) (bytes : Bytes) → EncodesArguments lines (sort a ∷ next_sort b ∷ []) bytes → two_arguments at next bytes ≡ Some (a, b)
     two_again a b bytes h =
-        ap (and_one next) (first_again at sort reads a (next_sort b ∷ []) bytes h)
+        ap (and_argument next) (first_again at sort reads a (next_sort b ∷ []) bytes h)
         ∙ ap (option_map (λ x. (a, x))) (one_again next next_sort next_reads b h.1 h.3)
 
   module _ {A B C : Type 0} (at : Bytes → Parsed A) (sort : A → Argument) (reads : ReadsAs at sort) (next : Bytes → Parsed B) (next_sort : B → Argument) (next_reads : ReadsAs next next_sort)

@@ -10,7 +10,7 @@ use Rattle.std.proofs.lemmas.Slice.Eq.{bytes_eq-Decides}
 use Rattle.pv_model.specs.Machine.{Bytes, is_empty, word_at, text_at, one_argument, two_arguments, decimal_of, is_manifest_path, with_line_end, entry_of, sizes_of, EncodesText, ended, Entry, make, further_name, directory_node, file_node, link_node, is_link_text}
 use Rattle.pv_model.specs.Grammar.Entries.{EncodesEntry, of_directory, of_file, of_program, of_link, of_name, EncodesSizes}
 use Rattle.pv_model.specs.Grammar.Lines.{word_of, after_word}
-use Rattle.pv_model.specs.Grammar.Manifests.{Taking, directory_line, file_line, program_line, link_line, name_line, entry_by}
+use Rattle.pv_model.specs.Grammar.Manifests.{Taking, directory_line, file_line, executable_line, link_line, name_line, entry_by}
 use Rattle.pv_model.specs.Grammar.Encoding.{Decimal, EncodesBytes, nothing, plain, escaped}
 use Rattle.pv_laws_grammar.proofs.Decimals.{Decimal-decimal_of, decimal_of-Decimal, Decimal-decimal, Decimal-encoded, no_space-Decimal}
 use Rattle.pv_laws_grammar.proofs.EntryPaths.{IsEntryPath-from_test, is_manifest_path-IsEntryPath}
@@ -121,7 +121,7 @@ module _ (line : Bytes) (lines : List Bytes) where
       (alone (codes "bytes " ++ words.0 ++ codes " " ++ words.1) (make p.0 (file_node false p.1)) words.4
       (of_file p.0 words.0 p.1 words.1 (IsEntryPath-from_test p.0 found.0, words.2) words.3))
 
-  program_sound : (o : Option (Bytes × ℕ)) → two_arguments text_at (word_at decimal_of) (after_word line) ≡ o → codes "exec" ≡ word_of line → Sound (program_line lines o)
+  program_sound : (o : Option (Bytes × ℕ)) → two_arguments text_at (word_at decimal_of) (after_word line) ≡ o → codes "exec" ≡ word_of line → Sound (executable_line lines o)
   program_sound None is name t e = absurd (cc)
   program_sound (Some p) is name t e =
       let found = cond_some (is_manifest_path p.0 && nat_le p.1 9999 && nat_le p.1 (length lines)) (make p.0 (file_node true (flat_map with_line_end (take p.1 lines))), p.1) t e in
@@ -174,7 +174,7 @@ module _ (line : Bytes) (lines : List Bytes) where
   entry_found =
       step (codes "dir") (directory_line (one_argument text_at (after_word line))) _ (directory_sound (one_argument text_at (after_word line)) refl)
       (step (codes "bytes") (file_line (two_arguments text_at text_at (after_word line))) _ (file_sound (two_arguments text_at text_at (after_word line)) refl)
-      (step (codes "exec") (program_line lines (two_arguments text_at (word_at decimal_of) (after_word line))) _ (program_sound (two_arguments text_at (word_at decimal_of) (after_word line)) refl)
+      (step (codes "exec") (executable_line lines (two_arguments text_at (word_at decimal_of) (after_word line))) _ (program_sound (two_arguments text_at (word_at decimal_of) (after_word line)) refl)
       (step (codes "link") (link_line (two_arguments text_at text_at (after_word line))) _ (link_sound (two_arguments text_at text_at (after_word line)) refl)
       (step (codes "name") (name_line (two_arguments text_at text_at (after_word line))) None (name_sound (two_arguments text_at text_at (after_word line)) refl)
       (λ t e. absurd (cc))))))
@@ -204,7 +204,7 @@ entry_again _ _ _ (of_file path word contents other h k) following =
 entry_again _ _ _ (of_program path word body h few) following =
     let lines : List Bytes = body ++ following in
     ap (λ l. entry_of l lines) (grouped (codes "exec ") word (decimal (length body)))
-    ∙ ap (program_line lines) (two_words_again text_at EncodesText reads_text (word_at decimal_of) Decimal decimal_at path (length body) word (decimal (length body)) h.1 (Decimal-decimal (length body) (omega arith)))
+    ∙ ap (executable_line lines) (two_words_again text_at EncodesText reads_text (word_at decimal_of) Decimal decimal_at path (length body) word (decimal (length body)) h.1 (Decimal-decimal (length body) (omega arith)))
     ∙ cond-true (is_manifest_path path && nat_le (length body) 9999 && nat_le (length body) (length lines)) (Some (make path (file_node true (flat_map with_line_end (take (length body) lines))), length body)) None
     (and_from (is_manifest_path path && nat_le (length body) 9999) (nat_le (length body) (length lines))
     (and_from (is_manifest_path path) (nat_le (length body) 9999) (is_manifest_path-IsEntryPath path h.0) (le-leb (length body) 9999 few))

@@ -6,17 +6,17 @@ use Rattle.std.specs.List.{cons_option, list_all}
 use Rattle.std.proofs.Math.Seq.{take-append_seam, drop-append_seam}
 use Rattle.std.proofs.lemmas.Bool.{and_parts}
 use Rattle.std.proofs.lemmas.List.{length-append}
-use Rattle.pv_model.specs.Machine.{counted_from, spaced, Bytes, is_empty, onto_first, decimal_of, lines_of, data_blocks, sizes_of, ended, Entry, empty_tree, Tree, Block, single, taken, blocks_from, blocks_of, faults_of_blocks, read_source, LabelledLine, instruction_text, instructions_of, invalid_lines, labelled_lines, labels_from, program_faults, program_line_of, program_lines, reported_if, taken_lines, NumberedLine, NumberedWords, between, last_word, lines_that_count, words_from, words_of, text_of_blocks, written_lines}
+use Rattle.pv_model.specs.Machine.{counted_from, spaced, Bytes, is_empty, onto_first, decimal_of, lines_of, data_blocks, sizes_of, ended, Entry, empty_tree, Tree, Block, single, taken, blocks_from, blocks_of, errors_of_blocks, read_source, LabelledLine, instruction_text, instructions_of, invalid_lines, labelled_lines, labels_from, program_errors, program_line_of, program_lines, reported_if, taken_lines, NumberedLine, NumberedWords, between, last_word, lines_that_count, words_from, words_of, text_of_blocks, written_lines}
 use Rattle.pv_model.specs.Grammar.Manifests.{are_sizes}
 use Rattle.pv_model.specs.Source.Blocks.{program, cut_off, schedule, mark_of, lines_up_to, exec_block, exec_by, or_cut_off, blocks_at}
-use Rattle.pv_model.specs.Source.Judged.{Judgement, TreeSoFar, entry_of_block, executable, exec_path, faults_from, faults_in, image_so_far, invalid_turn, invalid_turns, is_init, judged_block, judged_first, or_faults, reported_of, second_text, with_entry_of}
+use Rattle.pv_model.specs.Source.Judged.{Judgement, TreeSoFar, entry_of_block, executable, exec_path, errors_from, errors_in, image_so_far, invalid_turn, invalid_turns, is_init, checked_block, checked_first, or_errors, reported_of, second_text, with_entry_of}
 use Rattle.pv_model.specs.Source.Programs.{ProgramLine, after_label, and_label, count_instruction, count_words, is_invalid, is_set_in, label_of, labelled_words, onto_labels, or_exit, with_exit}
 use Rattle.pv_model.specs.Source.Words.{before_last, begun, is_alone, is_blank, without_return}
 use Rattle.pv_model.specs.Source.Written.{bytes_of_lines, counted_program}
-use Rattle.pv_laws_grammar.specs.Comments.{AreBefore, HaveSameCode, code_of, no_line, left_out, added, single as single_line, counted, marked, uncounted, scheduled}
+use Rattle.pv_laws_grammar.specs.Comments.{AreBefore, HaveSameCode, code_of, no_line, left_out, added, same_line as single_line, counted, marked, uncounted, scheduled}
 use Rattle.pv_laws_grammar.proofs.AcceptedTexts.{blocks_skip, bytes-counted, counted-append, judged-again, length-counted, no-mark}
 use Rattle.pv_laws_grammar.proofs.AcceptedBlocks.{added-any, entry-made, known, reported_split, length-bytes}
-use Rattle.pv_laws_grammar.proofs.AcceptedSources.{faults-parts}
+use Rattle.pv_laws_grammar.proofs.AcceptedSources.{errors-parts}
 use Rattle.pv_laws_grammar.proofs.Decimals.{Decimal-decimal, decimal_of-Decimal}
 
 -- ---- lists of words, each with any number
@@ -119,9 +119,9 @@ invalid-alike count names before (l ∷ ls) (k ∷ ks) same none =
 invalid-alike count names before [] (k ∷ ks) same none = absurd same
 invalid-alike count names before (l ∷ ls) [] same none = absurd same
 
-faults-alike : (ls ks : List ProgramLine) → SameInstructions ls ks → program_faults ls ≡ [] → program_faults ks ≡ []
-unfolding program_faults
-faults-alike ls ks same none =
+errors-same : (ls ks : List ProgramLine) → SameInstructions ls ks → program_errors ls ≡ [] → program_errors ks ≡ []
+unfolding program_errors
+errors-same ls ks same none =
     invalid-alike (length (instructions_of ks)) [] 0 ls ks same (ap (λ (is : List Bytes). invalid_lines (length is) [] 0 ls) (sym (instructions-alike ls ks same)) ∙ none)
 
 taken-alike : (body preserved : List NumberedLine) → bytes_of_lines body ≡ bytes_of_lines preserved → SameInstructions (taken_lines body) (taken_lines preserved)
@@ -159,7 +159,7 @@ data SameBlock : Block → Block → Type 0 where
   same_program : (n m : ℕ) (words : List Bytes) (body preserved : List NumberedLine) → words_in (lines_that_count body) ≡ words_in (lines_that_count preserved) → SameBlock (program n words body) (program m words preserved)
   same_taken : (n m : ℕ) (words : List Bytes) (body preserved : List NumberedLine) → bytes_of_lines body ≡ bytes_of_lines preserved → SameBlock (taken n words body) (taken m words preserved)
   same_schedule : (n m : ℕ) (words : List Bytes) (body preserved : List NumberedLine) → words_in (lines_that_count body) ≡ words_in (lines_that_count preserved) → SameBlock (schedule n words body) (schedule m words preserved)
-  same_uncounted : (n m : ℕ) (text word : Bytes) (preserved body : List NumberedLine) → bytes_of_lines preserved ≡ instructions_of (program_lines body) → program_faults (program_lines body) ≡ [] → length preserved ≤ 9999
+  same_uncounted : (n m : ℕ) (text word : Bytes) (preserved body : List NumberedLine) → bytes_of_lines preserved ≡ instructions_of (program_lines body) → program_errors (program_lines body) ≡ [] → length preserved ≤ 9999
       → SameBlock (taken n (codes "exec" ∷ text ∷ decimal (length (instructions_of (program_lines body))) ∷ []) preserved) (program m (codes "exec" ∷ text ∷ word ∷ []) body)
 
 data SameBlocks : List Block → List Block → Type 0 where
@@ -179,13 +179,13 @@ all-written : (bs cs : List Block) → SameBlocks bs cs → flat_map written_lin
 all-written _ _ no_block = refl
 all-written _ _ (onto b c bs cs same others) = ap₂ (λ (ls ks : List Bytes). ls ++ ks) (written-alike b c same) (all-written bs cs others)
 
-inside-alike : (b c : Block) → SameBlock b c → faults_in b ≡ [] → faults_in c ≡ []
+inside-alike : (b c : Block) → SameBlock b c → errors_in b ≡ [] → errors_in c ≡ []
 inside-alike _ _ (same_single n m words) none = refl
-inside-alike _ _ (same_program n m words body preserved same) none = faults-alike (program_lines body) (program_lines preserved) (program-alike body preserved same) none
+inside-alike _ _ (same_program n m words body preserved same) none = errors-same (program_lines body) (program_lines preserved) (program-alike body preserved same) none
 inside-alike _ _ (same_taken n m words body preserved same) none = by (is_init (second_text words)) none
   where
-    by : (b : Bool) → cond b (program_faults (taken_lines body)) [] ≡ [] → cond b (program_faults (taken_lines preserved)) [] ≡ []
-    by true none = faults-alike (taken_lines body) (taken_lines preserved) (taken-alike body preserved same) none
+    by : (b : Bool) → cond b (program_errors (taken_lines body)) [] ≡ [] → cond b (program_errors (taken_lines preserved)) [] ≡ []
+    by true none = errors-same (taken_lines body) (taken_lines preserved) (taken-alike body preserved same) none
     by false none = refl
 inside-alike _ _ (same_schedule n m words body preserved same) none = turns-alike 0 (lines_that_count body) (lines_that_count preserved) same none
 inside-alike _ _ (same_uncounted n m text word preserved body same right few) none = right
@@ -211,18 +211,18 @@ made-alike t n m x o p same right =
       judged-again m x p made.its_entry t made.after (sym same ∙ made.found) (added-any n m t made.its_entry made.after made.made) made.init,
     )
 
-blocks-alike : (bs cs : List Block) → SameBlocks bs cs → (t : Tree) → faults_from bs (known t) ≡ [] → faults_from cs (known t) ≡ []
+blocks-alike : (bs cs : List Block) → SameBlocks bs cs → (t : Tree) → errors_from bs (known t) ≡ [] → errors_from cs (known t) ≡ []
 blocks-alike _ _ no_block t none = refl
-blocks-alike _ _ (onto b c bs cs same others) t none = by b c same (reported_split b (judged_block (known t) b) (faults_from bs) none) (λ u. blocks-alike bs cs others u)
+blocks-alike _ _ (onto b c bs cs same others) t none = by b c same (reported_split b (checked_block (known t) b) (errors_from bs) none) (λ u. blocks-alike bs cs others u)
   where
-    there : (u : Tree) (b c : Block) → SameBlock b c → judged_block (known t) b ≡ (false, known u) → judged_block (known t) c ≡ (false, known u) → faults_in b ≡ [] → faults_from bs (judged_block (known t) b).1 ≡ []
-        → (faults_from bs (known u) ≡ [] → faults_from cs (known u) ≡ []) → faults_from (c ∷ cs) (known t) ≡ []
+    there : (u : Tree) (b c : Block) → SameBlock b c → checked_block (known t) b ≡ (false, known u) → checked_block (known t) c ≡ (false, known u) → errors_in b ≡ [] → errors_from bs (checked_block (known t) b).1 ≡ []
+        → (errors_from bs (known u) ≡ [] → errors_from cs (known u) ≡ []) → errors_from (c ∷ cs) (known t) ≡ []
     there u b c same left right inside rest later =
-        ap (λ j. reported_of c j (faults_from cs)) right ∙ ap (λ (ns : List ℕ). ns ++ faults_from cs (known u)) (inside-alike b c same inside)
-        ∙ later (ap (λ (j : Judgement). faults_from bs j.1) (sym left) ∙ rest)
+        ap (λ j. reported_of c j (errors_from cs)) right ∙ ap (λ (ns : List ℕ). ns ++ errors_from cs (known u)) (inside-alike b c same inside)
+        ∙ later (ap (λ (j : Judgement). errors_from bs j.1) (sym left) ∙ rest)
 
-    by : (b c : Block) → SameBlock b c → ((judged_block (known t) b).0 ≡ false) × (faults_in b ≡ []) × (faults_from bs (judged_block (known t) b).1 ≡ [])
-        → ((u : Tree) → faults_from bs (known u) ≡ [] → faults_from cs (known u) ≡ []) → faults_from (c ∷ cs) (known t) ≡ []
+    by : (b c : Block) → SameBlock b c → ((checked_block (known t) b).0 ≡ false) × (errors_in b ≡ []) × (errors_from bs (checked_block (known t) b).1 ≡ [])
+        → ((u : Tree) → errors_from bs (known u) ≡ [] → errors_from cs (known u) ≡ []) → errors_from (c ∷ cs) (known t) ≡ []
     by _ _ (same_single n m words) parts later =
         let made = made-alike t n m false (entry_of_block (single n words)) (entry_of_block (single m words)) (entry-alike (single n words) (single m words) (same_single n m words)) parts.0 in
         there made.0 (single n words) (single m words) (same_single n m words) made.1 made.2 parts.1 parts.2 (later made.0)
@@ -244,7 +244,7 @@ blocks-alike _ _ (onto b c bs cs same others) t none = by b c same (reported_spl
         alone : (b : Bool) → b ≡ false → ◌≡◌ {A = Judgement} (b, known t) (false, known t)
         alone b is = ap (λ (v : Bool). (v, known t)) is
 
--- ---- whole lists of blocks
+-- ---- complete lists of blocks
 
 image-known : (o : Option (ℕ × ℕ)) → (image_so_far o).0 ≡ false → (t : Tree) × ((image_so_far o).1 ≡ known t)
 image-known None right = cc right
@@ -255,30 +255,30 @@ image-known (Some sizes) right = by (are_sizes sizes.0 sizes.1) right
     by true right = (empty_tree (data_blocks sizes.0 sizes.1) sizes.1, refl)
     by false right = cc right
 
-first-known : (b : Block) → (judged_first b).0 ≡ false → (t : Tree) × ((judged_first b).1 ≡ known t)
+first-known : (b : Block) → (checked_first b).0 ≡ false → (t : Tree) × ((checked_first b).1 ≡ known t)
 first-known (single n words) right = image-known (sizes_of (spaced words)) right
 first-known (program n words body) right = cc right
 first-known (taken n words body) right = cc right
 first-known (cut_off n) right = cc right
 first-known (schedule n words body) right = cc right
 
-first-alike : (b c : Block) → SameBlock b c → judged_first b ≡ judged_first c
+first-alike : (b c : Block) → SameBlock b c → checked_first b ≡ checked_first c
 first-alike _ _ (same_single n m words) = refl
 first-alike _ _ (same_program n m words body preserved same) = refl
 first-alike _ _ (same_taken n m words body preserved same) = refl
 first-alike _ _ (same_schedule n m words body preserved same) = refl
 first-alike _ _ (same_uncounted n m text word preserved body same right few) = refl
 
-whole-alike : (last other : ℕ) (bs cs : List Block) → SameBlocks bs cs → faults_of_blocks last bs ≡ [] → faults_of_blocks other cs ≡ []
-unfolding faults_of_blocks
-whole-alike last other _ _ no_block none = cc none
-whole-alike last other _ _ (onto b c bs cs same others) none =
-    let parts = reported_split b (judged_first b) (faults_from bs) none in
+source-same : (last other : ℕ) (bs cs : List Block) → SameBlocks bs cs → errors_of_blocks last bs ≡ [] → errors_of_blocks other cs ≡ []
+unfolding errors_of_blocks
+source-same last other _ _ no_block none = cc none
+source-same last other _ _ (onto b c bs cs same others) none =
+    let parts = reported_split b (checked_first b) (errors_from bs) none in
     let image = first-known b parts.0 in
-    let judged : judged_first c ≡ (false, known image.0) =
+    let judged : checked_first c ≡ (false, known image.0) =
     sym (first-alike b c same) ∙ ap₂ (λ (reported : Bool) (s : TreeSoFar). let it : Judgement = (reported, s) in it) parts.0 image.1 in
-    ap (λ j. reported_of c j (faults_from cs)) judged ∙ ap (λ (ns : List ℕ). ns ++ faults_from cs (known image.0)) (inside-alike b c same parts.1)
-    ∙ blocks-alike bs cs others image.0 (ap (faults_from bs) (sym image.1) ∙ parts.2)
+    ap (λ j. reported_of c j (errors_from cs)) judged ∙ ap (λ (ns : List ℕ). ns ++ errors_from cs (known image.0)) (inside-alike b c same parts.1)
+    ∙ blocks-alike bs cs others image.0 (ap (errors_from bs) (sym image.1) ∙ parts.2)
 
 -- ---- the blocks of lines
 
@@ -392,7 +392,7 @@ code-blocks _ _ (uncounted line other text word mark end preserved body lines ot
     let alike = program-alike (counted_from 1 body) (counted_from (m + 1) body) (code-alike 1 (m + 1) body body refl) in
     let instructions : instructions_of (program_lines (counted_from (m + 1) body)) ≡ preserved =
     sym (instructions-alike (program_lines (counted_from 1 body)) (program_lines (counted_from (m + 1) body)) alike) ∙ program_is.written in
-    let right = faults-alike (program_lines (counted_from 1 body)) (program_lines (counted_from (m + 1) body)) alike program_is.right in
+    let right = errors-same (program_lines (counted_from 1 body)) (program_lines (counted_from (m + 1) body)) alike program_is.right in
     let size = length-counted (n + 1) preserved in
     both-are _ (taken n (codes "exec" ∷ text ∷ decimal (length preserved) ∷ []) (counted_from (n + 1) preserved) ∷ blocks_from (counted_from (n + 1 + length preserved) lines) 0) _
     (program m (codes "exec" ∷ text ∷ word ∷ []) (counted_from (m + 1) body) ∷ blocks_from (counted_from (m + 1 + length body + 1) others) 0)
@@ -414,9 +414,9 @@ pub same-code : (source other text : Bytes) → HaveSameCode (lines_of source) (
 unfolding read_source blocks_of text_of_blocks
 same-code source other text same is =
     let blocks = code-blocks (lines_of source) (lines_of other) same 1 1 in
-    let parts = faults-parts (blocks_of source) (faults_of_blocks (suc (length (lines_of source))) (blocks_of source)) text is in
-    let none = whole-alike (suc (length (lines_of source))) (suc (length (lines_of other))) (blocks_of source) (blocks_of other) blocks parts.0 in
-    ap (λ (faults : List ℕ). or_faults (blocks_of other) (take 20 faults)) none
+    let parts = errors-parts (blocks_of source) (errors_of_blocks (suc (length (lines_of source))) (blocks_of source)) text is in
+    let none = source-same (suc (length (lines_of source))) (suc (length (lines_of other))) (blocks_of source) (blocks_of other) blocks parts.0 in
+    ap (λ (faults : List ℕ). or_errors (blocks_of other) (take 20 faults)) none
     ∙ ap (λ (lines : List Bytes). Ok (ended lines)) (sym (all-written (blocks_of source) (blocks_of other) blocks)) ∙ ap (λ (bytes : Bytes). Ok bytes) parts.1
 
 -- ---- blank lines and comments

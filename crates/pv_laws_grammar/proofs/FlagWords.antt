@@ -8,7 +8,7 @@ use Rattle.pv_model.specs.declared.open_flags.Mode.TheVariants.{Read, Write, Rea
 use Rattle.pv_model.specs.declared.open_flags.OpenFlags.{OpenFlags}
 use Rattle.pv_model.specs.Machine.{Bytes, mode_text, Parsed}
 use Rattle.pv_model.specs.Trace.{flag_text, flags_text}
-use Rattle.pv_model.specs.Grammar.Arguments.{without_front, flag_or_none, flag_at, mode_after_r, mode_at, if_nothing_left, flags_after, flags_of_mode, flags_of}
+use Rattle.pv_model.specs.Grammar.Arguments.{without_front, flag_or_none, flag_at, mode_after_r, mode_at, if_nothing_left, flags_after, flags_of_mode, parsed_flags}
 use Rattle.pv_model.specs.Grammar.Encoding.{EncodesFlags}
 use Rattle.pv_laws_grammar.proofs.FirstWord.{no_space, no_space-append}
 use Rattle.pv_laws_grammar.proofs.ParserCorrectness.{ReadsWord}
@@ -100,8 +100,8 @@ flags_after_found mode word f e =
     ∙ ap (λ r. flag_text close_on_exec.0 (codes "cloexec") ++ r) end.0)))))) in
     (ap (λ h. h.mode) end.1, encoded ∙ ap after_mode end.1)
 
-flags_found : (word : Bytes) (f : OpenFlags) → flags_of word ≡ Some f → EncodesFlags f word
-unfolding flags_of
+flags_found : (word : Bytes) (f : OpenFlags) → parsed_flags word ≡ Some f → EncodesFlags f word
+unfolding parsed_flags
 flags_found word f e = by_mode (mode_at word) refl e
   where
     mode_found : (bs : Bytes) (mode : Mode) (rest : Bytes) → mode_at bs ≡ Some (mode, rest) → bs ≡ mode_text mode ++ rest
@@ -204,10 +204,10 @@ flags_after_again f =
     (flag_again (codes "dir") (after_directory f) f.directory (past_close_on_exec (codes "dir") f refl))
     (flag_again (codes "cloexec") (after_close_on_exec f) f.close_on_exec refl)
 
-flags_again : (f : OpenFlags) (word : Bytes) → EncodesFlags f word → flags_of word ≡ Some f
-unfolding flags_of
+flags_again : (f : OpenFlags) (word : Bytes) → EncodesFlags f word → parsed_flags word ≡ Some f
+unfolding parsed_flags
 flags_again f word h =
-    ap flags_of (h ∙ flags_text-parts f)
+    ap parsed_flags (h ∙ flags_text-parts f)
     ∙ ap flags_of_mode (mode_again f.mode (after_mode f) (after_mode-begins f))
     ∙ flags_after_again f
 
@@ -232,5 +232,5 @@ flags_whole f word h =
     (no_space_flag f.directory (codes "dir") (after_directory f) refl
     (no_space_flag f.close_on_exec (codes "cloexec") [] refl refl)))))))
 
-pub reads_flags : ReadsWord flags_of EncodesFlags
+pub reads_flags : ReadsWord parsed_flags EncodesFlags
 reads_flags = record { found = flags_found; again = flags_again; whole = flags_whole }

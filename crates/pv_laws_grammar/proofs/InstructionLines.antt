@@ -16,7 +16,7 @@ use Rattle.pv_model.specs.declared.instruction.Origin.TheVariants.{WorkingDirect
 use Rattle.pv_model.specs.declared.open_flags.Mode.TheVariants.{Read as ForReading}
 use Rattle.pv_model.specs.declared.open_flags.OpenFlags.{OpenFlags}
 use Rattle.pv_model.specs.Machine.{Bytes, Parsed, text_at, one_argument, two_arguments, instruction_of}
-use Rattle.pv_model.specs.Grammar.Arguments.{text_or_null_at, operand_of, register_of, number_of, whence_of, origin_of, flags_of, operand_at, register_at, number_at, whence_at, origin_at, flags_at, no_argument, three_arguments}
+use Rattle.pv_model.specs.Grammar.Arguments.{text_or_null_at, operand_of, register_of, parsed_number, whence_of, origin_of, parsed_flags, operand_at, register_at, number_at, whence_at, origin_at, flags_at, no_argument, three_arguments}
 use Rattle.pv_model.specs.Grammar.Instructions.{or_argument, buffer_place, line_within, or_target, jump_by, jump_if_by, peek_by, on_registers, on_processes, on_descriptors, on_paths, instruction_by}
 use Rattle.pv_model.specs.Grammar.Lines.{word_of, after_word}
 use Rattle.pv_model.specs.Grammar.Forms.{Argument, operand, register, number, line, text, text_or_null, flags, whence, origin, Form, form_of, EncodesArguments, EncodesLine, IsAfterWord, BeginsWith, Jumping, always, if_zero, if_not_zero, if_negative, jump_form, IsLineOf, HasNoName, JumpsOut, IsInvalid}
@@ -41,7 +41,7 @@ abbrev register_argument : {lines : ℕ} → Shape lines ℕ
 register_argument = record { at = register_at; sort = register; reads = reads_word register_of EncodesRegister reads_register }
 
 abbrev number_argument : {lines : ℕ} → Shape lines ℤ
-number_argument = record { at = number_at; sort = number; reads = reads_word number_of EncodesNumber reads_number }
+number_argument = record { at = number_at; sort = number; reads = reads_word parsed_number EncodesNumber reads_number }
 
 abbrev text_argument : {lines : ℕ} → Shape lines Bytes
 text_argument = record { at = text_at; sort = text; reads = reads_text }
@@ -50,7 +50,7 @@ abbrev text_or_null_argument : {lines : ℕ} → Shape lines (Option Bytes)
 text_or_null_argument = record { at = text_or_null_at; sort = text_or_null; reads = reads_text_or_null }
 
 abbrev flags_argument : {lines : ℕ} → Shape lines OpenFlags
-flags_argument = record { at = flags_at; sort = flags; reads = reads_word flags_of EncodesFlags reads_flags }
+flags_argument = record { at = flags_at; sort = flags; reads = reads_word parsed_flags EncodesFlags reads_flags }
 
 abbrev whence_argument : {lines : ℕ} → Shape lines Whence
 whence_argument = record { at = whence_at; sort = whence; reads = reads_word whence_of EncodesWhence reads_whence }

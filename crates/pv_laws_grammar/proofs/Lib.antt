@@ -1,7 +1,7 @@
--- Lemmas about the text formats, from words to whole texts.
+-- Lemmas about the text formats, from words to complete texts.
 -- - Words: ParserCorrectness, SingleWords, FirstWord, Decimals, QuotedTexts, FlagWords, ShortestForm, WordLists.
 -- - Lines: ArgumentLists, InstructionLines, EntryLines, EntryPaths, TextLines.
--- - Whole texts: ProgramParsing, WrittenPrograms, ScheduleParsing, ManifestParsing, AppliedEntries.
+-- - Complete texts: ProgramParsing, WrittenPrograms, ScheduleParsing, ManifestParsing, AppliedEntries.
 -- - Sources: LabelNumbers (labels), WrittenLines (written lines contain no LF), AcceptedBlocks and AcceptedSources (the
 --   written text is accepted), EncodedWords (words of lines), AcceptedTexts (an accepted text denotes itself),
 --   EqualSources (sources with the same words).

@@ -6,7 +6,7 @@ use Rattle.std.proofs.lemmas.Slice.Eq.{bytes_eq-Decides}
 use Rattle.pv_model.specs.declared.fault.ManifestFault.{ManifestFault}
 use Rattle.pv_model.specs.declared.fault.ManifestFault.TheVariants.{Form, Size}
 use Rattle.pv_model.specs.Machine.{Bytes, EncodesManifest, lines_of, entry_of, Listed, Manifest, sizes_of, Entry}
-use Rattle.pv_model.specs.Grammar.Entries.{EncodesEntry, of_directory, of_file, of_program, of_link, of_name, Lists, at_end as ends, at_schedule, entry, EncodesSizes, AreSizes, HasNoForm, no_schedule, no_entry, further, HasNoSizes, IsFirstWithoutForm, HasOtherSizes}
+use Rattle.pv_model.specs.Grammar.Entries.{EncodesEntry, of_directory, of_file, of_program, of_link, of_name, Lists, at_end as ends, at_schedule, entry, EncodesSizes, AreSizes, HasNoForm, no_schedule, not_an_entry, further, HasNoSizes, IsFirstWithoutForm, HasOtherSizes}
 use Rattle.pv_model.specs.Grammar.Manifests.{Taking, onto_listed, or_form, is_schedule_line, at_end, entries_from, inode_table_blocks, are_sizes, if_sizes, with_entries, after_sizes, manifest_by}
 use Rattle.pv_model.specs.Grammar.Texts.{HasLines}
 use Rattle.pv_laws_grammar.proofs.EntryLines.{entry_found, entry_again, EncodesSizes-sizes_of, sizes_of-EncodesSizes}
@@ -153,7 +153,7 @@ module _ (in_bundle : Bool) where
   missing_entry line lines n f None no_end is e onward = record {
     at = n;
     named = sym (let same : Form n ≡ f = cc in same);
-    missing = no_entry n line lines
+    missing = not_an_entry n line lines
         (λ bundle schedule. let t : (in_bundle && is_schedule_line line) ≡ true = and_from in_bundle (is_schedule_line line) bundle ((bytes_eq-Decides line (codes "schedule")).1 schedule) in absurd (cc))
         (λ body following e whole encodes. let t : None ≡ Some (e, length body) = sym is ∙ ap (entry_of line) whole ∙ entry_again line body e encodes following in absurd (cc));
   }
@@ -192,7 +192,7 @@ module _ (in_bundle : Bool) where
 
   err_again : (n : ℕ) (lines : List Bytes) (m : ℕ) → HasNoForm in_bundle n lines m → from_line lines n 0 ≡ Err (Form m)
   err_again _ _ _ (no_schedule n is) = ap (λ b. at_end b n) is
-  err_again _ _ _ (no_entry n line rest other none) =
+  err_again _ _ _ (not_an_entry n line rest other none) =
       cond-false (in_bundle && is_schedule_line line) (Ok (record { entries = []; following = rest })) (or_form n (entry_of line rest) (from_line rest (suc n)))
       (false_from_ne_true (in_bundle && is_schedule_line line) (λ is. let end = is_end_line line is in other end.0 end.1))
       ∙ ap (λ o. or_form n o (from_line rest (suc n))) (no_entry_of line rest (entry_of line rest) refl none)
@@ -216,7 +216,7 @@ are_sizes_again blocks inodes h =
     (le-leb (inode_table_blocks inodes + 1) blocks h.2))
     (le-leb blocks 8192 h.3)
 
--- ---- whole texts
+-- ---- complete texts
 
 abbrev Whole : Type 0
 Whole = Result Manifest ManifestFault

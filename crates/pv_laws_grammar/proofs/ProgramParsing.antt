@@ -58,8 +58,8 @@ module _ (count : ℕ) where
 
   -- ---- the first invalid line
 
-  abbrev IsFault : ℕ → Bytes → What → Type 0
-  IsFault m line what = ((m ≤ 256) × IsInvalid count line what) ⊎ ((m ≡ 257) × (what ≡ TooMany))
+  abbrev IsError : ℕ → Bytes → What → Type 0
+  IsError m line what = ((m ≤ 256) × IsInvalid count line what) ⊎ ((m ≡ 257) × (what ≡ TooMany))
 
   record FirstInvalid (lines : List Bytes) (n m : ℕ) (what : What) : Type 0 where
     front : List Bytes
@@ -68,9 +68,9 @@ module _ (count : ℕ) where
     whole : lines ≡ front ++ line ∷ rest
     number : m ≡ length front + n
     before : AreInstructions count front
-    fault : IsFault m line what
+    fault : IsError m line what
 
-  first_here : (line : Bytes) (lines : List Bytes) (n m : ℕ) (what : What) → m ≡ n → IsFault m line what → FirstInvalid (line ∷ lines) n m what
+  first_here : (line : Bytes) (lines : List Bytes) (n m : ℕ) (what : What) → m ≡ n → IsError m line what → FirstInvalid (line ∷ lines) n m what
   first_here line lines n m what is h = record { front = []; line = line; rest = lines; whole = refl; number = (omega arith); before = ([], tt); fault = h }
 
   first_later : (line : Bytes) (i : Instruction) (lines : List Bytes) (n m : ℕ) (what : What) → EncodesLine count line i → FirstInvalid lines (suc n) m what → FirstInvalid (line ∷ lines) n m what
@@ -106,7 +106,7 @@ module _ (count : ℕ) where
       let small : n ≤ 256 = omega arith in
       line_err n m what line lines small (instruction_of count line) (program_from (instruction_of count) lines (suc n)) refl k (λ j. err_found lines (suc n) m what (omega arith) j)) e
 
-  err_here : (line : Bytes) (rest : List Bytes) (n : ℕ) (what : What) → IsFault n line what → program_from (instruction_of count) (line ∷ rest) n ≡ Err (Line n what)
+  err_here : (line : Bytes) (rest : List Bytes) (n : ℕ) (what : What) → IsError n line what → program_from (instruction_of count) (line ∷ rest) n ≡ Err (Line n what)
   err_here line rest n what (inl h) =
       cond-false (n == 257) (Err (Line 257 TooMany)) (or_line n (instruction_of count line) (program_from (instruction_of count) rest (suc n))) (ne_eqb n 257 (λ e. let small = h.0 in omega arith))
       ∙ ap (λ r. or_line n r (program_from (instruction_of count) rest (suc n))) (instruction_of-IsInvalid count line what h.1)
@@ -114,7 +114,7 @@ module _ (count : ℕ) where
       cond-true (n == 257) (Err (Line 257 TooMany)) (or_line n (instruction_of count line) (program_from (instruction_of count) rest (suc n))) (eq-eqb n 257 h.0)
       ∙ ap (λ k. Err (Line k TooMany)) (sym h.0) ∙ ap (λ w. Err (Line n w)) (sym h.1)
 
-  err_again : (front : List Bytes) (line : Bytes) (rest : List Bytes) (n m : ℕ) (what : What) (p : Program) → EncodeLines count front p → m ≡ length front + n → m ≤ 257 → IsFault m line what
+  err_again : (front : List Bytes) (line : Bytes) (rest : List Bytes) (n m : ℕ) (what : What) (p : Program) → EncodeLines count front p → m ≡ length front + n → m ≤ 257 → IsError m line what
       → program_from (instruction_of count) (front ++ line ∷ rest) n ≡ Err (Line m what)
   err_again [] line rest n m what p h is fits fault =
       let at : n ≡ m = omega arith in
@@ -181,16 +181,16 @@ IsFirstInvalid-read_program bytes n what e =
       subst (HasLines bytes) w.whole (HasLines-lines_of bytes),
       w.number,
       subst (λ c. AreInstructions c w.front) same w.before,
-      subst (λ c. IsFault c n w.line what) same w.fault,
+      subst (λ c. IsError c n w.line what) same w.fault,
     )
 
-fault_within : (count m : ℕ) (line : Bytes) (what : What) → IsFault count m line what → m ≤ 257
-fault_within count m line what (inl h) = let small = h.0 in omega arith
-fault_within count m line what (inr h) = let same = h.0 in omega arith
+error_within : (count m : ℕ) (line : Bytes) (what : What) → IsError count m line what → m ≤ 257
+error_within count m line what (inl h) = let small = h.0 in omega arith
+error_within count m line what (inr h) = let same = h.0 in omega arith
 
 pub read_program-IsFirstInvalid : (bytes : Bytes) (n : ℕ) (what : What) → IsFirstInvalid bytes n what → read_program bytes ≡ Err (Line n what)
 unfolding read_program
 read_program-IsFirstInvalid bytes n what h =
     let count = reach h.0 h.1 h.2 in
     ap program_of_lines (lines_from_relation bytes (h.0 ++ h.1 ∷ h.2) h.3)
-    ∙ err_again count h.0 h.1 h.2 1 n what h.5.0 h.5.1 h.4 (fault_within count n h.1 what h.6) h.6
+    ∙ err_again count h.0 h.1 h.2 1 n what h.5.0 h.5.1 h.4 (error_within count n h.1 what h.6) h.6

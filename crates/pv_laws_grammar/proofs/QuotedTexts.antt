@@ -5,7 +5,7 @@ use Rattle.std.proofs.lemmas.Bool.{cond_both, and_parts, and_from, ne_eqb, eqb-f
 use Rattle.std.proofs.lemmas.Option.{cond_some, same_Some, some_pair_parts}
 use Rattle.pv_model.specs.Machine.{Bytes, hex_byte, is_plain, Parsed, text_at, word_at, EncodesText}
 use Rattle.pv_model.specs.Trace.{hex_digit}
-use Rattle.pv_model.specs.Grammar.Arguments.{Escape, outside, after_backslash, after_x, after_digit, hex_value, onto_text, Onward, text_outside, first_digit, second_digit, text_step, text_rest, if_short, some_text, begins_text, null_of, text_or_null_at}
+use Rattle.pv_model.specs.Grammar.Arguments.{Escape, outside, after_backslash, after_x, after_digit, hex_value, onto_text, EscapeParser, text_outside, first_digit, second_digit, text_step, text_rest, if_short, some_text, begins_text, null_of, text_or_null_at}
 use Rattle.pv_model.specs.Grammar.Forms.{IsAfterWord}
 use Rattle.pv_model.specs.Grammar.Encoding.{EncodesBytes, nothing, plain, escaped, EncodesTextOrNull}
 use Rattle.pv_laws_grammar.proofs.SingleWords.{EncodesNull, reads_null}
@@ -70,7 +70,7 @@ Within after_backslash value bs rest = (encoded : Bytes) × EncodesBytes value (
 Within after_x value bs rest = (encoded : Bytes) × EncodesBytes value (92 ∷ 120 ∷ encoded) × (bs ≡ encoded ++ 34 ∷ rest)
 Within (after_digit high) value bs rest = high < 16 → (encoded : Bytes) × EncodesBytes value (92 ∷ 120 ∷ hex_digit high ∷ encoded) × (bs ≡ encoded ++ 34 ∷ rest)
 
-abbrev Known : Bytes → Onward → Type 0
+abbrev Known : Bytes → EscapeParser → Type 0
 Known bs onward = (escape : Escape) (value rest : Bytes) → onward escape ≡ Some (value, rest) → Within escape value bs rest
 
 onto_text_found : (b : ℕ) (p : Parsed Bytes) (value rest : Bytes) → onto_text b p ≡ Some (value, rest) → (v : Bytes) × (p ≡ Some (v, rest)) × (value ≡ b ∷ v)
@@ -79,7 +79,7 @@ onto_text_found b (Some p) value rest e =
     let parts = some_pair_parts (b ∷ p.0) value p.1 rest e in
     (p.0, ap (λ r. Some (p.0, r)) parts.1, sym parts.0)
 
-module _ (b : ℕ) (bs : Bytes) (onward : Onward) (known : Known bs onward) where
+module _ (b : ℕ) (bs : Bytes) (onward : EscapeParser) (known : Known bs onward) where
   found_plain : (value rest : Bytes) → is_plain b ≡ true → onto_text b (onward outside) ≡ Some (value, rest) → Within outside value (b ∷ bs) rest
   found_plain value rest is e =
       let p = onto_text_found b (onward outside) value rest e in

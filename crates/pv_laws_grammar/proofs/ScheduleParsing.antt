@@ -120,8 +120,8 @@ ok_again (line ∷ lines) n (turn ∷ s) h fits =
 
 -- ---- the first invalid line
 
-abbrev IsFault : ℕ → Bytes → Type 0
-IsFault m line = ((m ≤ 65536) × ((turn : ℕ × ℕ) → EncodesTurn line turn → ⊥)) ⊎ (m ≡ 65537)
+abbrev IsError : ℕ → Bytes → Type 0
+IsError m line = ((m ≤ 65536) × ((turn : ℕ × ℕ) → EncodesTurn line turn → ⊥)) ⊎ (m ≡ 65537)
 
 record FirstInvalid (lines : List Bytes) (n m : ℕ) : Type 0 where
   front : List Bytes
@@ -131,9 +131,9 @@ record FirstInvalid (lines : List Bytes) (n m : ℕ) : Type 0 where
   whole : lines ≡ front ++ line ∷ rest
   number : m ≡ length front + n
   before : EncodeTurns front schedule
-  fault : IsFault m line
+  fault : IsError m line
 
-first_here : (line : Bytes) (lines : List Bytes) (n m : ℕ) → m ≡ n → IsFault m line → FirstInvalid (line ∷ lines) n m
+first_here : (line : Bytes) (lines : List Bytes) (n m : ℕ) → m ≡ n → IsError m line → FirstInvalid (line ∷ lines) n m
 first_here line lines n m is h = record { front = []; line = line; rest = lines; schedule = []; whole = refl; number = (omega arith); before = tt; fault = h }
 
 first_later : (line : Bytes) (turn : ℕ × ℕ) (lines : List Bytes) (n m : ℕ) → EncodesTurn line turn → FirstInvalid lines (suc n) m → FirstInvalid (line ∷ lines) n m
@@ -172,7 +172,7 @@ none_where_nothing : (line : Bytes) (o : Option (ℕ × ℕ)) → turn_of line �
 none_where_nothing line None is h = refl
 none_where_nothing line (Some turn) is h = absurd (h turn (EncodesTurn-turn_of line turn is))
 
-err_here : (line : Bytes) (rest : List Bytes) (n : ℕ) → IsFault n line → schedule_from (line ∷ rest) n ≡ Err (Line n)
+err_here : (line : Bytes) (rest : List Bytes) (n : ℕ) → IsError n line → schedule_from (line ∷ rest) n ≡ Err (Line n)
 err_here line rest n (inl h) =
     cond-false (n == 65537) (Err (Line 65537)) (or_schedule_line n (turn_of line) (schedule_from rest (suc n))) (ne_eqb n 65537 (λ e. let small = h.0 in omega arith))
     ∙ ap (λ o. or_schedule_line n o (schedule_from rest (suc n))) (none_where_nothing line (turn_of line) refl h.1)
@@ -180,7 +180,7 @@ err_here line rest n (inr h) =
     cond-true (n == 65537) (Err (Line 65537)) (or_schedule_line n (turn_of line) (schedule_from rest (suc n))) (eq-eqb n 65537 h)
     ∙ ap (λ k. Err (Line k)) (sym h)
 
-err_again : (front : List Bytes) (line : Bytes) (rest : List Bytes) (n m : ℕ) (s : Schedule) → EncodeTurns front s → m ≡ length front + n → m ≤ 65537 → IsFault m line
+err_again : (front : List Bytes) (line : Bytes) (rest : List Bytes) (n m : ℕ) (s : Schedule) → EncodeTurns front s → m ≡ length front + n → m ≤ 65537 → IsError m line
     → schedule_from (front ++ line ∷ rest) n ≡ Err (Line m)
 err_again [] line rest n m s h is fits fault =
     let at : n ≡ m = omega arith in
@@ -191,9 +191,9 @@ err_again (f ∷ front) line rest n m (turn ∷ s) h is fits fault =
     ∙ ap (λ o. or_schedule_line n o (schedule_from (front ++ line ∷ rest) (suc n))) (turn_of-EncodesTurn f turn h.0)
     ∙ ap (onto_schedule turn) (err_again front line rest (suc n) m s h.1 (omega arith) fits fault)
 
-fault_within : (m : ℕ) (line : Bytes) → IsFault m line → m ≤ 65537
-fault_within m line (inl h) = let small = h.0 in omega arith
-fault_within m line (inr h) = omega arith
+error_within : (m : ℕ) (line : Bytes) → IsError m line → m ≤ 65537
+error_within m line (inl h) = let small = h.0 in omega arith
+error_within m line (inr h) = omega arith
 
 or_line_memory : (n : ℕ) (o : Option (ℕ × ℕ)) (rest : Outcome) → rest ≢ Err Memory → or_schedule_line n o rest ≢ Err Memory
 or_line_memory n (Some turn) rest h e = h (onto_err turn rest Memory e)
@@ -222,7 +222,7 @@ IsFirstNoTurn-schedule lines n e =
 
 pub schedule-IsFirstNoTurn : (lines : List Bytes) (n : ℕ) → IsFirstNoTurn lines n → schedule_of_lines lines ≡ Err (Line n)
 schedule-IsFirstNoTurn lines n h =
-    ap schedule_of_lines h.4 ∙ err_again h.0 h.1 h.2 1 n h.3 h.6 h.5 (fault_within n h.1 h.7) h.7
+    ap schedule_of_lines h.4 ∙ err_again h.0 h.1 h.2 1 n h.3 h.6 h.5 (error_within n h.1 h.7) h.7
 
 pub no_memory_schedule : (lines : List Bytes) → schedule_of_lines lines ≢ Err Memory
 no_memory_schedule lines e = no_memory_from lines 1 e

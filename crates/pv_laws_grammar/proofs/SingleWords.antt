@@ -14,7 +14,7 @@ use Rattle.pv_model.specs.declared.instruction.Origin.TheVariants.{WorkingDirect
 use Rattle.pv_model.specs.declared.call.Whence.{Whence}
 use Rattle.pv_model.specs.declared.call.Whence.TheVariants.{Set, Current, End}
 use Rattle.pv_model.specs.Machine.{Bytes, decimal_of}
-use Rattle.pv_model.specs.Grammar.Arguments.{in_range, negative_of, number_of, register_digit, register_of, or_number, operand_of, whence_of, origin_of, null_of}
+use Rattle.pv_model.specs.Grammar.Arguments.{in_range, negative_of, parsed_number, register_digit, register_of, or_number, operand_of, whence_of, origin_of, null_of}
 use Rattle.pv_model.specs.Grammar.Lines.{is_digit}
 use Rattle.pv_model.specs.Grammar.Encoding.{Decimal, IsNumber, EncodesNumber, EncodesRegister, EncodesOperand, EncodesWhence, EncodesOrigin}
 use Rattle.pv_laws_grammar.proofs.Decimals.{Decimal-decimal_of, decimal_of-Decimal, Decimal-decimal, Decimal-encoded, no_space-Decimal, digits_all, digit_bounds}
@@ -66,7 +66,7 @@ positive_encodes bs z e =
     let here : EncodesNumber (pos n.0) bs = (within.1, encoded) in
     subst (λ y. EncodesNumber y bs) n.2 here
 
-number_found : (word : Bytes) (z : ℤ) → number_of word ≡ Some z → EncodesNumber z word
+number_found : (word : Bytes) (z : ℤ) → parsed_number word ≡ Some z → EncodesNumber z word
 number_found [] z e = absurd (cc)
 number_found (b ∷ bs) z e = cond_both (b == 45) (negative_of (in_range 2147483648 (decimal_of bs))) (option_map pos (in_range 2147483647 (decimal_of (b ∷ bs)))) (λ r. r ≡ Some z → EncodesNumber z (b ∷ bs))
     (λ is e. let minus : b ≡ 45 = eqb-true b 45 is in subst (λ c. EncodesNumber z (c ∷ bs)) (sym minus) (negative_encodes bs z e))
@@ -75,7 +75,7 @@ number_found (b ∷ bs) z e = cond_both (b == 45) (negative_of (in_range 2147483
 first_is_digit : (n b : ℕ) (bs : Bytes) → Decimal n (b ∷ bs) → (48 ≤ b) × (b ≤ 57)
 first_is_digit n b bs h = digit_bounds b (and_parts (is_digit b) (list_all is_digit bs) (digits_all n (b ∷ bs) h)).0
 
-positive_again : (word : Bytes) (n : ℕ) → Decimal n word → n ≤ 2147483647 → number_of word ≡ Some (pos n)
+positive_again : (word : Bytes) (n : ℕ) → Decimal n word → n ≤ 2147483647 → parsed_number word ≡ Some (pos n)
 positive_again [] n h fits = let e : None ≡ Some n = decimal_of-Decimal n [] h in absurd (cc)
 positive_again (b ∷ bs) n h fits =
     let bounds = first_is_digit n b bs h in
@@ -83,13 +83,13 @@ positive_again (b ∷ bs) n h fits =
     ∙ ap (λ o. option_map pos (in_range 2147483647 o)) (decimal_of-Decimal n (b ∷ bs) h)
     ∙ ap (option_map pos) (in_range_again 2147483647 n fits)
 
-negative_number_again : (n : ℕ) → n ≤ 2147483647 → number_of (45 ∷ decimal (suc n)) ≡ Some (negsuc n)
+negative_number_again : (n : ℕ) → n ≤ 2147483647 → parsed_number (45 ∷ decimal (suc n)) ≡ Some (negsuc n)
 negative_number_again n fits =
     ap (λ o. negative_of (in_range 2147483648 o)) (decimal_of-Decimal (suc n) (decimal (suc n)) (Decimal-decimal (suc n) (omega arith)))
     ∙ ap negative_of (in_range_again 2147483648 (suc n) (omega arith))
     ∙ negative_again n
 
-number_again : (z : ℤ) (word : Bytes) → EncodesNumber z word → number_of word ≡ Some z
+number_again : (z : ℤ) (word : Bytes) → EncodesNumber z word → parsed_number word ≡ Some z
 number_again (pos n) word h = rw h.1 (positive_again (decimal n) n (Decimal-decimal n (omega arith)) h.0)
 number_again (negsuc n) word h = rw h.1 (negative_number_again n h.0)
 
@@ -97,7 +97,7 @@ number_whole : (z : ℤ) (word : Bytes) → EncodesNumber z word → no_space wo
 number_whole (pos n) word h = rw h.1 (no_space-Decimal n (decimal n) (Decimal-decimal n (omega arith)))
 number_whole (negsuc n) word h = rw h.1 (no_space-append (45 ∷ []) (decimal (suc n)) refl (no_space-Decimal (suc n) (decimal (suc n)) (Decimal-decimal (suc n) (omega arith))))
 
-pub reads_number : ReadsWord number_of EncodesNumber
+pub reads_number : ReadsWord parsed_number EncodesNumber
 reads_number = record { found = number_found; again = number_again; whole = number_whole }
 
 -- ---- registers
@@ -142,7 +142,7 @@ reads_register = record { found = register_found; again = register_again; whole 
 
 -- ---- operands
 
-or_number_found : (word : Bytes) (r : Option ℕ) (n : Option ℤ) → register_of word ≡ r → number_of word ≡ n → (o : Operand) → or_number r n ≡ Some o → EncodesOperand o word
+or_number_found : (word : Bytes) (r : Option ℕ) (n : Option ℤ) → register_of word ≡ r → parsed_number word ≡ n → (o : Operand) → or_number r n ≡ Some o → EncodesOperand o word
 or_number_found word (Some r) n is_r is_n (Register k) e =
     let same : r ≡ k = cc in register_found word k (is_r ∙ ap Some same)
 or_number_found word (Some r) n is_r is_n (Number k) e = absurd (cc)
@@ -152,7 +152,7 @@ or_number_found word None (Some z) is_r is_n (Register k) e = absurd (cc)
 or_number_found word None None is_r is_n o e = absurd (cc)
 
 operand_found : (word : Bytes) (o : Operand) → operand_of word ≡ Some o → EncodesOperand o word
-operand_found word o e = or_number_found word (register_of word) (number_of word) refl refl o e
+operand_found word o e = or_number_found word (register_of word) (parsed_number word) refl refl o e
 
 -- a number starts with a digit or a sign
 no_register_digits : (n : ℕ) (word : Bytes) → Decimal n word → register_of word ≡ None

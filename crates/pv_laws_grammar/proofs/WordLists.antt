@@ -2,7 +2,7 @@
 use Rattle.std.proofs.Common.{◌≡◌, [], ◌∷◌, ◌++◌, None, Some, ap, sym, ◌∙◌, refl, append-nil}
 use Rattle.std.specs.Prelude.{option_map}
 use Rattle.pv_model.specs.Machine.{Bytes, Parsed, one_argument, two_arguments}
-use Rattle.pv_model.specs.Grammar.Arguments.{argument, if_last, and_one}
+use Rattle.pv_model.specs.Grammar.Arguments.{argument, if_last, and_argument}
 use Rattle.pv_laws_grammar.proofs.ArgumentLists.{argument_found, if_last_found}
 use Rattle.pv_laws_grammar.proofs.SingleWords.{mapped_found}
 use Rattle.pv_laws_grammar.proofs.ParserCorrectness.{Reads}
@@ -17,7 +17,7 @@ module _ {A : Type 0} (at : Bytes → Parsed A) (S : A → Bytes → Type 0) (re
   one_word_again a word h = ap (λ w. if_last (at w)) (sym (append-nil word)) ∙ ap if_last (reads.again a word [] h tt)
 
 module _ {A B : Type 0} (at : Bytes → Parsed A) (S : A → Bytes → Type 0) (reads : Reads at S) (next : Bytes → Parsed B) (T : B → Bytes → Type 0) (next_reads : Reads next T) where
-  two_parts : (p : Parsed A) (pair : A × B) → and_one next p ≡ Some pair → (rest : Bytes) × (p ≡ Some (pair.0, rest)) × (one_argument next rest ≡ Some pair.1)
+  two_parts : (p : Parsed A) (pair : A × B) → and_argument next p ≡ Some pair → (rest : Bytes) × (p ≡ Some (pair.0, rest)) × (one_argument next rest ≡ Some pair.1)
   two_parts None pair e = absurd (cc)
   two_parts (Some p) pair e =
       let b = mapped_found (λ x. (p.0, x)) (one_argument next p.1) pair e in
@@ -32,4 +32,4 @@ module _ {A B : Type 0} (at : Bytes → Parsed A) (S : A → Bytes → Type 0) (
 
   pub two_words_again : (a : A) (b : B) (word other : Bytes) → S a word → T b other → two_arguments at next (32 ∷ word ++ 32 ∷ other) ≡ Some (a, b)
   two_words_again a b word other h k =
-      ap (and_one next) (reads.again a word (32 ∷ other) h refl) ∙ ap (option_map (λ x. (a, x))) (one_word_again next T next_reads b other k)
+      ap (and_argument next) (reads.again a word (32 ∷ other) h refl) ∙ ap (option_map (λ x. (a, x))) (one_word_again next T next_reads b other k)

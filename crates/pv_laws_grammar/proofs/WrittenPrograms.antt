@@ -187,7 +187,7 @@ are_lines lines few (i ∷ program) h = (
   are_lines lines few program h.1,
 )
 
--- ---- whole programs
+-- ---- complete programs
 
 ended_lines : (program : Program) → written_program program ≡ ended (map written_line program)
 ended_lines [] = refl

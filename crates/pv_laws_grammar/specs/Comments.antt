@@ -1,10 +1,9 @@
--- Comments, blank lines, blanks between words, and <<END in place of a count change nothing of what is written for a
--- source.
+-- Comments, blank lines, blanks between words, and <<END in place of a count do not change the output for a source.
 use Rattle.std.specs.Prelude.{◌≡◌, ◌≤◌, not, IsFalse, IsTrue, List, [], ◌∷◌, ◌++◌, length, map, filter, codes, bytes_eq, None, Some, Ok}
 use Rattle.std.specs.Fmt.{decimal}
 use Rattle.std.specs.List.{AllByRecursion, list_all}
 use Rattle.pv_model.specs.declared.limits.TheConstants.{PROGRAM_LINES}
-use Rattle.pv_model.specs.Machine.{counted_from, Bytes, is_empty, decimal_of, lines_of, read_source, instructions_of, program_faults, program_lines, last_word, words_of}
+use Rattle.pv_model.specs.Machine.{counted_from, Bytes, is_empty, decimal_of, lines_of, read_source, instructions_of, program_errors, program_lines, last_word, words_of}
 use Rattle.pv_model.specs.Source.Blocks.{mark_of}
 use Rattle.pv_model.specs.Source.Words.{is_alone, is_blank}
 
@@ -27,7 +26,7 @@ AreBefore mark lines = AllByRecursion (λ line. IsFalse (is_alone mark (words_of
 -- lines between <<END and END are a program without errors whose instructions are these, as they are written
 pub record IsProgramOf (body instructions : List Bytes) : Type 0 where
   pub written : instructions_of (program_lines (counted_from 1 body)) ≡ instructions
-  pub right : program_faults (program_lines (counted_from 1 body)) ≡ []
+  pub right : program_errors (program_lines (counted_from 1 body)) ≡ []
   pub few : length instructions ≤ PROGRAM_LINES
 
 -- two lists of lines have the same words; lines without words may be left out or added, except among the K lines after
@@ -36,7 +35,7 @@ pub data HaveSameCode : List Bytes → List Bytes → Type 0 where
   no_line : HaveSameCode [] []
   left_out : (line : Bytes) (lines others : List Bytes) → words_of line ≡ [] → HaveSameCode lines others → HaveSameCode (line ∷ lines) others
   added : (line : Bytes) (lines others : List Bytes) → words_of line ≡ [] → HaveSameCode lines others → HaveSameCode lines (line ∷ others)
-  single : (line other first : Bytes) (words lines others : List Bytes) → HaveWords line other (first ∷ words) → IsFalse (bytes_eq first (codes "schedule")) → IsFalse (bytes_eq first (codes "exec"))
+  same_line : (line other first : Bytes) (words lines others : List Bytes) → HaveWords line other (first ∷ words) → IsFalse (bytes_eq first (codes "schedule")) → IsFalse (bytes_eq first (codes "exec"))
       → HaveSameCode lines others → HaveSameCode (line ∷ lines) (other ∷ others)
   counted : (line other : Bytes) (words body lines others : List Bytes) → HaveWords line other (codes "exec" ∷ words) → mark_of (last_word (codes "exec" ∷ words)) ≡ None
       → decimal_of (last_word (codes "exec" ∷ words)) ≡ Some (length body) → HaveSameCode lines others → HaveSameCode (line ∷ body ++ lines) (other ∷ body ++ others)
@@ -49,6 +48,6 @@ pub data HaveSameCode : List Bytes → List Bytes → Type 0 where
   scheduled : (line other : Bytes) (words lines others : List Bytes) → HaveWords line other (codes "schedule" ∷ words) → code_of lines ≡ code_of others
       → HaveSameCode (line ∷ lines) (other ∷ others)
 
--- what is written for a source is also written for each source with the same words
+-- the output for a source is the output for each source with the same words
 abbrev pub CommentsChangeNothing : Type 0
 CommentsChangeNothing = (source other text : Bytes) → HaveSameCode (lines_of source) (lines_of other) → read_source source ≡ Ok text → read_source other ≡ Ok text

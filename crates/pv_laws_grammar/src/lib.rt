@@ -5,7 +5,7 @@
 //! body whose contract is the statement.
 //!
 //! - `words`: numbers, registers, operands, flags and quoted texts. `lines`: one line of a program.
-//! - `programs`, `schedules`: whole texts, and the first invalid line.
+//! - `programs`, `schedules`: complete texts, and the first invalid line.
 //! - `manifests`: manifests and bundles, their entries, and the tree that the entries make.
 //! - `sources`: the bundle or manifest that a source denotes.
 #![tactic(auto)]

@@ -24,7 +24,7 @@ pub fn accepted_sources_are_their_own()
     ensures written { (source text : Bytes) → read_source source ≡ Ok text → read_source text ≡ Ok text }
 {}
 
-/// Comments, blank lines, and blanks around and between words change nothing of what is written for a source. The K
+/// Comments, blank lines, and blanks around and between words do not change the output for a source. The K
 /// lines after `exec TEXT K` have no comments: they stay the same bytes, or become a program between `<<END` and END
 /// with these instructions.
 pub fn comments_change_nothing()

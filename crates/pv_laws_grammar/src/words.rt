@@ -8,7 +8,7 @@ ghost use Rattle.pv_model.specs.declared.instruction.Origin.{Origin};
 ghost use Rattle.pv_model.specs.declared.limits.TheConstants.{TEXT};
 ghost use Rattle.pv_model.specs.declared.open_flags.OpenFlags.{OpenFlags};
 ghost use Rattle.pv_model.specs.Machine.{Bytes, text_at, decimal_of, EncodesText, quote};
-ghost use Rattle.pv_model.specs.Grammar.Arguments.{number_of, register_of, operand_of, flags_of, whence_of, origin_of, text_or_null_at};
+ghost use Rattle.pv_model.specs.Grammar.Arguments.{parsed_number, register_of, operand_of, parsed_flags, whence_of, origin_of, text_or_null_at};
 ghost use Rattle.pv_model.specs.Grammar.Forms.{IsAfterWord};
 ghost use Rattle.pv_model.specs.Grammar.Encoding.{Decimal, EncodesNumber, EncodesRegister, EncodesOperand, EncodesFlags, EncodesWhence, EncodesOrigin, EncodesTextOrNull};
 
@@ -25,9 +25,9 @@ pub fn words_are_read_as_they_are_encoded()
     ensures register { (word : Bytes) (r : ℕ) → register_of word ≡ Some r ↔ EncodesRegister r word }
     ensures whence { (word : Bytes) (whence : Whence) → whence_of word ≡ Some whence ↔ EncodesWhence whence word }
     ensures origin { (word : Bytes) (origin : Origin) → origin_of word ≡ Some origin ↔ EncodesOrigin origin word }
-    ensures number { (word : Bytes) (n : ℤ) → number_of word ≡ Some n ↔ EncodesNumber n word }
+    ensures number { (word : Bytes) (n : ℤ) → parsed_number word ≡ Some n ↔ EncodesNumber n word }
     ensures operand { (word : Bytes) (operand : Operand) → operand_of word ≡ Some operand ↔ EncodesOperand operand word }
-    ensures flags { (word : Bytes) (flags : OpenFlags) → flags_of word ≡ Some flags ↔ EncodesFlags flags word }
+    ensures flags { (word : Bytes) (flags : OpenFlags) → parsed_flags word ≡ Some flags ↔ EncodesFlags flags word }
 {}
 
 /// A quoted text or `null` that parses at the start of bytes is encoded there. Conversely, one that is encoded there

@@ -10,9 +10,9 @@ use Rattle.pv_model.specs.Start.{init_of, program_in}
 use Rattle.pv_laws_grammar.proofs.AppliedEntries.{AppliesAll-tree_of, tree_of-AppliesAll}
 use Rattle.pv_laws_grammar.proofs.ManifestParsing.{EncodesManifest-whole, whole-EncodesManifest}
 use Rattle.pv_laws_grammar.proofs.ScheduleParsing.{EncodesSchedule-read, read-EncodesSchedule, schedule_again, schedule_found}
-use Rattle.pv_laws_trees.proofs.Starts.{starts}
+use Rattle.pv_laws_trees.proofs.MachineStarts.{starts}
 use Rattle.pv_laws_trees.proofs.MountedImages.{image-mounted}
-use Rattle.pv_laws_trees.proofs.Images.{mounted-image}
+use Rattle.pv_laws_trees.proofs.TreeImages.{mounted-image}
 use Rattle.pv_laws_runs.specs.Asked.{AsksOfBundle, AsksOfImage}
 use Rattle.pv_laws_runs.proofs.RunPremises.{not_refused, state_or}
 
@@ -55,9 +55,9 @@ module _ (t : Tree) (lines : List Bytes) (it : Started) where
         subst (λ (s : State). booted t ≡ Ok s) (ap (state_or at.0) at.2) at.1,
       )
 
-  pub started-whole : schedule_of_lines lines ≡ Ok it.schedule → booted t ≡ Ok it.state → started_on t lines ≡ Ok it
+  pub started-valid : schedule_of_lines lines ≡ Ok it.schedule → booted t ≡ Ok it.state → started_on t lines ≡ Ok it
   unfolding started_on
-  started-whole turns first = rw (turns, first) refl
+  started-valid turns first = rw (turns, first) refl
 
 -- ---- on an image
 
@@ -77,7 +77,7 @@ module _ (image turns : Bytes) (it : Started) where
   unfolding image_started read_schedule
   asks-image asks =
       let held = image-mounted image it.state.tree asks.is_image in
-      rw held (started-whole it.state.tree (lines_of turns) it (read-EncodesSchedule turns it.schedule asks.encoded) (boots-booted it.state.tree it.state asks.boots))
+      rw held (started-valid it.state.tree (lines_of turns) it (read-EncodesSchedule turns it.schedule asks.encoded) (boots-booted it.state.tree it.state asks.boots))
 
 -- ---- of a bundle
 
@@ -112,4 +112,4 @@ module _ (bytes : Bytes) where
         let m = asks.manifest in
         let read = encoded-bundle m asks.is_manifest in
         let made = tree_of-AppliesAll m it.state.tree asks.applied in
-        rw (read, made) (started-whole it.state.tree m.listed.following it (schedule_again m.listed.following it.schedule asks.encoded) (boots-booted it.state.tree it.state asks.boots))
+        rw (read, made) (started-valid it.state.tree m.listed.following it (schedule_again m.listed.following it.schedule asks.encoded) (boots-booted it.state.tree it.state asks.boots))

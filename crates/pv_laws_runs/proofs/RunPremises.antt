@@ -6,8 +6,8 @@ use Rattle.pv_model.specs.Machine.{Bytes, lines_of, Manifest, read_bundle, tree_
 use Rattle.pv_model.specs.RunFault.{of_boot, of_image, of_manifest, of_schedule}
 use Rattle.pv_model.specs.Start.{IsAccepted}
 use Rattle.pv_laws_answers.specs.OfLawsStates.States.{are_bytes}
-use Rattle.pv_laws_trees.proofs.Starts.{starts}
-use Rattle.pv_laws_trees.proofs.Images.{mounted-image}
+use Rattle.pv_laws_trees.proofs.MachineStarts.{starts}
+use Rattle.pv_laws_trees.proofs.TreeImages.{mounted-image}
 use Rattle.pv_laws_runs.specs.Runs.{IsReachedFrom}
 use Rattle.pv_laws_runs.specs.Starts.{GivesTree}
 

@@ -4,13 +4,13 @@ use Rattle.std.specs.Prelude.{codes}
 use Rattle.pv_model.specs.Machine.{Bytes, Manifest, read_manifest, read_bundle, tree_of, program_of, Program, State, first_state, boot, Node, directory_node, file_node, link_node, Tree, root, node_at, find_entry}
 use Rattle.pv_model.specs.Step.{init_program}
 use Rattle.pv_laws_answers.specs.OfLawsStates.States.{is_program_in_bounds, IsFirstTree, IsValid}
-use Rattle.pv_laws_answers.proofs.OfLawsStates.BySteps.{first-whole, run-keeps_whole}
+use Rattle.pv_laws_answers.proofs.OfLawsStates.ValidBySteps.{first-valid, run-keeps_valid}
 use Rattle.pv_laws_grammar.proofs.ManifestParsing.{EncodesManifest-whole}
 use Rattle.pv_laws_runs.specs.Runs.{IsReachedFrom}
 use Rattle.pv_laws_runs.specs.Starts.{DescribesTree, HoldsTree, GivesTree}
-use Rattle.pv_laws_runs.proofs.Images.{image-first}
-use Rattle.pv_laws_runs.proofs.Ranges.{program_of-encodes}
-use Rattle.pv_laws_runs.proofs.Trees.{manifest-first}
+use Rattle.pv_laws_runs.proofs.ImageTrees.{image-first}
+use Rattle.pv_laws_runs.proofs.ProgramRanges.{program_of-encodes}
+use Rattle.pv_laws_runs.proofs.ManifestTrees.{manifest-first}
 
 read-first : (bytes : Bytes) (t : Tree) (m : Manifest) → Rattle.pv_laws_answers.specs.OfLawsStates.States.are_bytes bytes ≡ true → (read_manifest bytes ≡ Ok m) ⊎ (read_bundle bytes ≡ Ok m) → tree_of m ≡ Ok t → IsFirstTree t
 unfolding read_manifest read_bundle
@@ -33,15 +33,15 @@ init-program t (Some (file_node false bytes)) program is = cc
 init-program t (Some (directory_node es)) program is = cc
 init-program t (Some (link_node text)) program is = cc
 
-pub boot-whole : (t : Tree) (s : State) → IsFirstTree t → boot program_of t ≡ Some s → IsValid s
-boot-whole t s first is = by (init_program program_of t (option_and_then (node_at t) (find_entry t root (codes "init")))) refl is
+pub boot-valid : (t : Tree) (s : State) → IsFirstTree t → boot program_of t ≡ Some s → IsValid s
+boot-valid t s first is = by (init_program program_of t (option_and_then (node_at t) (find_entry t root (codes "init")))) refl is
   where
     by : (o : Option Program) → init_program program_of t (option_and_then (node_at t) (find_entry t root (codes "init"))) ≡ o → option_map (first_state t) o ≡ Some s → IsValid s
     by None none is = cc
     by (Some program) encoded is =
         let same : first_state t program ≡ s = cc is in
-        subst IsValid same (first-whole t program first (init-program t (option_and_then (node_at t) (find_entry t root (codes "init"))) program encoded))
+        subst IsValid same (first-valid t program first (init-program t (option_and_then (node_at t) (find_entry t root (codes "init"))) program encoded))
 
-pub reached-whole : (bytes : Bytes) (s : State) → IsReachedFrom bytes s → IsValid s
-reached-whole bytes s is =
-    subst IsValid is.reaches (run-keeps_whole program_of program_of-encodes is.pids is.first (boot-whole is.tree is.first (given-first bytes is.tree is.given) is.boots))
+pub reached-valid : (bytes : Bytes) (s : State) → IsReachedFrom bytes s → IsValid s
+reached-valid bytes s is =
+    subst IsValid is.reaches (run-keeps_valid program_of program_of-encodes is.pids is.first (boot-valid is.tree is.first (given-first bytes is.tree is.given) is.boots))

@@ -4,8 +4,8 @@ use Rattle.pv_model.specs.Machine.{Bytes, program_of, Started, image_started, bu
 use Rattle.pv_model.specs.Start.{IsAccepted}
 use Rattle.pv_model.specs.Touch.{IsJustified}
 use Rattle.pv_laws_answers.specs.OfLawsStates.States.{are_bytes, IsValid}
-use Rattle.pv_laws_answers.specs.OfLawsAccess.Growth.{MayDoNoMore, IsLeftAlone, StaysInImage}
-use Rattle.pv_laws_answers.specs.OfLawsAccess.Sealing.{IsSealedFile, IsFrozenFile, IsLeftFrozen, WritesNothing}
+use Rattle.pv_laws_answers.specs.OfLawsAccess.Growth.{HasNoMoreRights, IsUnchangedExceptParent, StaysInImage}
+use Rattle.pv_laws_answers.specs.OfLawsAccess.Sealing.{IsSealedFile, IsFrozenFile, StaysFrozen, WritesNothing}
 use Rattle.pv_laws_runs.specs.Starts.{GivesTree}
 
 -- a state that a run reaches, with steps of any processes, from the first state of the tree that the bytes give
@@ -21,21 +21,21 @@ abbrev pub ReachedIsValid : Type 0
 ReachedIsValid = (bytes : Bytes) (s : State) → IsReachedFrom bytes s → IsValid s
 
 -- each touch of the next step of any process is justified
-abbrev pub RunsAreJust : Type 0
-RunsAreJust = (bytes : Bytes) (s : State) (pid : ℕ) → IsReachedFrom bytes s → IsJustified program_of s pid
+abbrev pub RunsAreJustified : Type 0
+RunsAreJustified = (bytes : Bytes) (s : State) (pid : ℕ) → IsReachedFrom bytes s → IsJustified program_of s pid
 
 -- from such a state on, a process that stays live in one program image loses no restraint, whatever steps other
 -- processes make
-abbrev pub RunsNeverLoosen : Type 0
-RunsNeverLoosen =
+abbrev pub RunsNeverAddRights : Type 0
+RunsNeverAddRights =
     (bytes : Bytes) (s : State) (pid : ℕ) (pids : List ℕ) (p q : Process) → IsReachedFrom bytes s
-    → process_at s pid ≡ Some p → StaysInImage program_of pid pids s → process_at (run program_of pids s).final pid ≡ Some q → MayDoNoMore p q
+    → process_at s pid ≡ Some p → StaysInImage program_of pid pids s → process_at (run program_of pids s).final pid ≡ Some q → HasNoMoreRights p q
 
--- a step of another process leaves a process live, and changes nothing of it but its parent
+-- a step of another process leaves a process live, and changes only its parent
 abbrev pub RunsKeepOthers : Type 0
 RunsKeepOthers =
     (bytes : Bytes) (s : State) (pid other : ℕ) (p : Process) → IsReachedFrom bytes s → other ≢ pid → process_at s other ≡ Some p
-    → (q : Process) × (process_at (step program_of s pid).after other ≡ Some q) × IsLeftAlone p q
+    → (q : Process) × (process_at (step program_of s pid).after other ≡ Some q) × IsUnchangedExceptParent p q
 
 -- from such a state on, a sealed file stays sealed; other bytes of equal length in it change no line, and only
 -- themselves in the final state
@@ -45,9 +45,9 @@ SealedReportsNothing =
     → WritesNothing program_of s pids f hidden
 
 -- from such a state on, a frozen file stays frozen, with the same bytes
-abbrev pub FrozenIsLeft : Type 0
-FrozenIsLeft =
-    (bytes : Bytes) (s : State) (pids : List ℕ) (f : ℕ) → IsReachedFrom bytes s → IsFrozenFile s f → IsLeftFrozen f s (run program_of pids s).final
+abbrev pub FrozenStaysUnchanged : Type 0
+FrozenStaysUnchanged =
+    (bytes : Bytes) (s : State) (pids : List ℕ) (f : ℕ) → IsReachedFrom bytes s → IsFrozenFile s f → StaysFrozen f s (run program_of pids s).final
 
 -- an accepted image starts in such a state
 abbrev pub AcceptedImagesStart : Type 0

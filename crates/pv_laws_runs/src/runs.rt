@@ -1,6 +1,6 @@
 //! Laws of every run that an accepted input starts.
 
-ghost use Rattle.pv_laws_runs.specs.Runs.{ReachedIsValid, RunsAreJust, RunsNeverLoosen, RunsKeepOthers, SealedReportsNothing, FrozenIsLeft, AcceptedImagesStart, ImagesStart, BundlesStart};
+ghost use Rattle.pv_laws_runs.specs.Runs.{ReachedIsValid, RunsAreJustified, RunsNeverAddRights, RunsKeepOthers, SealedReportsNothing, FrozenStaysUnchanged, AcceptedImagesStart, ImagesStart, BundlesStart};
 
 /// An accepted image starts in a state to which the laws of runs apply.
 pub fn accepted_images_start()
@@ -25,17 +25,16 @@ pub fn reached_is_whole()
 /// Complete mediation: each touch of each step is justified by the promises that the process has, and by a place that
 /// its table allows or a descriptor of the process.
 pub fn runs_are_just()
-    ensures { RunsAreJust }
+    ensures { RunsAreJustified }
 {}
 
 /// Monotonicity of privilege: while a process stays live in one program image, it loses no restraint, whichever
 /// processes make the steps in between.
 pub fn runs_never_loosen()
-    ensures { RunsNeverLoosen }
+    ensures { RunsNeverAddRights }
 {}
 
-/// Noninterference in the state: a step of another process leaves a live process live, and changes nothing of it but
-/// its parent.
+/// Noninterference in the state: a step of another process leaves a live process live, and changes only its parent.
 pub fn runs_keep_others()
     ensures { RunsKeepOthers }
 {}
@@ -48,5 +47,5 @@ pub fn sealed_reports_nothing()
 
 /// Integrity: from every reachable state in which a file is frozen, it stays frozen, and its bytes stay the same.
 pub fn frozen_is_left()
-    ensures { FrozenIsLeft }
+    ensures { FrozenStaysUnchanged }
 {}

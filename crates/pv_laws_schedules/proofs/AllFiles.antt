@@ -7,8 +7,8 @@ use Rattle.std.proofs.lemmas.Bool.{and_from}
 use Rattle.pv_model.specs.Machine.{files_of_tree, is_file_at, named_files, number_numbers, ListedName, Bytes, is_empty, numbered, is_file, Node, Tree, root, node_at, find_entry, names_of, IsReached, from_root, by_entry, IsWellFormed}
 use Rattle.pv_model.specs.Answers.Files.{unnamed_files}
 use Rattle.pv_model.specs.Answers.Reach.{listed_names}
-use Rattle.pv_laws_trees.proofs.Changes.{entries-good}
-use Rattle.pv_laws_trees.proofs.Members.{In, in-entry, numbered-at}
+use Rattle.pv_laws_trees.proofs.TreeChanges.{entries-good}
+use Rattle.pv_laws_trees.proofs.ListMembers.{In, in-entry, numbered-at}
 use Rattle.pv_laws_access.specs.Order.{Places, by_names, led_to}
 use Rattle.pv_laws_answers.specs.ReachNames.{AreNamesOf}
 use Rattle.pv_laws_answers.proofs.CompleteSearches.{among-contains}

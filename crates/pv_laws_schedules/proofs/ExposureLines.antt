@@ -7,22 +7,22 @@ use Rattle.pv_model.specs.Answers.Exposure.{located_at, located, onto_ranges}
 use Rattle.pv_model_questions.specs.declared.finding_kind.FindingKind.{FindingKind}
 use Rattle.pv_model_questions.specs.declared.finding_kind.FindingKind.TheVariants.{Leak, Peer, Edit, Read}
 use Rattle.pv_model_questions.specs.Briefs.{brief_since}
-use Rattle.pv_model_questions.specs.Exposure.{Finding, are_all_closed, finding_by, findings_at, greatest_line, is_safe_in, last_finding, line_of, lines_found, reason_by, safe_files, witness_by}
+use Rattle.pv_model_questions.specs.Exposure.{Finding, are_all_closed, finding_by, findings_at, greatest_finding_line, is_safe_in, last_finding, finding_line, lines_found, reason_by, safe_files_of_first, witness_by}
 use Rattle.pv_laws_access.proofs.Verdicts.{leaks-closed}
 use Rattle.pv_laws_answers.specs.Witnesses.{AreSteps}
 use Rattle.pv_laws_answers.proofs.CompleteSearches.{found-there, among-contains, all-found}
 use Rattle.pv_laws_answers.proofs.Lists.{Among, all-among, among-any, any-among, among-filter, among-flat, among-map, filter-among, flat-among, map-among}
 use Rattle.pv_laws_answers.proofs.LiveProcesses.{live-listed, listed-live}
 use Rattle.pv_laws_answers.proofs.SoundStates.{witness-more}
-use Rattle.pv_laws_classes.proofs.SeenProcesses.{themselves}
-use Rattle.pv_laws_states.proofs.BySteps.{run-keeps_whole}
+use Rattle.pv_laws_classes.proofs.ReducedProcesses.{themselves}
+use Rattle.pv_laws_states.proofs.ValidBySteps.{run-keeps_valid}
 use Rattle.pv_laws_schedules.specs.Exposure.{HasNone, IsExactReason, IsFinding, IsFoundAfter, IsListedIn, IsUnlisted, IsCompleteSearch, IsWitnessed, findings_by_text, located_in, programs_in}
-use Rattle.pv_laws_schedules.specs.Exposure.{ListedLinesHappen, SafeFilesAreClosed, UnlistedLinesAreClosed, UnlistedLinesAreFixed, UnlistedLinesHaveNoReason, UnlistedLinesReadNothing, UnlistedLinesShutAll, WitnessesLead}
+use Rattle.pv_laws_schedules.specs.Exposure.{ListedLinesHappen, SafeFilesAreClosed, UnlistedLinesAreClosed, UnlistedLinesAreFixed, UnlistedLinesHaveNoReason, UnlistedLinesReadNothing, UnlistedLinesCloseAll, WitnessesLead}
 use Rattle.pv_laws_schedules.proofs.FindingReasons.{empty-is, exact-reasons}
-use Rattle.pv_laws_schedules.proofs.Groups.{HasGroup, group-head, grouped, of-group, in-group, same-programs}
+use Rattle.pv_laws_schedules.proofs.KeyGroups.{HasGroup, group-head, grouped, of-group, in-group, same-programs}
 use Rattle.pv_laws_schedules.proofs.PairSearch.{among-range}
 use Rattle.pv_laws_schedules.proofs.ReachedStates.{sound-at}
-use Rattle.pv_laws_schedules.proofs.SeenStates.{AreSound}
+use Rattle.pv_laws_schedules.proofs.ShownStates.{AreSound}
 
 -- ---- ranges
 
@@ -118,19 +118,19 @@ max-most [] k x h = absurd h
 max-most (y ∷ ys) k x (inl e) = let rest = max-least ys (max k y) in omega (arith, rest, e)
 max-most (y ∷ ys) k x (inr h) = max-most ys (max k y) x h
 
-line-listed : (xs : List Finding) (x : Finding) → Among x xs → 1 ≤ line_of x → Among (line_of x) (lines_found xs)
+line-listed : (xs : List Finding) (x : Finding) → Among x xs → 1 ≤ finding_line x → Among (finding_line x) (lines_found xs)
 line-listed xs x h low =
-    let line = among-map line_of x xs h in
-    let equal : (line_of x == line_of x) ≡ true = grind (arith, nat_tests) in
-    among-filter (among (map line_of xs)) (line_of x) (range_with_len 1 (greatest_line xs))
-    (among-range 1 (greatest_line xs) (line_of x) low (omega (arith, max-most (map line_of xs) 0 (line_of x) line)))
-    (any-among (λ m. m == line_of x) (line_of x) (map line_of xs) line equal)
+    let line = among-map finding_line x xs h in
+    let equal : (finding_line x == finding_line x) ≡ true = grind (arith, nat_tests) in
+    among-filter (among (map finding_line xs)) (finding_line x) (range_with_len 1 (greatest_finding_line xs))
+    (among-range 1 (greatest_finding_line xs) (finding_line x) low (omega (arith, max-most (map finding_line xs) 0 (finding_line x) line)))
+    (any-among (λ m. m == finding_line x) (finding_line x) (map finding_line xs) line equal)
 
-listed-line : (xs : List Finding) (n : ℕ) → Among n (lines_found xs) → (x : Finding) × Among x xs × (line_of x ≡ n)
+listed-line : (xs : List Finding) (n : ℕ) → Among n (lines_found xs) → (x : Finding) × Among x xs × (finding_line x ≡ n)
 listed-line xs n h =
-    let parts = filter-among (among (map line_of xs)) n (range_with_len 1 (greatest_line xs)) h in
-    let there = among-any (λ m. m == n) (map line_of xs) parts.1 in
-    let x = map-among line_of there.0 xs there.1 in
+    let parts = filter-among (among (map finding_line xs)) n (range_with_len 1 (greatest_finding_line xs)) h in
+    let there = among-any (λ m. m == n) (map finding_line xs) parts.1 in
+    let x = map-among finding_line there.0 xs there.1 in
     (x.0, x.1, sym x.2 ∙ grind (arith, nat_tests, there.2))
 
 abbrev pub text_of : Finding → Bytes
@@ -349,7 +349,7 @@ module _ (program_of : Bytes → Option Program) (s : State) (found : List Found
         same_file = of.1;
       }
 
-  low : (x : Finding) → Among x h.1 → 1 ≤ line_of x
+  low : (x : Finding) → Among x h.1 → 1 ≤ finding_line x
   low x own =
       let of = in-all x own in
       let running = (sound x.at.found of.is_placed.within).whole.processes.running x.at.pid x.at.process of.is_placed.live in
@@ -358,7 +358,7 @@ module _ (program_of : Bytes → Option Program) (s : State) (found : List Found
   head-in : Among h.0 h.1
   head-in = in-group text_of all h findings_listed h.0 (group-head text_of all h findings_listed) refl
 
-  witnessed-by : (x : Finding) → last_finding h.1 ≡ Some x → line_of x ≡ greatest_line h.1 → IsOfGroup x → IsWitnessed program_of s kind h
+  witnessed-by : (x : Finding) → last_finding h.1 ≡ Some x → finding_line x ≡ greatest_finding_line h.1 → IsOfGroup x → IsWitnessed program_of s kind h
   witnessed-by x is_last greatest of = record {
     finding = x;
     is_last = is_last;
@@ -375,15 +375,15 @@ module _ (program_of : Bytes → Option Program) (s : State) (found : List Found
 
   pub witnessed : IsWitnessed program_of s kind h
   witnessed =
-      let last = first-passes (λ (x : Finding). line_of x == greatest_line h.1) h.1 most.0 most.1 (grind (arith, nat_tests, most.2)) in
+      let last = first-passes (λ (x : Finding). finding_line x == greatest_finding_line h.1) h.1 most.0 most.1 (grind (arith, nat_tests, most.2)) in
       witnessed-by last.0 last.1 (grind (arith, nat_tests, last.3)) (in-all last.0 last.2)
     where
-      most : (x : Finding) × Among x h.1 × (line_of x ≡ greatest_line h.1)
-      most = by (max-attained (map line_of h.1) 0)
+      most : (x : Finding) × Among x h.1 × (finding_line x ≡ greatest_finding_line h.1)
+      most = by (max-attained (map finding_line h.1) 0)
         where
-          by : (greatest_line h.1 ≡ 0) ⊎ Among (greatest_line h.1) (map line_of h.1) → (x : Finding) × Among x h.1 × (line_of x ≡ greatest_line h.1)
-          by (inl none) = absurd (omega (arith, none, low h.0 head-in, max-most (map line_of h.1) 0 (line_of h.0) (among-map line_of h.0 h.1 head-in)))
-          by (inr there) = let x = map-among line_of (greatest_line h.1) h.1 there in (x.0, x.1, sym x.2)
+          by : (greatest_finding_line h.1 ≡ 0) ⊎ Among (greatest_finding_line h.1) (map finding_line h.1) → (x : Finding) × Among x h.1 × (finding_line x ≡ greatest_finding_line h.1)
+          by (inl none) = absurd (omega (arith, none, low h.0 head-in, max-most (map finding_line h.1) 0 (finding_line h.0) (among-map finding_line h.0 h.1 head-in)))
+          by (inr there) = let x = map-among finding_line (greatest_finding_line h.1) h.1 there in (x.0, x.1, sym x.2)
 
 -- ---- safe files
 
@@ -398,11 +398,11 @@ all-closed u f is pid p live =
 
 module _ (program_of : Bytes → Option Program) (s : State) (found : List Found) (sound : AreSound program_of s found) where
   -- a file that is listed as safe is safe in the state of each process of the program
-  pub safe-there : (group : Located × List Located) → Contains (programs_in found) group → (f : ℕ) → Contains (safe_files s.tree group.1) f → (l : Located) → IsPlaced program_of s found sound l
+  pub safe-there : (group : Located × List Located) → Contains (programs_in found) group → (f : ℕ) → Contains (safe_files_of_first s.tree group.1) f → (l : Located) → IsPlaced program_of s found sound l
       → l.process.program ≡ group.0.process.program → is_file_at l.found.state.tree f ≡ true → are_all_closed l.found.state f ≡ true
   safe-there group listed f safe l at program file =
       let member = in-group program_key (located found) group (themselves (programs_in found) group listed) l (placed program_of s found sound l at) (ap program_numbers program) in
-      let each = (filter-among (λ f. list_all (is_safe_in f) group.1) f (named_files s.tree) (themselves (safe_files s.tree group.1) f safe)).1 in
+      let each = (filter-among (λ f. list_all (is_safe_in f) group.1) f (named_files s.tree) (themselves (safe_files_of_first s.tree group.1) f safe)).1 in
       safe-test (is_file_at l.found.state.tree f) l.found.state f (all-among (is_safe_in f) group.1 each l member) file
 
 -- ---- the full search
@@ -447,7 +447,7 @@ module _ (program_of : Bytes → Option Program) (limit : ℕ) (s : State) (full
     }
 
     exact-there : (f : ℕ) (kind : FindingKind) → IsExactReason program_of (located_in pids u pid p) f kind
-    exact-there f kind = exact-reasons program_of (located_in pids u pid p) f kind (run-keeps_whole program_of full.searchable.encodes pids s full.searchable.whole) live
+    exact-there f kind = exact-reasons program_of (located_in pids u pid p) f kind (run-keeps_valid program_of full.searchable.encodes pids s full.searchable.whole) live
 
   none-there : (kind : FindingKind) (pids : List ℕ) (pid : ℕ) (p : Process) (f : ℕ) → IsUnlisted program_of limit s kind pids pid p f
       → reason_by program_of (located_in pids (run program_of pids s).final pid p) f kind ≡ None
@@ -467,7 +467,7 @@ unlisted-none program_of limit s kind pids pid p f full is = none-there program_
 pub unlisted-closed : UnlistedLinesAreClosed
 unlisted-closed program_of limit s pids pid p f full is = has-none program_of limit s full Leak pids pid p f is
 
-pub unlisted-shut : UnlistedLinesShutAll
+pub unlisted-shut : UnlistedLinesCloseAll
 unlisted-shut program_of limit s pids pid p f full is other =
     has-none program_of limit s full Peer pids pid p f other (unlisted-closed program_of limit s pids pid p f full is)
 
@@ -492,6 +492,6 @@ safe-files program_of limit s group f pids pid p full listed safe live program f
     let at = seen-placed program_of limit s full pids pid p live in
     let seen = there program_of limit s full pids in
     let closed = safe-there program_of s states sound-states group listed f safe (record { found = seen.0; pid = pid; process = p }) at program (ap (λ (v : State). is_file_at v.tree f) seen.2 ∙ file) in
-    let valid = run-keeps_whole program_of full.searchable.encodes pids s full.searchable.whole in
+    let valid = run-keeps_valid program_of full.searchable.encodes pids s full.searchable.whole in
     (leaks-closed (run program_of pids s).final q f valid.tree.well_formed).0
     (all-closed (run program_of pids s).final f (ap (λ (v : State). are_all_closed v f) (sym seen.2) ∙ closed) k q other)

@@ -1,4 +1,5 @@
--- A step with other promises that miss what its own promises miss has the same lines, and the next state is equal but for promises.
+-- A step with other promises that miss the same needs as its own has the same lines, and the next state is equal up to
+-- promises.
 use Rattle.std.proofs.Common.{◌≡◌, ◌∙◌, sym, ap, ap₂, subst, refl, ℕ, Bool, true, false, if◌then◌else◌, [], ◌∷◌, take, Option, None, Some, option_map}
 use Rattle.pv_model.specs.declared.call.Call.{Call}
 use Rattle.pv_model.specs.declared.call.Call.TheVariants as TheCall
@@ -12,11 +13,11 @@ use Rattle.pv_model.specs.Answer.{answer_without_promise}
 use Rattle.pv_model.specs.Answers.Observed.{is_pledge}
 use Rattle.pv_model.specs.Machine.{Answered, answer, answer_of, answer_where, answer_by_attempt, at_next_line, effect, Attempt, done, refused, after_walks, ◌>>=◌, ◌>>◌, demand, Bytes, executable_bytes, with_program, end_process, Effect, returns, walk_from, judge_for, node_of, collect, needs, permission_x, Next, inside, calls_for, next, Promises, is_lenient, missing_promise, Program, Process, State, process_at, with_process, Stepped, step, step_by, call_lines, moved_words, gave, gio_word, buffer_of, node_at}
 use Rattle.pv_laws_states.specs.States.{IsValid}
-use Rattle.pv_laws_states.proofs.CallRests
-use Rattle.pv_laws_states.proofs.Members.{live-found}
-use Rattle.pv_laws_states.proofs.Outcomes.{at_call}
+use Rattle.pv_laws_states.proofs.CallRemainders
+use Rattle.pv_laws_states.proofs.ReferenceMembers.{live-found}
+use Rattle.pv_laws_states.proofs.CallOutcomes.{at_call}
 use Rattle.pv_laws_states.proofs.Processes.{process_at-same, update-is}
-use Rattle.pv_laws_access.proofs.Ends.{step-is}
+use Rattle.pv_laws_access.proofs.ProcessesAfterEnds.{step-is}
 use Rattle.pv_laws_steps.proofs.CommutingSteps.{put-there}
 use Rattle.pv_laws_steps.proofs.ReportedParts.{lines_of}
 use Rattle.pv_laws_answers.specs.Begun.{begun_with}
@@ -29,7 +30,7 @@ use Rattle.pv_laws_schedules.specs.Idle.{StepsDifferInPromises}
 abbrev bare : State → State
 bare s = begun_with None s
 
--- ---- attempts that are equal but for promises
+-- ---- attempts that are equal up to promises
 
 near-bind : {A : Type 0} (a : Attempt A) (h k : A → Attempt Effect) → ((v : A) → moved None (h v) ≡ moved None (k v)) → moved None (a >>= h) ≡ moved None (a >>= k)
 near-bind (done walks v) h k is = sym (moved-after None walks (h v)) ∙ ap (after_walks walks) (is v) ∙ moved-after None walks (k v)
@@ -52,7 +53,7 @@ module _ (program_of : Bytes → Option Program) (s : State) (pid : ℕ) (p : Pr
   bare-same : bare u ≡ bare s
   bare-same = sym (with-changed None s pid q) ∙ with-changed None s pid p ∙ ap bare own
 
-  -- processes that are equal but for promises
+  -- processes that are equal up to promises
   with-same : (a b : Process) → f None a ≡ f None b → bare (with_process u pid a) ≡ bare (with_process s pid b)
   with-same a b same =
       sym (with-changed None u pid a) ∙ ap₂ (λ (v : State) (r : Process). with_process v pid r) bare-same same ∙ with-changed None s pid b
@@ -83,11 +84,11 @@ module _ (program_of : Bytes → Option Program) (s : State) (pid : ℕ) (p : Pr
   unfolding effect
   near (TheCall.Pledge promises execpromises) plain = cc plain
   near (TheCall.Execve path) plain =
-      near-bind (walk_from x me.directory Last path) (λ place. judge_for y you place permission_x >> CallRests.execve_1 y pid you program_of place) (λ place. judge_for x me place permission_x >> CallRests.execve_1 x pid me program_of place)
-      (λ place. near-then (judge_for x me place permission_x) (CallRests.execve_1 y pid you program_of place) (CallRests.execve_1 x pid me program_of place)
-      (near-bind (demand ENOENT (node_of place)) (CallRests.execve_2 y pid you program_of) (CallRests.execve_2 x pid me program_of)
-      (λ n. near-bind (demand EACCES (executable_bytes (node_at x.tree n))) (CallRests.execve_3 y pid you program_of) (CallRests.execve_3 x pid me program_of)
-      (λ bytes. near-bind (demand ENOEXEC (program_of bytes)) (CallRests.execve_4 y pid you) (CallRests.execve_4 x pid me)
+      near-bind (walk_from x me.directory Last path) (λ place. judge_for y you place permission_x >> CallRemainders.execve_1 y pid you program_of place) (λ place. judge_for x me place permission_x >> CallRemainders.execve_1 x pid me program_of place)
+      (λ place. near-then (judge_for x me place permission_x) (CallRemainders.execve_1 y pid you program_of place) (CallRemainders.execve_1 x pid me program_of place)
+      (near-bind (demand ENOENT (node_of place)) (CallRemainders.execve_2 y pid you program_of) (CallRemainders.execve_2 x pid me program_of)
+      (λ n. near-bind (demand EACCES (executable_bytes (node_at x.tree n))) (CallRemainders.execve_3 y pid you program_of) (CallRemainders.execve_3 x pid me program_of)
+      (λ bytes. near-bind (demand ENOEXEC (program_of bytes)) (CallRemainders.execve_4 y pid you) (CallRemainders.execve_4 x pid me)
       (λ program. ap (λ (v : State). done 0 (v, returns 0)) (executed program))))))
   near call plain =
       sym (rows None y pid you program_of call refl).same ∙ ap (λ (v : State). effect program_of v pid (f None me) call) bare-called ∙ (rows None x pid me program_of call refl).same

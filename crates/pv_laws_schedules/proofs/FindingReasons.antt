@@ -1,4 +1,4 @@
--- The reasons of findings: there is one exactly if there is a finding.
+-- The reasons of findings: there is one if and only if there is a finding.
 use Rattle.std.proofs.Common.{◌≡◌, ◌↔◌, ◌∙◌, sym, ap, subst, refl, ℕ, Bool, true, false, ◌==◌, if◌then◌else◌, List, [], ◌∷◌, ◌++◌, codes, Contains, Option, None, Some, option_map, inl, inr, arith}
 use Rattle.std.specs.List.{list_any}
 use Rattle.std.proofs.lemmas.Bool.Decides.{nat_tests}
@@ -9,7 +9,7 @@ use Rattle.pv_model.specs.Sealed.{first_leak, leak_or, why_text}
 use Rattle.pv_model_questions.specs.declared.finding_kind.FindingKind.{FindingKind}
 use Rattle.pv_model_questions.specs.declared.finding_kind.FindingKind.TheVariants.{Leak, Peer, Edit, Read}
 use Rattle.pv_model_questions.specs.declared.edit_reason.EditReason.{EditReason}
-use Rattle.pv_model_questions.specs.Exposure.{peer_text, first_leak_of, files_read, peer_reason, read_reason}
+use Rattle.pv_model_questions.specs.Exposure.{peer_text, first_leak_of, read_observer, peer_reason, read_reason}
 use Rattle.pv_model_questions.specs.Fixed.{edits, edit_text}
 use Rattle.pv_laws_states.specs.States.{IsValid}
 use Rattle.pv_laws_access.specs.OwnRuns.{IsFixed}
@@ -17,7 +17,7 @@ use Rattle.pv_laws_access.proofs.Verdicts.{leaks-closed}
 use Rattle.pv_laws_answers.proofs.CompleteSearches.{among-contains}
 use Rattle.pv_laws_answers.proofs.Lists.{Among, among-any, any-among}
 use Rattle.pv_laws_answers.proofs.LiveProcesses.{live-listed, listed-live}
-use Rattle.pv_laws_classes.proofs.SeenProcesses.{themselves}
+use Rattle.pv_laws_classes.proofs.ReducedProcesses.{themselves}
 use Rattle.pv_laws_schedules.specs.Exposure.{IsOpenToAnother, AreAllClosed, ReadsNext, IsFinding, HasNone, IsExactReason, ReasonsAreExact}
 use Rattle.pv_laws_schedules.proofs.FixedProcesses.{edits-fixed}
 
@@ -131,7 +131,7 @@ module _ (program_of : Bytes → Option Program) (l : Located) (f : ℕ) (valid 
   -- ---- READ
 
   abbrev read : List ℕ
-  read = files_read u l.pid (step program_of u l.pid)
+  read = read_observer u l.pid (step program_of u l.pid)
 
   abbrev read_by : Bool → Option Bytes
   read_by b = if b then Some [] else None

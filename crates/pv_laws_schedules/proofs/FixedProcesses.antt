@@ -1,5 +1,5 @@
 -- The descriptors and entries by which a process can open a file, and the reasons why it is not fixed to the file: there is
--- none exactly if it is.
+-- none if and only if it is.
 use Rattle.std.proofs.Common.{◌≡◌, ◌↔◌, ◌∙◌, sym, ap, subst, refl, ℕ, Bool, true, false, not, ◌&&◌, ◌||◌, ◌==◌, if◌then◌else◌, List, [], ◌∷◌, ◌++◌, map, filter, Option, None, Some, is_some, ◌⊎◌, inl, inr, ⊎_elim}
 use Rattle.std.specs.List.{filter_map}
 use Rattle.std.specs.Option.{option_or}
@@ -11,12 +11,12 @@ use Rattle.pv_model.specs.declared.promise.Promise.TheVariants.{Wpath, Cpath, Ex
 use Rattle.pv_model.specs.Machine.{Bytes, at_number, numbered, Promises, contains, OpenFile, Descriptor, Process, State, writes, find_entry, names_of, ancestors, IsWellFormed, Table, permissions_at, directory_rights}
 use Rattle.pv_model.specs.Closed
 use Rattle.pv_model.specs.Sealed
-use Rattle.pv_model.proofs.Rights.{Governs-directory_rights, directory_rights-Governs}
+use Rattle.pv_model.proofs.GoverningEntries.{Governs-directory_rights, directory_rights-Governs}
 use Rattle.pv_model_questions.specs.declared.edit_reason.EditReason.{EditReason}
 use Rattle.pv_model_questions.specs.declared.edit_reason.EditReason.TheVariants.{Writes, NotLocked, Gives, Above, Exec}
 use Rattle.pv_model_questions.specs.Fixed.{edit_least, edit_when, edits, edits_above, edits_of_table, is_held_in_place, lets_edit}
 use Rattle.pv_laws_trees.proofs.Ancestors.{ancestors-above}
-use Rattle.pv_laws_trees.proofs.Members.{In, empty-from, none-in, in-map, map-in, in-filter, filter-in, in-preserved, preserved-in, in-flat, flat-in, any-in, in-any, numbered-at, at-numbered, entry-in, in-entry}
+use Rattle.pv_laws_trees.proofs.ListMembers.{In, empty-from, none-in, in-map, map-in, in-filter, filter-in, in-preserved, preserved-in, in-flat, flat-in, any-in, in-any, numbered-at, at-numbered, entry-in, in-entry}
 use Rattle.pv_laws_trees.proofs.Trees.{ordered, sound}
 use Rattle.pv_laws_access.specs.OwnRuns.{IsFixed, IsPledgedInPlace, IsUnveiledInPlace, IsUnveiledFixed}
 use Rattle.pv_laws_access.proofs.Verdicts.{one, found-governs}
@@ -45,7 +45,7 @@ unset false is = cc is
 
 -- ---- promises
 
--- a process is pledged without two promises exactly if it is pledged without each
+-- a process is pledged without two promises if and only if it is pledged without each
 two : (p : Process) (a b : Promise) → Sealed.is_pledged_without (a ∷ b ∷ []) p ≡ true ↔ (Closed.Lacks p a × Closed.Lacks p b)
 two p a b = (
   λ is. (let each = parts p.promises is in ((one p a).0 each.0, (one p b).0 each.1)),
@@ -187,7 +187,7 @@ module _ (s : State) (p : Process) (f : ℕ) (w : IsWellFormed s.tree) where
 
   -- ---- no reason
 
-  -- a name that gives what a weaker test passes
+  -- a name that gives permissions that pass a weaker test
   gives-more : (table : Table) (test weaker : Perms → Bool) → ((permissions : Perms) → test permissions ≡ true → weaker permissions ≡ true) → (k : ℕ)
       → Closed.GivesName s p f table test k → Closed.GivesName s p f table weaker k
   gives-more table test weaker more k g = (g.0, g.1, g.2, g.3, more (permissions_at table k) g.4)
@@ -238,7 +238,7 @@ module _ (s : State) (p : Process) (f : ℕ) (w : IsWellFormed s.tree) where
       fixed None at quiet = cc quiet
       fixed (Some table) at quiet = (table, unveiled-fixed table quiet at)
 
-      by : (b : Bool) → pledged ≡ b → (if b then [] else of_table p.table) ≡ [] → Closed.IsPledgedFrom s p f ⊎ ((table : Table) × IsUnveiledFixed s p f table)
+      by : (b : Bool) → pledged ≡ b → (if b then [] else of_table p.table) ≡ [] → Closed.IsFixedByPledge s p f ⊎ ((table : Table) × IsUnveiledFixed s p f table)
       by true is quiet = let l = (two p Wpath ExecPromise).0 is in inl (record { no_wpath = l.0; no_exec = l.1 })
       by false is quiet = inr (fixed p.table refl quiet)
 

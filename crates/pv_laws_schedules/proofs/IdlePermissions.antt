@@ -10,38 +10,38 @@ use Rattle.pv_model.specs.declared.place.Place.{Place}
 use Rattle.pv_model.specs.declared.place.Place.TheVariants.{At, Node as Unnamed}
 use Rattle.pv_model.specs.declared.target.Target.{Target}
 use Rattle.pv_model.specs.declared.target.Target.TheVariants.{Directory, Name}
-use Rattle.pv_model.specs.Machine.{answer, AnswerLine, Found, new_ones, states_found, Judged, permissions_lacked, target_words, Observation, is_allowed, is_unveil, Request, Requests, Granted, Bytes, entries_of_table, no_permissions, covers, end_of, held_by_table, calls_for, next, Program, Process, State, process_at, run, step, judged_walks, place_found, root, parent, Tree, is_directory_at, Table, entry_for, same_target, permissions_at, target_of, directory_rights, judge_entry, governing_entry, judgement, Walk, walks_of, walk_number}
+use Rattle.pv_model.specs.Machine.{answer, AnswerLine, Found, elements_with_new_keys, states_found, Judged, permissions_lacked, target_words, Observation, is_allowed, is_unveil, Request, Requests, Granted, Bytes, entries_of_table, no_permissions, covers, end_of, held_by_table, calls_for, next, Program, Process, State, process_at, run, step, judged_walks, place_found, root, parent, Tree, is_directory_at, Table, entry_for, same_target, permissions_at, target_of, directory_rights, judge_entry, governing_entry, judgement, Walk, walks_of, walk_number}
 use Rattle.pv_model.specs.Answers.Needs.{judged, judged_at}
-use Rattle.pv_model.specs.Answers.Observed.{with_alike}
-use Rattle.pv_model.specs.Answers.Policy.{is_restricted_call, restricted, place_of, entries_held, at_entry, at_governor, permissions_used, all_used, joined, idle_at, idle_permission_line}
+use Rattle.pv_model.specs.Answers.Observed.{with_equal_key}
+use Rattle.pv_model.specs.Answers.Policy.{is_restricted_call, restricted, place_of_target, entries_held, used_at_entry, at_governor, permissions_used, all_used, union_of_granted, idle_at, idle_permission_line}
 use Rattle.pv_model.specs.Unveil.{permissions_of, rights_above, climb, target_directory}
 use Rattle.pv_laws_states.specs.States.{IsValid}
-use Rattle.pv_laws_states.proofs.BySteps.{run-keeps_whole}
+use Rattle.pv_laws_states.proofs.ValidBySteps.{run-keeps_valid}
 use Rattle.pv_laws_states.proofs.Processes.{update-is}
-use Rattle.pv_laws_trees.proofs.Entries.{bytes_eq-itself}
+use Rattle.pv_laws_trees.proofs.DirectoryEntries.{bytes_eq-itself}
 use Rattle.pv_laws_answers.specs.ProcessImages.{with_own_table}
 use Rattle.pv_laws_answers.proofs.Lists.{Among, among-filter, among-filter_map, among-flat, among-map}
 use Rattle.pv_laws_classes.specs.Reduced.{reduced_found}
 use Rattle.pv_laws_classes.specs.Shown.{ShownCall}
-use Rattle.pv_laws_classes.proofs.SeenProcesses.{themselves}
-use Rattle.pv_laws_schedules.specs.IdlePermissions.{idle_permissions, IdleLinesAreOfPermissions, LacksIdleAt, LacksIdleEntries, IdlePermissionsAreIdle, IdlePermissionsAreIdleReduced}
+use Rattle.pv_laws_classes.proofs.ReducedProcesses.{themselves}
+use Rattle.pv_laws_schedules.specs.IdlePermissions.{listed_idle_permissions, IdleLinesAreOfPermissions, LacksIdleAt, LacksIdleEntries, IdlePermissionsAreIdle, IdlePermissionsAreIdleReduced}
 use Rattle.pv_laws_schedules.specs.Policy.{calling_programs}
 use Rattle.pv_laws_schedules.specs.ReducedPolicy.{reduced_calling_programs}
 use Rattle.pv_laws_schedules.proofs.OtherTables.{other-table_lines}
 use Rattle.pv_laws_schedules.proofs.PermissionSets.{covers-itself, fold-covers, kept-covers, less-covers}
-use Rattle.pv_laws_schedules.proofs.SeenStates.{IsSeenIn, seen-full, seen-reduced}
+use Rattle.pv_laws_schedules.proofs.ShownStates.{IsSeenIn, seen-full, seen-reduced}
 use Rattle.pv_laws_schedules.proofs.VisitedCalls.{asks, programs_of, requests_of, IsRequested, requested, of-program}
 
 -- ---- the lines
 
 lines-of : (rs : Requests) (used : List Granted) (gs : List Granted) → used ≡ all_used (restricted rs) → gs ≡ flat_map entries_held (restricted rs)
     → (xs : List Granted)
-    → flat_map (idle_at used) (map (with_alike (λ (g : Granted). g.0) gs) xs)
-    ≡ flat_map (λ (g : Granted × List Granted). idle_permission_line (idle_permissions rs g.0.0) g.0.0) (map (with_alike (λ (g : Granted). g.0) gs) xs)
+    → flat_map (idle_at used) (map (with_equal_key (λ (g : Granted). g.0) gs) xs)
+    ≡ flat_map (λ (g : Granted × List Granted). idle_permission_line (listed_idle_permissions rs g.0.0) g.0.0) (map (with_equal_key (λ (g : Granted). g.0) gs) xs)
 lines-of rs used gs is_used is_held [] = refl
 lines-of rs used gs is_used is_held (x ∷ xs) =
     ap₂ (λ (a b : List AnswerLine). a ++ b)
-    (λ i. idle_permission_line (permissions_lacked (joined (filter (λ (g : Granted). bytes_eq g.0 x.0) (is_used i))) (joined (filter (λ (g : Granted). bytes_eq g.0 x.0) (is_held i)))) x.0)
+    (λ i. idle_permission_line (permissions_lacked (union_of_granted (filter (λ (g : Granted). bytes_eq g.0 x.0) (is_used i))) (union_of_granted (filter (λ (g : Granted). bytes_eq g.0 x.0) (is_held i)))) x.0)
     (lines-of rs used gs is_used is_held xs)
 
 -- ---- tables with the same targets
@@ -111,11 +111,11 @@ module _ (rs : Requests) (t : Tree) where
     governs-same (At d name (Some n)) =
         λ i. if is_directory_at t n then rights-same n i else option_or (entry-same (Name d name) i) (rights-same d i)
 
-    -- the calls use what is needed at the entry that governs a place
+    -- the calls use the needed permissions at the entry that governs a place
     abbrev IsUsed : Place → Perms → Type 0
     IsUsed place needed =
         (k : ℕ) (e : Target × Perms) → governing_entry t held place ≡ Some k → slice_get held k ≡ Some e → covers e.1 needed ≡ true
-        → covers (joined (filter (λ (g : Granted). bytes_eq g.0 (target_words t e.0)) (all_used (restricted rs)))) needed ≡ true
+        → covers (union_of_granted (filter (λ (g : Granted). bytes_eq g.0 (target_words t e.0)) (all_used (restricted rs)))) needed ≡ true
 
     judged-same : (place : Place) (needed : Perms) → IsUsed place needed → judgement t (Some set) place needed ≡ judgement t (Some held) place needed
     unfolding judgement
@@ -129,8 +129,8 @@ module _ (rs : Requests) (t : Tree) where
           where
             decide : (d : Target × Perms) (b : Bool) → covers e.1 needed ≡ b → (c : Bool) → covers d.1 needed ≡ c → LacksIdleAt rs t e d → covers d.1 needed ≡ covers e.1 needed
             decide d true has c is_c lacks =
-                kept-covers needed (joined (filter (λ (g : Granted). bytes_eq g.0 (target_words t e.0)) (all_used (restricted rs))))
-                (joined (filter (λ (g : Granted). bytes_eq g.0 (target_words t e.0)) (flat_map entries_held (restricted rs)))) e.1 d.1 (used k e governs is has) has lacks.others
+                kept-covers needed (union_of_granted (filter (λ (g : Granted). bytes_eq g.0 (target_words t e.0)) (all_used (restricted rs))))
+                (union_of_granted (filter (λ (g : Granted). bytes_eq g.0 (target_words t e.0)) (flat_map entries_held (restricted rs)))) e.1 d.1 (used k e governs is has) has lacks.others
                 ∙ sym has
             decide d false hasnt true has lacks = let no : true ≡ false = sym (less-covers needed e.1 d.1 lacks.fewer has) ∙ hasnt in cc no
             decide d false hasnt false hasnt' lacks = hasnt' ∙ sym hasnt
@@ -156,13 +156,13 @@ in-judged s p (TheCall.Unveil path permissions) n j plain h = cc plain
 in-judged s p call n j plain h = h
 
 -- the entry that governs a place governs the place of its target
-target-governs : (t : Tree) (table : Table) (place : Place) → governing_entry t table (place_of (target_of t place)) ≡ governing_entry t table place
+target-governs : (t : Tree) (table : Table) (place : Place) → governing_entry t table (place_of_target (target_of t place)) ≡ governing_entry t table place
 unfolding governing_entry
 target-governs t table (Unnamed n) = refl
 target-governs t table (At d name None) = refl
 target-governs t table (At d name (Some n)) = by (is_directory_at t n)
   where
-    by : (b : Bool) → governing_entry t table (place_of (if b then Directory n else Name d name)) ≡ (if b then directory_rights t table n else option_or (entry_for table (Name d name)) (directory_rights t table d))
+    by : (b : Bool) → governing_entry t table (place_of_target (if b then Directory n else Name d name)) ≡ (if b then directory_rights t table n else option_or (entry_for table (Name d name)) (directory_rights t table d))
     by true = refl
     by false = refl
 
@@ -184,7 +184,7 @@ module _ (program_of : Bytes → Option Program) (fs : List Found) (u : State) (
     it : IsRequested program_of (requests_of program_of fs) u pid p call
     it = requested program_of fs u pid p call seen live is
 
-    -- a request with what is shown of a call
+    -- a request with the shown data of a call
     abbrev request_of : ShownCall → Request
     request_of c = record { before = record u { tree = c.tree }; process = record p { table = c.table }; call = c.call; asked = c.asked }
 
@@ -207,7 +207,7 @@ module _ (program_of : Bytes → Option Program) (fs : List Found) (u : State) (
           ∙ ap₂ (λ (a b : Bool). a && not b) (ap is_some in_force) (plain call is))
 
       used : (k : ℕ) (e : Target × Perms) → governing_entry u.tree held place ≡ Some k → slice_get held k ≡ Some e → covers e.1 w.needed ≡ true
-          → covers (joined (filter (λ (g : Granted). bytes_eq g.0 (target_words u.tree e.0)) (all_used (restricted group.1)))) w.needed ≡ true
+          → covers (union_of_granted (filter (λ (g : Granted). bytes_eq g.0 (target_words u.tree e.0)) (all_used (restricted group.1)))) w.needed ≡ true
       used k e governs is_e has =
           fold-covers w.needed no_permissions (map (λ (g : Granted). g.1) (filter (λ (g : Granted). bytes_eq g.0 words) (all_used (restricted group.1)))) w.needed
           (among-map (λ (g : Granted). g.1) (words, w.needed) (filter (λ (g : Granted). bytes_eq g.0 words) (all_used (restricted group.1)))
@@ -217,22 +217,22 @@ module _ (program_of : Bytes → Option Program) (fs : List Found) (u : State) (
           words : Bytes
           words = target_words u.tree e.0
 
-          governs' : governing_entry u.tree (entries_of_table p.table) (place_of j.target) ≡ Some k
-          governs' = ap (λ (o : Option Table). governing_entry u.tree (entries_of_table o) (place_of j.target)) in_force ∙ target-governs u.tree held place ∙ governs
+          governs' : governing_entry u.tree (entries_of_table p.table) (place_of_target j.target) ≡ Some k
+          governs' = ap (λ (o : Option Table). governing_entry u.tree (entries_of_table o) (place_of_target j.target)) in_force ∙ target-governs u.tree held place ∙ governs
 
-          allowed' : is_allowed (judgement u.tree p.table (place_of j.target) w.needed) ≡ true
+          allowed' : is_allowed (judgement u.tree p.table (place_of_target j.target) w.needed) ≡ true
           allowed' =
-              ap (λ (o : Option Table). is_allowed (judgement u.tree o (place_of j.target) w.needed)) in_force
-              ∙ allowed-there u.tree held (place_of j.target) w.needed k e (target-governs u.tree held place ∙ governs) is_e has
+              ap (λ (o : Option Table). is_allowed (judgement u.tree o (place_of_target j.target) w.needed)) in_force
+              ∙ allowed-there u.tree held (place_of_target j.target) w.needed k e (target-governs u.tree held place ∙ governs) is_e has
 
           entry' : slice_get (entries_of_table p.table) k ≡ Some e
           entry' = ap (λ (o : Option Table). slice_get (entries_of_table o) k) in_force ∙ is_e
 
           own-used : Among (words, w.needed) (permissions_used own j)
           own-used =
-              subst (λ (b : Bool). Among (words, w.needed) (if b then at_governor own (governing_entry u.tree (entries_of_table p.table) (place_of j.target)) w.needed else [])) (sym allowed')
+              subst (λ (b : Bool). Among (words, w.needed) (if b then at_governor own (governing_entry u.tree (entries_of_table p.table) (place_of_target j.target)) w.needed else [])) (sym allowed')
               (subst (λ (o : Option ℕ). Among (words, w.needed) (at_governor own o w.needed)) (sym governs')
-              (subst (λ (o : Option (Target × Perms)). Among (words, w.needed) (at_entry own o w.needed)) (sym entry') (inl refl)))
+              (subst (λ (o : Option (Target × Perms)). Among (words, w.needed) (used_at_entry own o w.needed)) (sym entry') (inl refl)))
 
           in-all : Among (words, w.needed) (all_used (restricted group.1))
           in-all =
@@ -253,14 +253,14 @@ module _ (program_of : Bytes → Option Program) (fs : List Found) (u : State) (
 
 pub idle-lines_of_permissions : IdleLinesAreOfPermissions
 idle-lines_of_permissions rs =
-    lines-of rs (all_used (restricted rs)) (flat_map entries_held (restricted rs)) refl refl (new_ones (λ (g : Granted). g.0) [] (flat_map entries_held (restricted rs)))
+    lines-of rs (all_used (restricted rs)) (flat_map entries_held (restricted rs)) refl refl (elements_with_new_keys (λ (g : Granted). g.0) [] (flat_map entries_held (restricted rs)))
 
 pub idle-permissions : IdlePermissionsAreIdle
 idle-permissions program_of limit s group pids pid p held set it complete listed live same plain in_force lacks =
-    idle-lines program_of (states_found program_of limit s) (run program_of pids s).final pid p (seen-full program_of limit s it complete pids pid) live (run-keeps_whole program_of it.encodes pids s it.whole)
+    idle-lines program_of (states_found program_of limit s) (run program_of pids s).final pid p (seen-full program_of limit s it complete pids pid) live (run-keeps_valid program_of it.encodes pids s it.whole)
     group (themselves (calling_programs program_of limit s) group listed) same plain held set in_force lacks
 
 pub idle-permissions_reduced : IdlePermissionsAreIdleReduced
 idle-permissions_reduced program_of limit s group pids pid p held set it complete listed steps live same plain in_force lacks =
     idle-lines program_of (reduced_found program_of s limit) (run program_of pids s).final pid p (seen-reduced program_of limit s it complete pids pid p steps live) live
-    (run-keeps_whole program_of it.encodes pids s it.whole) group (themselves (reduced_calling_programs program_of limit s) group listed) same plain held set in_force lacks
+    (run-keeps_valid program_of it.encodes pids s it.whole) group (themselves (reduced_calling_programs program_of limit s) group listed) same plain held set in_force lacks

@@ -10,22 +10,22 @@ use Rattle.pv_model.specs.Answers.Observed.{is_pledge}
 use Rattle.pv_model.specs.Answers.Policy.{is_idle, is_pledged_call, is_promised, needs_promise, promises_in_use}
 use Rattle.pv_model.specs.Promise.{promise_bit}
 use Rattle.pv_laws_states.specs.States.{IsValid}
-use Rattle.pv_laws_states.proofs.BySteps.{run-keeps_whole}
+use Rattle.pv_laws_states.proofs.ValidBySteps.{run-keeps_valid}
 use Rattle.pv_laws_answers.specs.ProcessImages.{with_promises}
 use Rattle.pv_laws_answers.proofs.Lists.{Among, among-any, any-among, filter-among}
 use Rattle.pv_laws_classes.specs.Reduced.{reduced_found}
 use Rattle.pv_laws_classes.specs.Shown.{ShownCall}
-use Rattle.pv_laws_classes.proofs.SeenProcesses.{themselves}
-use Rattle.pv_laws_schedules.specs.Idle.{IdlePromisesAreIdle, IdlePromisesAreIdleReduced, LacksIdle, StepsDifferInPromises, idle_promises}
+use Rattle.pv_laws_classes.proofs.ReducedProcesses.{themselves}
+use Rattle.pv_laws_schedules.specs.Idle.{IdlePromisesAreIdle, IdlePromisesAreIdleReduced, LacksIdle, StepsDifferInPromises, listed_idle_promises}
 use Rattle.pv_laws_schedules.specs.Policy.{calling_programs}
 use Rattle.pv_laws_schedules.specs.ReducedPolicy.{reduced_calling_programs}
 use Rattle.pv_laws_schedules.proofs.FewerPromises.{steps-fewer}
-use Rattle.pv_laws_schedules.proofs.SeenStates.{IsSeenIn, seen-full, seen-reduced}
+use Rattle.pv_laws_schedules.proofs.ShownStates.{IsSeenIn, seen-full, seen-reduced}
 use Rattle.pv_laws_schedules.proofs.VisitedCalls.{programs_of, requested, of-program}
 
 -- ---- needs
 
--- promises that agree on all that are needed miss the same
+-- promises that agree on all needed promises miss the same
 module _ (held set : Promises) where
   abbrev Agree : Promise → Type 0
   Agree a = contains set a ≡ contains held a
@@ -52,8 +52,8 @@ error-used c (inr (inr (inr (inr (inr (inr (inl e))))))) is = let no : false ≡
 error-used c (inr (inr (inr (inr (inr (inr (inr none))))))) is = none
 
 module _ (rs : Requests) (held set : Promises) (lacks : LacksIdle rs held set) where
-  agree-unlisted : (a : Promise) → (list_any (same_promise a) (idle_promises rs) ≡ true → ⊥) → contains set a ≡ contains held a
-  agree-unlisted a unlisted = lacks a ∙ by (list_any (same_promise a) (idle_promises rs)) unlisted (contains held a)
+  agree-unlisted : (a : Promise) → (list_any (same_promise a) (listed_idle_promises rs) ≡ true → ⊥) → contains set a ≡ contains held a
+  agree-unlisted a unlisted = lacks a ∙ by (list_any (same_promise a) (listed_idle_promises rs)) unlisted (contains held a)
     where
       by : (b : Bool) → (b ≡ true → ⊥) → (c : Bool) → (c && not b) ≡ c
       by true never c = absurd (never refl)
@@ -63,14 +63,14 @@ module _ (rs : Requests) (held set : Promises) (lacks : LacksIdle rs held set) w
   lenient-same : is_lenient (Some set) ≡ is_lenient (Some held)
   lenient-same =
       agree-unlisted Error (λ listed.
-      let c = among-any (same_promise Error) (idle_promises rs) listed in
+      let c = among-any (same_promise Error) (listed_idle_promises rs) listed in
       error-used c.0 (filter-among (is_idle rs) c.0 promises_in_use c.1).0 c.2)
 
   -- a promise that a call of the program needs is not idle
   needed-kept : (r : Observation Request) → Among r rs → (need : Need) → Among need (needs r.item.call) → (a : Promise) → Among a need → contains set a ≡ contains held a
   needed-kept r within need has a among =
       agree-unlisted a (λ listed.
-      let c = among-any (same_promise a) (idle_promises rs) listed in
+      let c = among-any (same_promise a) (listed_idle_promises rs) listed in
       let idle = (filter-among (is_idle rs) c.0 promises_in_use c.1).1 in
       let unneeded = not-true (needs_promise rs c.0) (and_parts (list_any (λ (r : Observation Request). is_pledged_call r.item && is_promised c.0 r.item.process.promises) rs) (not (needs_promise rs c.0)) idle).1 in
       let same : same_promise c.0 a ≡ true = eq-eqb (promise_bit c.0) (promise_bit a) (sym (eqb-true (promise_bit a) (promise_bit c.0) c.2)) in
@@ -101,10 +101,10 @@ module _ (program_of : Bytes → Option Program) (fs : List Found) (u : State) (
 
 pub idle-promises : IdlePromisesAreIdle
 idle-promises program_of limit s group pids pid p held set it complete listed live same plain pledged lacks =
-    idle-step program_of (states_found program_of limit s) (run program_of pids s).final pid p (seen-full program_of limit s it complete pids pid) live (run-keeps_whole program_of it.encodes pids s it.whole)
+    idle-step program_of (states_found program_of limit s) (run program_of pids s).final pid p (seen-full program_of limit s it complete pids pid) live (run-keeps_valid program_of it.encodes pids s it.whole)
     group (themselves (calling_programs program_of limit s) group listed) same plain held set pledged lacks
 
 pub idle-promises_reduced : IdlePromisesAreIdleReduced
 idle-promises_reduced program_of limit s group pids pid p held set it complete listed steps live same plain pledged lacks =
     idle-step program_of (reduced_found program_of s limit) (run program_of pids s).final pid p (seen-reduced program_of limit s it complete pids pid p steps live) live
-    (run-keeps_whole program_of it.encodes pids s it.whole) group (themselves (reduced_calling_programs program_of limit s) group listed) same plain held set pledged lacks
+    (run-keeps_valid program_of it.encodes pids s it.whole) group (themselves (reduced_calling_programs program_of limit s) group listed) same plain held set pledged lacks

@@ -17,12 +17,12 @@ use Rattle.pv_model.specs.declared.promise.Promise.{Promise}
 use Rattle.pv_model.specs.Machine.{Answered, answer, answer_of, answer_where, answer_by_attempt, at_next_line, effect, Access, executes, changes_name, accesses, node_of_descriptor, Attempt, done, refused, after_walks, ◌>>=◌, ◌>>◌, refuse_if, demand, give, Bytes, open_file_for, Effect, judgement_or_refusal, name_of, node_of, open_file, place_or_refusal, end_of, needs, permissions_of_open, calls_for, next, is_lenient, missing_promise, OpenFile, Program, Process, State, process_at, reads as for_reading, writes as for_writing, Stepped, step, step_by, read_file, change_file, report_node, read_by_descriptor, read_by_execve, descriptor_of, flags_of, has_succeeded, place_found, places, Justifies, judgement, Walked, begins_walk, Walk, execve_walk, walks_of, is_unveil, gain_descriptor}
 use Rattle.pv_model.specs.Answers.Access.{reads, writes, reports, opens, touch_of, accesses_by_open, accesses_by_success, node_opened, nodes_executed, nodes_of_places, nodes_read, nodes_reported, nodes_written, places_changed}
 use Rattle.pv_model.specs.Touch.{change_by_descriptor, change_by_open, entry_by_place, gain_by_open, reports_of_descriptor, reports_of_place, IsNodeOfDescriptor, IsNodeOfPlace}
-use Rattle.pv_laws_states.specs.Courses.{walks_in_sequence, GoesAlong, IsStoppedEarly}
+use Rattle.pv_laws_states.specs.Courses.{walks_in_sequence, IsOnCourse, IsStoppedEarly}
 use Rattle.pv_laws_states.specs.States.{IsValid}
 use Rattle.pv_laws_states.proofs.CallWalks.{calls-along}
-use Rattle.pv_laws_states.proofs.Outcomes.{at_call}
-use Rattle.pv_laws_states.proofs.CallRests
-use Rattle.pv_laws_access.proofs.Ends.{step-is}
+use Rattle.pv_laws_states.proofs.CallOutcomes.{at_call}
+use Rattle.pv_laws_states.proofs.CallRemainders
+use Rattle.pv_laws_access.proofs.ProcessesAfterEnds.{step-is}
 use Rattle.pv_laws_access.proofs.CallEffects.{open_file_for-is}
 use Rattle.pv_laws_access.proofs.JustifiedReports.{reporting-justified}
 use Rattle.pv_laws_access.proofs.NextNames.{answer-does}
@@ -31,10 +31,10 @@ use Rattle.pv_laws_answers.proofs.AskingCalls.{along-one}
 use Rattle.pv_laws_answers.proofs.CompleteSearches.{among-contains}
 use Rattle.pv_laws_answers.proofs.Lists.{Among, among-either, map-among, filter_map-among}
 use Rattle.pv_laws_schedules.specs.Access.{AccessesAreJustified}
-use Rattle.pv_laws_schedules.proofs.DoneCalls.{done-names, opened-node}
+use Rattle.pv_laws_schedules.proofs.StatesAfterSuccess.{done-names, opened-node}
 use Rattle.pv_laws_schedules.proofs.NamedPlaces.{changed-place}
 use Rattle.pv_laws_schedules.proofs.SuccessfulCalls.{is-done}
-use Rattle.pv_laws_classes.proofs.SeenProcesses.{themselves}
+use Rattle.pv_laws_classes.proofs.ReducedProcesses.{themselves}
 
 -- an outcome that no missing promise has
 abbrev passes : Outcome → Bool
@@ -110,7 +110,7 @@ module _ (program_of : Bytes → Option Program) (s : State) (pid : ℕ) (p : Pr
         along-is : walks_in_sequence x now (walks_of call) ≡ after_walks 1 (judgement_or_refusal (judgement s.tree p.table place w.needed) >> give tt)
         along-is = ap (walks_in_sequence x now) one ∙ along-one x now w [] place ends
 
-        of : (j : Judgement) → judgement s.tree p.table place w.needed ≡ j → (walks : ℕ) (v : Effect) → GoesAlong (after_walks 1 (judgement_or_refusal j >> give tt)) (done walks v) → judgement s.tree p.table place w.needed ≡ Allowed
+        of : (j : Judgement) → judgement s.tree p.table place w.needed ≡ j → (walks : ℕ) (v : Effect) → IsOnCourse (after_walks 1 (judgement_or_refusal j >> give tt)) (done walks v) → judgement s.tree p.table place w.needed ≡ Allowed
         of Allowed judged walks v goes = judged
         of Hidden judged walks v goes = cc goes
         of (Denied k) judged walks v goes = cc goes
@@ -119,7 +119,7 @@ module _ (program_of : Bytes → Option Program) (s : State) (pid : ℕ) (p : Pr
         by (refused walks errno cause) same = let bad : Value n ≡ Failed errno cause = sym value ∙ outcome-by (refused walks errno cause) same in cc bad
         by (done walks v) same =
             ⊎_elim (λ stopped. absurd (subst (λ (a : Attempt Effect). IsStoppedEarly a) same stopped))
-            (λ goes. of (judgement s.tree p.table place w.needed) refl walks v (subst (λ (a : Attempt Effect). GoesAlong (after_walks 1 (judgement_or_refusal (judgement s.tree p.table place w.needed) >> give tt)) a) same (subst (λ c. GoesAlong c e) along-is goes)))
+            (λ goes. of (judgement s.tree p.table place w.needed) refl walks v (subst (λ (a : Attempt Effect). IsOnCourse (after_walks 1 (judgement_or_refusal (judgement s.tree p.table place w.needed) >> give tt)) a) same (subst (λ c. IsOnCourse c e) along-is goes)))
             (calls-along program_of x pid now call plain)
 
 -- ---- the file of a descriptor
@@ -147,7 +147,7 @@ module _ (program_of : Bytes → Option Program) (s : State) (pid : ℕ) (p : Pr
     where
       by : (q : Option (ℕ × OpenFile)) → open_file_for y pid me for_reading d ≡ q → Justifies s p (TheCall.Read d n) (read_file f)
       by None none =
-          let failed = outcome-by program_of s pid p (TheCall.Read d n) at is passed (refused 0 EBADF Plain) (ap (λ q. demand EBADF q >>= CallRests.read_1 y pid me n) none) in
+          let failed = outcome-by program_of s pid p (TheCall.Read d n) at is passed (refused 0 EBADF Plain) (ap (λ q. demand EBADF q >>= CallRemainders.read_1 y pid me n) none) in
           let bad = sym text ∙ failed in cc bad
       by (Some (k, file)) some =
           let both = open_file_for-is y pid me for_reading d k file some in
@@ -161,7 +161,7 @@ module _ (program_of : Bytes → Option Program) (s : State) (pid : ℕ) (p : Pr
     where
       by : (q : Option (ℕ × OpenFile)) → open_file_for y pid me for_writing d ≡ q → Justifies s p (TheCall.Write d n) (change_file f)
       by None none =
-          let failed = outcome-by program_of s pid p (TheCall.Write d n) at is passed (refused 0 EBADF Plain) (ap (λ q. demand EBADF q >>= CallRests.write_1 y pid me n) none) in
+          let failed = outcome-by program_of s pid p (TheCall.Write d n) at is passed (refused 0 EBADF Plain) (ap (λ q. demand EBADF q >>= CallRemainders.write_1 y pid me n) none) in
           let bad = sym value ∙ failed in cc bad
       by (Some (k, file)) some =
           let both = open_file_for-is y pid me for_writing d k file some in
@@ -176,12 +176,12 @@ module _ (program_of : Bytes → Option Program) (s : State) (pid : ℕ) (p : Pr
       of k file some true mode = change_by_descriptor f (d, k, file, refl, some, node-of s p (TheCall.Ftruncate d n) d f refl k file some h, mode)
       of k file some false mode =
           let failed = outcome-by program_of s pid p (TheCall.Ftruncate d n) at is passed (refused 0 EINVAL Plain)
-          (ap (λ q. demand EBADF q >>= CallRests.ftruncate_1 y pid me n) some ∙ ap (λ (b : Bool). after_walks 0 (refuse_if EINVAL (not b) >> CallRests.ftruncate_2 y pid me n file)) mode) in
+          (ap (λ q. demand EBADF q >>= CallRemainders.ftruncate_1 y pid me n) some ∙ ap (λ (b : Bool). after_walks 0 (refuse_if EINVAL (not b) >> CallRemainders.ftruncate_2 y pid me n file)) mode) in
           let bad = sym value ∙ failed in cc bad
 
       by : (q : Option (ℕ × OpenFile)) → open_file y me d ≡ q → Justifies s p (TheCall.Ftruncate d n) (change_file f)
       by None none =
-          let failed = outcome-by program_of s pid p (TheCall.Ftruncate d n) at is passed (refused 0 EBADF Plain) (ap (λ q. demand EBADF q >>= CallRests.ftruncate_1 y pid me n) none) in
+          let failed = outcome-by program_of s pid p (TheCall.Ftruncate d n) at is passed (refused 0 EBADF Plain) (ap (λ q. demand EBADF q >>= CallRemainders.ftruncate_1 y pid me n) none) in
           let bad = sym value ∙ failed in cc bad
       by (Some (k, file)) some = of k file some (for_writing file.mode) refl
 
@@ -194,11 +194,11 @@ module _ (program_of : Bytes → Option Program) (s : State) (pid : ℕ) (p : Pr
     ends = found-ok (end_of s p (execve_walk path)) place (one-walk (place_found (end_of s p (execve_walk path))) place has)
 
     effect-of : (j : Judgement) → judgement s.tree p.table place (execve_walk path).needed ≡ j
-        → effect program_of y pid me (TheCall.Execve path) ≡ after_walks walks (judgement_or_refusal j >> CallRests.execve_1 y pid me program_of place)
+        → effect program_of y pid me (TheCall.Execve path) ≡ after_walks walks (judgement_or_refusal j >> CallRemainders.execve_1 y pid me program_of place)
     unfolding effect
     effect-of j judged =
-        ap (λ (r : Walked). place_or_refusal walks r >>= (λ place. judgement_or_refusal (judgement y.tree me.table place (execve_walk path).needed) >> CallRests.execve_1 y pid me program_of place)) ends
-        ∙ ap (λ (j : Judgement). after_walks walks (judgement_or_refusal j >> CallRests.execve_1 y pid me program_of place)) judged
+        ap (λ (r : Walked). place_or_refusal walks r >>= (λ place. judgement_or_refusal (judgement y.tree me.table place (execve_walk path).needed) >> CallRemainders.execve_1 y pid me program_of place)) ends
+        ∙ ap (λ (j : Judgement). after_walks walks (judgement_or_refusal j >> CallRemainders.execve_1 y pid me program_of place)) judged
 
     execve-allowed : is_execution (step program_of s pid).outcome ≡ true → judgement s.tree p.table place (execve_walk path).needed ≡ Allowed
     execve-allowed execution = by (judgement s.tree p.table place (execve_walk path).needed) refl
@@ -206,10 +206,10 @@ module _ (program_of : Bytes → Option Program) (s : State) (pid : ℕ) (p : Pr
         by : (j : Judgement) → judgement s.tree p.table place (execve_walk path).needed ≡ j → judgement s.tree p.table place (execve_walk path).needed ≡ Allowed
         by Allowed judged = judged
         by Hidden judged =
-            let failed = outcome-by program_of s pid p (TheCall.Execve path) at is passed (after_walks walks (judgement_or_refusal Hidden >> CallRests.execve_1 y pid me program_of place)) (effect-of Hidden judged) in
+            let failed = outcome-by program_of s pid p (TheCall.Execve path) at is passed (after_walks walks (judgement_or_refusal Hidden >> CallRemainders.execve_1 y pid me program_of place)) (effect-of Hidden judged) in
             let bad : true ≡ false = sym execution ∙ ap is_execution failed in cc bad
         by (Denied k) judged =
-            let failed = outcome-by program_of s pid p (TheCall.Execve path) at is passed (after_walks walks (judgement_or_refusal (Denied k) >> CallRests.execve_1 y pid me program_of place)) (effect-of (Denied k) judged) in
+            let failed = outcome-by program_of s pid p (TheCall.Execve path) at is passed (after_walks walks (judgement_or_refusal (Denied k) >> CallRemainders.execve_1 y pid me program_of place)) (effect-of (Denied k) judged) in
             let bad : true ≡ false = sym execution ∙ ap is_execution failed in cc bad
 
     execve-justified : is_execution (step program_of s pid).outcome ≡ true → (f : ℕ) → node_of place ≡ Some f → Justifies s p (TheCall.Execve path) (read_file f)

@@ -7,11 +7,11 @@ use Rattle.pv_model.specs.declared.verdict.Why.TheVariants.{Reads, NoTable, NotL
 use Rattle.pv_model.specs.Machine.{Promises, contains, Process, State, reads, IsWellFormed, Table}
 use Rattle.pv_model.specs.Closed
 use Rattle.pv_model.specs.Sealed
-use Rattle.pv_laws_trees.proofs.Members.{In, least-in, least-low}
+use Rattle.pv_laws_trees.proofs.ListMembers.{In, least-in, least-low}
 use Rattle.pv_laws_access.proofs.Verdicts.{one}
 use Rattle.pv_laws_answers.proofs.CompleteSearches.{among-contains}
 use Rattle.pv_laws_answers.proofs.Lists.{Among, among-either, among-left, among-right}
-use Rattle.pv_laws_classes.proofs.SeenProcesses.{themselves}
+use Rattle.pv_laws_classes.proofs.ReducedProcesses.{themselves}
 use Rattle.pv_laws_schedules.specs.LeastReasons.{IsLeastReason, LeaksAreLeastReasons}
 use Rattle.pv_laws_schedules.proofs.FixedProcesses.{givers, governors, openers, over-exec}
 
@@ -76,7 +76,7 @@ module _ (s : State) (p : Process) (f : ℕ) (w : IsWellFormed s.tree) where
   abbrev Each : Option Promises → Type 0
   Each o = (Sealed.has_none_of (Rpath ∷ []) o ≡ true) × (Sealed.has_none_of (ExecPromise ∷ []) o ≡ true) × (Sealed.has_none_of (Cpath ∷ []) o ≡ true)
 
-  shut : pledged ≡ true ↔ Closed.IsPledgedShut s p f
+  shut : pledged ≡ true ↔ Closed.IsClosedByPledge s p f
   shut = (
     λ is. (let each = parts p.promises is in record { no_rpath = (one p Rpath).0 each.0; no_exec = (one p ExecPromise).0 each.1; no_cpath = (one p Cpath).0 each.2 }),
     λ shut. whole p.promises ((one p Rpath).1 shut.no_rpath, (one p ExecPromise).1 shut.no_exec, (one p Cpath).1 shut.no_cpath),
@@ -118,10 +118,10 @@ module _ (s : State) (p : Process) (f : ℕ) (w : IsWellFormed s.tree) where
   abbrev execs : List Why
   execs = Sealed.when (not held) Exec
 
-  not-shut : pledged ≡ false → ¬ Closed.IsPledgedShut s p f
+  not-shut : pledged ≡ false → ¬ Closed.IsClosedByPledge s p f
   not-shut is pledge = let both : true ≡ false = sym (shut.1 pledge) ∙ is in cc both
 
-  shut-not : ¬ Closed.IsPledgedShut s p f → pledged ≡ false
+  shut-not : ¬ Closed.IsClosedByPledge s p f → pledged ≡ false
   shut-not open_to = by pledged refl
     where
       by : (b : Bool) → pledged ≡ b → b ≡ false
@@ -142,7 +142,7 @@ module _ (s : State) (p : Process) (f : ℕ) (w : IsWellFormed s.tree) where
   least-reads : (k : ℕ) → IsLeast reading k → Least (Reads k)
   least-reads k least = record { holds = Closed.by_reading k ((readers k).0 least.0); least = by }
     where
-      by : (other : Why) → Reason other → Closed.sort_of other ≡ 0 → k ≤ Closed.number_of other
+      by : (other : Why) → Reason other → Closed.sort_of other ≡ 0 → k ≤ Closed.why_number other
       by _ (Closed.by_reading d has) same = least.1 d ((readers d).1 has)
       by _ (Closed.by_no_table open_to none) same = absurd (omega (arith, same))
       by _ (Closed.by_no_lock t open_to is free) same = absurd (omega (arith, same))
@@ -150,11 +150,11 @@ module _ (s : State) (p : Process) (f : ℕ) (w : IsWellFormed s.tree) where
       by _ (Closed.by_directory t j open_to is gives) same = absurd (omega (arith, same))
       by _ (Closed.by_exec t open_to is free) same = absurd (omega (arith, same))
 
-  module _ (open_to : ¬ Closed.IsPledgedShut s p f) (table : Table) (in_force : p.table ≡ Some table) where
+  module _ (open_to : ¬ Closed.IsClosedByPledge s p f) (table : Table) (in_force : p.table ≡ Some table) where
     least-gives : (k : ℕ) → IsLeast (giving table) k → Least (Gives k)
     least-gives k least = record { holds = Closed.by_name table k open_to in_force ((named table k).0 least.0); least = by }
       where
-        by : (other : Why) → Reason other → Closed.sort_of other ≡ 3 → k ≤ Closed.number_of other
+        by : (other : Why) → Reason other → Closed.sort_of other ≡ 3 → k ≤ Closed.why_number other
         by _ (Closed.by_reading d has) same = absurd (omega (arith, same))
         by _ (Closed.by_no_table open_to none) same = absurd (omega (arith, same))
         by _ (Closed.by_no_lock t open_to is free) same = absurd (omega (arith, same))
@@ -166,7 +166,7 @@ module _ (s : State) (p : Process) (f : ℕ) (w : IsWellFormed s.tree) where
     least-above : (k : ℕ) → IsLeast (higher table) k → Least (Above k)
     least-above k least = record { holds = Closed.by_directory table k open_to in_force ((raised table k).0 least.0); least = by }
       where
-        by : (other : Why) → Reason other → Closed.sort_of other ≡ 4 → k ≤ Closed.number_of other
+        by : (other : Why) → Reason other → Closed.sort_of other ≡ 4 → k ≤ Closed.why_number other
         by _ (Closed.by_reading d has) same = absurd (omega (arith, same))
         by _ (Closed.by_no_table open_to none) same = absurd (omega (arith, same))
         by _ (Closed.by_no_lock t open_to is free) same = absurd (omega (arith, same))
@@ -176,10 +176,10 @@ module _ (s : State) (p : Process) (f : ℕ) (w : IsWellFormed s.tree) where
         by _ (Closed.by_exec t open_to is free) same = absurd (omega (arith, same))
 
   -- a reason without a number is the least of its kind
-  alone : (why : Why) → Reason why → Closed.number_of why ≡ 0 → Least why
+  alone : (why : Why) → Reason why → Closed.why_number why ≡ 0 → Least why
   alone why holds none = record { holds = holds; least = λ other is same. omega (arith, none) }
 
-  table-least : ¬ Closed.IsPledgedShut s p f → (o : Option Table) → p.table ≡ o → (why : Why) → Among why (of_table o) → Least why
+  table-least : ¬ Closed.IsClosedByPledge s p f → (o : Option Table) → p.table ≡ o → (why : Why) → Among why (of_table o) → Least why
   table-least open_to None at why (inl e) = subst Least (sym e) (alone NoTable (Closed.by_no_table open_to at) refl)
   table-least open_to None at why (inr none) = absurd none
   table-least open_to (Some table) at why h =
@@ -209,7 +209,7 @@ module _ (s : State) (p : Process) (f : ℕ) (w : IsWellFormed s.tree) where
 
   -- ---- each reason that is the least of its kind is listed
 
-  in-table : (table : Table) (why : Why) → ¬ Closed.IsPledgedShut s p f → p.table ≡ Some table
+  in-table : (table : Table) (why : Why) → ¬ Closed.IsClosedByPledge s p f → p.table ≡ Some table
       → Among why locks ⊎ (Among why (names table) ⊎ (Among why (above table) ⊎ Among why execs)) → Among why (Sealed.leaks s p f)
   in-table table why open_to in_force l =
       subst (Among why) (sym leaks-are)
@@ -223,7 +223,7 @@ module _ (s : State) (p : Process) (f : ℕ) (w : IsWellFormed s.tree) where
       by (inr (inr (inl l))) = among-left why (locks ++ names table ++ above table) execs (among-right why (locks ++ names table) (above table) l)
       by (inr (inr (inr l))) = among-right why (locks ++ names table ++ above table) execs l
 
-  holds-listed : (why : Why) → Reason why → ((other : Why) → Reason other → Closed.sort_of other ≡ Closed.sort_of why → Closed.number_of why ≤ Closed.number_of other) → Among why (Sealed.leaks s p f)
+  holds-listed : (why : Why) → Reason why → ((other : Why) → Reason other → Closed.sort_of other ≡ Closed.sort_of why → Closed.why_number why ≤ Closed.why_number other) → Among why (Sealed.leaks s p f)
   holds-listed _ (Closed.by_reading d has) least =
       subst (Among (Reads d)) (sym leaks-are)
       (among-left (Reads d) (Sealed.least_first Reads reading) (if pledged then [] else of_table p.table)

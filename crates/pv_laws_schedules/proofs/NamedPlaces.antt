@@ -19,11 +19,11 @@ use Rattle.pv_model.specs.Calls.Paths.{make}
 use Rattle.pv_model.specs.Needs.{permissions_of_mode}
 use Rattle.pv_model.specs.Walks.{mkdir_walk, symlink_walk, linked_walk, new_link_walk, unlink_walk, rmdir_walk}
 use Rattle.pv_laws_states.specs.States.{is_call, is_text, IsValid}
-use Rattle.pv_laws_states.proofs.Attempts.{Leads, leads-after_walks, leads-then, leads-refuse_if, leads-demand, leads-room}
-use Rattle.pv_laws_states.proofs.ByTree.{fine-place, named-place}
-use Rattle.pv_laws_states.proofs.CallRests
-use Rattle.pv_laws_trees.proofs.Entries.{by_name}
-use Rattle.pv_laws_trees.proofs.Generic.{not-there}
+use Rattle.pv_laws_states.proofs.AttemptValues.{Leads, leads-after_walks, leads-then, leads-refuse_if, leads-demand, leads-room}
+use Rattle.pv_laws_states.proofs.ValidByTree.{fine-place, named-place}
+use Rattle.pv_laws_states.proofs.CallRemainders
+use Rattle.pv_laws_trees.proofs.DirectoryEntries.{by_name}
+use Rattle.pv_laws_trees.proofs.ListTests.{not-there}
 use Rattle.pv_laws_access.proofs.CallEffects.{leads-judged}
 use Rattle.pv_laws_access.proofs.ChangedTrees.{cases_entry, entries-content, entry-with_other}
 use Rattle.pv_laws_access.proofs.ClosedProcesses.{allowed-by}
@@ -145,9 +145,9 @@ module _ (s : State) (pid : ℕ) (me : Process) where
   names-make : (call : Call) (follow : Follow) (node : Node) (path : Bytes) → flags_of call ≡ None → ((place : Place) → resolve s.tree follow me.directory path ≡ Ok place → places s me call ≡ place ∷ [])
       → Leads (N call) (make s pid me (from_here follow path permission_c) node)
   names-make call follow node path unflagged only =
-      leads-judged (N call) s me me.directory follow path permission_c (CallRests.make_1 s pid me node) (λ place found allowed.
-      leads-refuse_if (N call) EEXIST (is_some (node_of place)) (CallRests.make_2 s pid me node place) (λ free.
-      leads-each (N call) (CallRests.make_2 s pid me node place) (λ (after, r). record {
+      leads-judged (N call) s me me.directory follow path permission_c (CallRemainders.make_1 s pid me node) (λ place found allowed.
+      leads-refuse_if (N call) EEXIST (is_some (node_of place)) (CallRemainders.make_2 s pid me node place) (λ free.
+      leads-each (N call) (CallRemainders.make_2 s pid me node place) (λ (after, r). record {
         allows = allows-one call place (only place found) allowed;
         absent = absent-one call place after (only place found) (not-there (node_of place) free);
         opens = λ f flagged. let no : Some f ≡ None = sym flagged ∙ unflagged in cc no;
@@ -166,13 +166,13 @@ module _ (s : State) (pid : ℕ) (me : Process) where
 
   module _ (call : Call) (path : Bytes) (f : OpenFlags) (flagged : flags_of call ≡ Some f) (keeps : removes_names call ≡ false) where
     abbrev there : Place → Option Node
-    there place = CallRests.node_there s pid me place
+    there place = CallRemainders.node_there s pid me place
 
     opened-node : (place : Place) → places s me call ≡ place ∷ [] → judgement s.tree me.table place (permissions_of_open f) ≡ Allowed → (is_none (there place) && not f.create) ≡ false
-        → (name : Option (ℕ × Bytes)) (node : Option ℕ) → name_of place ≡ name → node_of place ≡ node → Leads (N call) (open_node s pid me f name node >>= CallRests.open_7 s pid me)
+        → (name : Option (ℕ × Bytes)) (node : Option ℕ) → name_of place ≡ name → node_of place ≡ node → Leads (N call) (open_node s pid me f name node >>= CallRemainders.open_7 s pid me)
     opened-node place only allowed made name (Some n) named is =
         let t : Tree = if f.truncate then with_content s.tree n [] else s.tree in
-        leads-after_walks (N call) 0 (CallRests.open_7 s pid me (with_open_file s pid me f n t))
+        leads-after_walks (N call) 0 (CallRemainders.open_7 s pid me (with_open_file s pid me f n t))
         (leads-room (N call) (with_open_file s pid me f n t) (λ roomy. answers roomy (least_free me.descriptors)) (λ short fit. record {
           allows = λ other has. absurd (there-already other (changed-place call other has) (absent-place call other keeps has));
           absent = λ creates d name differs other has own. absurd (differs (entries-stay f.truncate d name));
@@ -194,7 +194,7 @@ module _ (s : State) (pid : ℕ) (me : Process) where
     opened-node place only allowed made (Some p) None named is =
         let t : Tree = with_new_node s.tree p.0 p.1 (file_node false []) in
         let create = created (there place) f.create made (ap (option_and_then (node_at s.tree)) is) in
-        leads-after_walks (N call) 0 (CallRests.open_7 s pid me (with_open_file s pid me f (new_number s.tree) t))
+        leads-after_walks (N call) 0 (CallRemainders.open_7 s pid me (with_open_file s pid me f (new_number s.tree) t))
         (leads-room (N call) (with_open_file s pid me f (new_number s.tree) t) (λ roomy. answers roomy (least_free me.descriptors)) (λ short fit. record {
           allows = allows-one call place only (allowed-creating s.tree me.table place f create allowed);
           absent = absent-one call place (with_open_file s pid me f (new_number s.tree) t) only is;
@@ -207,16 +207,16 @@ module _ (s : State) (pid : ℕ) (me : Process) where
     names-open : (start : Start) → ((place : Place) → end_of s me (open_walk start path f) ≡ Ok place → places s me call ≡ place ∷ []) → Leads (N call) (open_at s pid me start path f)
     names-open start only =
         let directory : ℕ = start_directory s me start path in
-        leads-then (N call) (refuse_if EINVAL (contradicts f)) (check_start s pid me start path >> CallRests.open_a s pid me path f directory) (
-        leads-then (N call) (check_start s pid me start path) (CallRests.open_a s pid me path f directory) (
-        leads-then (N call) (refuse_if EMFILE (nat_le 16 (least_free me.descriptors))) (CallRests.open_b s pid me path f directory) (
-        leads-then (N call) (refuse_if ENFILE (nat_le 128 (least_free s.files))) (CallRests.open_c s pid me path f directory) (
-        leads-judged (N call) s me directory (follow_of f) path (permissions_of_open f) (CallRests.open_1 s pid me f) (λ place found allowed.
-        leads-then (N call) (refuse_if EEXIST (f.create && f.exclusive && is_some (there place))) (CallRests.open_2 s pid me f place) (
-        leads-refuse_if (N call) ENOENT (is_none (there place) && not f.create) (CallRests.open_3 s pid me f place) (λ made.
-        leads-then (N call) (refuse_if ELOOP (is_link (there place))) (CallRests.open_4 s pid me f place) (
-        leads-then (N call) (refuse_if ENOTDIR (f.directory && not (is_directory (there place)))) (CallRests.open_5 s pid me f place) (
-        leads-then (N call) (refuse_if EISDIR (is_directory (there place) && writes f.mode)) (CallRests.open_6 s pid me f place) (
+        leads-then (N call) (refuse_if EINVAL (contradicts f)) (check_start s pid me start path >> CallRemainders.open_a s pid me path f directory) (
+        leads-then (N call) (check_start s pid me start path) (CallRemainders.open_a s pid me path f directory) (
+        leads-then (N call) (refuse_if EMFILE (nat_le 16 (least_free me.descriptors))) (CallRemainders.open_b s pid me path f directory) (
+        leads-then (N call) (refuse_if ENFILE (nat_le 128 (least_free s.files))) (CallRemainders.open_c s pid me path f directory) (
+        leads-judged (N call) s me directory (follow_of f) path (permissions_of_open f) (CallRemainders.open_1 s pid me f) (λ place found allowed.
+        leads-then (N call) (refuse_if EEXIST (f.create && f.exclusive && is_some (there place))) (CallRemainders.open_2 s pid me f place) (
+        leads-refuse_if (N call) ENOENT (is_none (there place) && not f.create) (CallRemainders.open_3 s pid me f place) (λ made.
+        leads-then (N call) (refuse_if ELOOP (is_link (there place))) (CallRemainders.open_4 s pid me f place) (
+        leads-then (N call) (refuse_if ENOTDIR (f.directory && not (is_directory (there place)))) (CallRemainders.open_5 s pid me f place) (
+        leads-then (N call) (refuse_if EISDIR (is_directory (there place) && writes f.mode)) (CallRemainders.open_6 s pid me f place) (
         opened-node place (only place found) allowed made (name_of place) (node_of place) refl refl))))))))))
 
   module _ (whole : IsValid s) (at : process_at s pid ≡ Some me) where
@@ -254,24 +254,24 @@ module _ (s : State) (pid : ℕ) (me : Process) where
         (names-make C Keep (link_node text) path refl (λ place found. one-end (symlink_walk path) place found)))
     names program_of (TheCall.Link path new) texts =
         let C : Call = TheCall.Link path new in
-        leads-judged (N C) s me me.directory Last path permission_r (CallRests.link_1 s pid me new) (λ old old_found old_allowed.
-        leads-judged (N C) s me me.directory Keep new permission_c (CallRests.link_2 s pid me old) (λ place found allowed.
-        leads-demand (N C) ENOENT (node_of old) (CallRests.link_3 s pid me place) (λ n is.
-        leads-then (N C) (refuse_if EPERM (is_directory_at s.tree n)) (CallRests.link_4 s pid me place n) (
-        leads-refuse_if (N C) EEXIST (is_some (node_of place)) (CallRests.link_5 s pid me place n) (λ free.
-        leads-demand (N C) EEXIST (name_of place) (CallRests.link_6 s pid me n) (λ p named.
+        leads-judged (N C) s me me.directory Last path permission_r (CallRemainders.link_1 s pid me new) (λ old old_found old_allowed.
+        leads-judged (N C) s me me.directory Keep new permission_c (CallRemainders.link_2 s pid me old) (λ place found allowed.
+        leads-demand (N C) ENOENT (node_of old) (CallRemainders.link_3 s pid me place) (λ n is.
+        leads-then (N C) (refuse_if EPERM (is_directory_at s.tree n)) (CallRemainders.link_4 s pid me place n) (
+        leads-refuse_if (N C) EEXIST (is_some (node_of place)) (CallRemainders.link_5 s pid me place n) (λ free.
+        leads-demand (N C) EEXIST (name_of place) (CallRemainders.link_6 s pid me n) (λ p named.
         leads-room (N C) (with_tree s (with_entry s.tree p.0 p.1 n)) (λ after. answers after 0) (λ short fit.
         linked path new old place n p texts old_found found allowed is (not-there (node_of place) free) named)))))))
-    names program_of (TheCall.Unlink path) texts = names-removing (TheCall.Unlink path) Keep path (CallRests.unlink_1 s pid me) refl refl (λ place found. one-end (unlink_walk path) place found)
+    names program_of (TheCall.Unlink path) texts = names-removing (TheCall.Unlink path) Keep path (CallRemainders.unlink_1 s pid me) refl refl (λ place found. one-end (unlink_walk path) place found)
     names program_of (TheCall.Rmdir path) texts =
-        leads-then (N (TheCall.Rmdir path)) (refuse_if EINVAL (ends_in_dot path)) (walk_from s me.directory Keep path >>= (λ place. judge_for s me place permission_c >> CallRests.rmdir_1 s pid me place))
-        (names-removing (TheCall.Rmdir path) Keep path (CallRests.rmdir_1 s pid me) refl refl (λ place found. one-end (rmdir_walk path) place found))
+        leads-then (N (TheCall.Rmdir path)) (refuse_if EINVAL (ends_in_dot path)) (walk_from s me.directory Keep path >>= (λ place. judge_for s me place permission_c >> CallRemainders.rmdir_1 s pid me place))
+        (names-removing (TheCall.Rmdir path) Keep path (CallRemainders.rmdir_1 s pid me) refl refl (λ place found. one-end (rmdir_walk path) place found))
     names program_of (TheCall.Rename path new) texts =
         let C : Call = TheCall.Rename path new in
-        leads-then (N C) (refuse_if EINVAL (ends_in_dot path || ends_in_dot new)) (walk_from s me.directory Keep path >>= (λ old. judge_for s me old permission_c >> CallRests.rename_1 s pid me new old)) (
-        leads-judged (N C) s me me.directory Keep path permission_c (CallRests.rename_1 s pid me new) (λ old old_found old_allowed.
-        leads-judged (N C) s me me.directory Keep new permission_c (CallRests.rename_2 s pid me old) (λ place found allowed.
-        leads-each (N C) (CallRests.rename_2 s pid me old place) (λ (after, r). record {
+        leads-then (N C) (refuse_if EINVAL (ends_in_dot path || ends_in_dot new)) (walk_from s me.directory Keep path >>= (λ old. judge_for s me old permission_c >> CallRemainders.rename_1 s pid me new old)) (
+        leads-judged (N C) s me me.directory Keep path permission_c (CallRemainders.rename_1 s pid me new) (λ old old_found old_allowed.
+        leads-judged (N C) s me me.directory Keep new permission_c (CallRemainders.rename_2 s pid me old) (λ place found allowed.
+        leads-each (N C) (CallRemainders.rename_2 s pid me old place) (λ (after, r). record {
           allows = allows-two C old place (two-ends (rename_walk path) (rename_walk new) old place old_found found) (λ has. old_allowed) allowed;
           absent = λ creates. cc creates;
           opens = λ f flagged. cc flagged;
@@ -290,9 +290,9 @@ module _ (s : State) (pid : ℕ) (me : Process) where
   pub write-counts : (program_of : Bytes → Option Program) (d n : ℤ) → Leads WritesCount (effect program_of s pid me (TheCall.Write d n))
   unfolding effect
   write-counts program_of d n =
-      leads-demand WritesCount EBADF (open_file_for s pid me writes d) (CallRests.write_1 s pid me n) (λ (k, file) is.
-      leads-demand WritesCount EINVAL (within 4096 n) (CallRests.write_2 s pid me k file) (λ count low.
-      leads-then WritesCount (refuse_if EFBIG (is_past_greatest s.tree (write_end s pid me file count))) (CallRests.write_3 s pid me k file count) (
+      leads-demand WritesCount EBADF (open_file_for s pid me writes d) (CallRemainders.write_1 s pid me n) (λ (k, file) is.
+      leads-demand WritesCount EINVAL (within 4096 n) (CallRemainders.write_2 s pid me k file) (λ count low.
+      leads-then WritesCount (refuse_if EFBIG (is_past_greatest s.tree (write_end s pid me file count))) (CallRemainders.write_3 s pid me k file count) (
       leads-room WritesCount (after_write s pid me k file count) (λ roomy. answers roomy count) (λ short fit. (count, refl, λ none. ap (after_write s pid me k file) none)))))
 
   abbrev pub ReturnsZero : Effect → Type 0
@@ -301,8 +301,8 @@ module _ (s : State) (pid : ℕ) (me : Process) where
   pub cut-returns : (program_of : Bytes → Option Program) (d n : ℤ) → Leads ReturnsZero (effect program_of s pid me (TheCall.Ftruncate d n))
   unfolding effect
   cut-returns program_of d n =
-      leads-demand ReturnsZero EBADF (Rattle.pv_model.specs.Effect.open_file s me d) (CallRests.ftruncate_1 s pid me n) (λ (k, file) is.
-      leads-then ReturnsZero (refuse_if EINVAL (not (writes file.mode))) (CallRests.ftruncate_2 s pid me n file) (
-      leads-demand ReturnsZero EINVAL (natural n) (CallRests.ftruncate_3 s pid me file) (λ size natural_size.
-      leads-then ReturnsZero (refuse_if EFBIG (is_past_greatest s.tree size)) (CallRests.ftruncate_4 s pid me file size) (
-      leads-room ReturnsZero (CallRests.resized s pid me file size) (λ roomy. answers roomy 0) (λ short fit. refl)))))
+      leads-demand ReturnsZero EBADF (Rattle.pv_model.specs.Effect.open_file s me d) (CallRemainders.ftruncate_1 s pid me n) (λ (k, file) is.
+      leads-then ReturnsZero (refuse_if EINVAL (not (writes file.mode))) (CallRemainders.ftruncate_2 s pid me n file) (
+      leads-demand ReturnsZero EINVAL (natural n) (CallRemainders.ftruncate_3 s pid me file) (λ size natural_size.
+      leads-then ReturnsZero (refuse_if EFBIG (is_past_greatest s.tree size)) (CallRemainders.ftruncate_4 s pid me file size) (
+      leads-room ReturnsZero (CallRemainders.resized s pid me file size) (λ roomy. answers roomy 0) (λ short fit. refl)))))

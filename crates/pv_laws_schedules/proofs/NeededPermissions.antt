@@ -13,21 +13,21 @@ use Rattle.pv_model.specs.declared.place.Place.{Place}
 use Rattle.pv_model.specs.declared.target.Target.{Target}
 use Rattle.pv_model.specs.Machine.{answer, states_found, Asked, Judged, asked, asked_by, judged_walks, same_judged, walks_judged, walks_to, target_words, Observation, observed, groups, is_unveil, Request, Requests, Bytes, no_permissions, join_permissions, covers, calls_for, next, Program, Process, State, process_at, step, run, place_found, Table, permissions_at, same_target, walks_of}
 use Rattle.pv_model.specs.Answers.Needs.{asked_next, asked_of, judged, judged_at, permissions_asked, targets_in}
-use Rattle.pv_model.specs.Answers.Policy.{program_key, walks_asked}
-use Rattle.pv_laws_trees.proofs.Entries.{bytes_eq-same, bytes_eq-itself}
-use Rattle.pv_laws_answers.specs.ProcessImages.{Moment, moments, and_moment, process_images_of, IsCallOf, GivesAt, letters_listed, targets_listed, with_own_table}
+use Rattle.pv_model.specs.Answers.Policy.{request_program_key, walks_asked}
+use Rattle.pv_laws_trees.proofs.DirectoryEntries.{bytes_eq-same, bytes_eq-itself}
+use Rattle.pv_laws_answers.specs.ProcessImages.{Moment, moments, and_moment, process_images_of, IsCallOf, GrantsAt, permissions_listed, targets_listed, with_own_table}
 use Rattle.pv_laws_answers.specs.Wanted.{reports_of_table}
 use Rattle.pv_laws_answers.proofs.CompleteSearches.{among-contains}
 use Rattle.pv_laws_answers.proofs.Lists.{Among, any-among, among-either, among-filter, among-flat, among-map, filter-among, map-among, filter_map-among}
-use Rattle.pv_laws_answers.proofs.OtherRestraints.{enough-letters, needed-letters}
+use Rattle.pv_laws_answers.proofs.OtherRestraints.{enough-single, needed-single}
 use Rattle.pv_laws_classes.specs.Reduced.{reduced_found}
 use Rattle.pv_laws_classes.specs.Shown.{ShownCall}
-use Rattle.pv_laws_schedules.specs.Policy.{calling_programs, joined_permissions, asks_at_words, GivesAsked, GivesAskedBut, ListedPermissionsAreEnough, ListedPermissionsAreNeeded}
+use Rattle.pv_laws_schedules.specs.Policy.{calling_programs, joined_permissions, asks_at_words, GrantsDemands, GrantsDemandsExcept, ListedPermissionsAreEnough, ListedPermissionsAreNeeded}
 use Rattle.pv_laws_schedules.specs.ReducedPolicy.{reduced_calling_programs, ListedPermissionsAreEnoughReduced, ListedPermissionsAreNeededReduced}
-use Rattle.pv_laws_classes.proofs.SeenProcesses.{themselves}
+use Rattle.pv_laws_classes.proofs.ReducedProcesses.{themselves}
 use Rattle.pv_laws_schedules.proofs.ReachedStates.{sound-at}
 use Rattle.pv_laws_schedules.proofs.VisitedCalls.{requests_of, IsRequested, requested, of-program, IsLastCall, last-call_of}
-use Rattle.pv_laws_schedules.proofs.SeenStates.{seen-full, seen-reduced, reduced-sound}
+use Rattle.pv_laws_schedules.proofs.ShownStates.{seen-full, seen-reduced, reduced-sound}
 
 -- ---- sets of permissions
 
@@ -140,7 +140,7 @@ module _ (program_of : Bytes → Option Program) (u : State) (pid : ℕ) (p : Pr
         by (inr none) = absurd none
 
     -- a permission granted to the program is granted to the call
-    gives : (j : Judged) → Among j (targets_listed (m ∷ [])) → GivesAsked rs u.tree table j.target → GivesAt u.tree table j.target (letters_listed (m ∷ []) j)
+    gives : (j : Judged) → Among j (targets_listed (m ∷ [])) → GrantsDemands rs u.tree table j.target → GrantsAt u.tree table j.target (permissions_listed (m ∷ []) j)
     gives j h asked_there =
         let from = targets-among (walks_judged (own ∷ [])) j h in
         let walk : Among j own.walks = subst (λ (v : Judged). Among v own.walks) from.2 (line-walk from.0 from.1) in
@@ -160,25 +160,25 @@ module _ (program_of : Bytes → Option Program) (u : State) (pid : ℕ) (p : Pr
               (ap (bytes_eq w.1.words) (sym words ∙ same_words) ∙ bytes_eq-itself w.1.words))),
         )
 
-    enough : is_unveil call ≡ false → ((target : Target) → GivesAsked rs u.tree table target) → reports_of_table (step program_of (with_own_table u pid table) pid).lines ≡ true
+    enough : is_unveil call ≡ false → ((target : Target) → GrantsDemands rs u.tree table target) → reports_of_table (step program_of (with_own_table u pid table) pid).lines ≡ true
         → ((answer program_of (with_own_table u pid table) pid call).walks ≡ 2) × ((answer program_of u pid call).walks ≡ 1) × (reports_of_table (step program_of u pid).lines ≡ true)
     enough plain all reported =
-        enough-letters program_of (pid ∷ []) u pid (m ∷ []) m table p call call-of live is plain
+        enough-single program_of (pid ∷ []) u pid (m ∷ []) m table p call call-of live is plain
         (λ j h. gives j (themselves (targets_listed (m ∷ [])) j h) (all j.target)) reported
 
-    needed : (w : Judged) → Among w own.walks → (permission : Perms) (k : ℕ) → covers w.permissions permission ≡ true → GivesAskedBut rs u.tree table w.target permission k
+    needed : (w : Judged) → Among w own.walks → (permission : Perms) (k : ℕ) → covers w.permissions permission ≡ true → GrantsDemandsExcept rs u.tree table w.target permission k
         → (answer program_of (with_own_table u pid table) pid call).outcome ≡ Failed EACCES (ByUnveil (Some k))
     needed w h permission k covered but =
-        needed-letters program_of (pid ∷ []) u pid (m ∷ []) m table p call w permission k call-of live is
+        needed-single program_of (pid ∷ []) u pid (m ∷ []) m table p call w permission k call-of live is
         (record { governs = but.governs; lacks = but.lacks; others = λ other listed apart. gives other (themselves (targets_listed (m ∷ [])) other listed) (but.others other.target apart) })
         (among-contains w own.walks h) covered
 
 module _ (program_of : Bytes → Option Program) where
-  -- what is given for a program is enough for a call that one of its calls shows
+  -- a permission granted to the program is granted to the call that one of its calls shows
   pub permissions-suffice : (rs : Requests) (u : State) (pid : ℕ) (p : Process) (call : Call) (table : Table) → IsRequested program_of rs u pid p call
       → process_at u pid ≡ Some p → next p ≡ calls_for call
-      → (group : Observation Request × Requests) → Among group (groups program_key rs) → p.program ≡ group.0.item.process.program
-      → is_unveil call ≡ false → ((target : Target) → GivesAsked group.1 u.tree table target)
+      → (group : Observation Request × Requests) → Among group (groups request_program_key rs) → p.program ≡ group.0.item.process.program
+      → is_unveil call ≡ false → ((target : Target) → GrantsDemands group.1 u.tree table target)
       → reports_of_table (step program_of (with_own_table u pid table) pid).lines ≡ true
       → ((answer program_of (with_own_table u pid table) pid call).walks ≡ 2) × ((answer program_of u pid call).walks ≡ 1)
       × (reports_of_table (step program_of u pid).lines ≡ true)
@@ -186,10 +186,10 @@ module _ (program_of : Bytes → Option Program) where
       enough program_of u pid p call live is group.1 it.shown_by (of-program program_of it group listed same)
       (ap (λ (c : ShownCall). c.asked) it.same) table plain all reported
 
-  -- what the last call of a schedule asked is needed for it
+  -- the demands of the last call of a schedule are needs of the program
   pub needed-last : (s : State) (r : Observation Request) (rs : Requests) (w : Judged) (table : Table) (permission : Perms) (k : ℕ)
       → IsLastCall program_of s r → Among r rs → Among w r.item.asked.walks → covers w.permissions permission ≡ true
-      → GivesAskedBut rs r.item.before.tree table w.target permission k
+      → GrantsDemandsExcept rs r.item.before.tree table w.target permission k
       → (answer program_of (with_own_table r.item.before r.move.pid table) r.move.pid r.item.call).outcome ≡ Failed EACCES (ByUnveil (Some k))
   needed-last s r rs w table permission k last within has covered but =
       let u = last.from.state in
@@ -198,7 +198,7 @@ module _ (program_of : Bytes → Option Program) where
       ap (λ (q : Request). (answer program_of (with_own_table q.before pid table) pid q.call).outcome) last.same
       ∙ needed program_of u pid last.process last.call last.live last.calls rs r within asked_there table w
       (subst (λ (a : Asked). Among w a.walks) asked_there has) permission k covered
-      (subst (λ (q : Request). GivesAskedBut rs q.before.tree table w.target permission k) last.same but)
+      (subst (λ (q : Request). GrantsDemandsExcept rs q.before.tree table w.target permission k) last.same but)
 
 -- ---- the laws
 

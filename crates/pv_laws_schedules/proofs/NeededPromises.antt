@@ -9,10 +9,10 @@ use Rattle.pv_model.specs.declared.open_flags.Mode.TheVariants.{Read, Write, Rea
 use Rattle.pv_model.specs.declared.promise.Promise.{Promise}
 use Rattle.pv_model.specs.declared.promise.Promise.TheVariants.{Stdio, Rpath, Wpath, Cpath, Proc, Exec, Unveil}
 use Rattle.pv_model.specs.Machine.{Found, states_found, AnswerLine, first_of, Observation, groups, Request, Requests, Bytes, needs, needs_cpath, needs_of_mode, Next, inside, calls_for, next, Promises, Need, is_met, Program, Process, State, process_at, Stepped, step, step_by, run}
-use Rattle.pv_model.specs.Answers.Policy.{program_key, same_need, needs_with, promises_in_use, with_need, need_lines, first_need}
+use Rattle.pv_model.specs.Answers.Policy.{request_program_key, same_need, needs_with, promises_in_use, with_need, need_lines, first_need}
 use Rattle.pv_model.specs.Promise.{promise_bit}
-use Rattle.pv_laws_trees.proofs.Entries.{bytes_eq-same}
-use Rattle.pv_laws_access.proofs.Ends.{step-is, update-live}
+use Rattle.pv_laws_trees.proofs.DirectoryEntries.{bytes_eq-same}
+use Rattle.pv_laws_access.proofs.ProcessesAfterEnds.{step-is, update-live}
 use Rattle.pv_laws_answers.specs.ProcessImages.{with_promises}
 use Rattle.pv_laws_answers.specs.Wanted.{reports_need, HasAllNeeds}
 use Rattle.pv_laws_answers.specs.Witnesses.{AreSteps}
@@ -25,10 +25,10 @@ use Rattle.pv_laws_classes.specs.Reduced.{reduced_found}
 use Rattle.pv_laws_classes.specs.Shown.{ShownCall}
 use Rattle.pv_laws_schedules.specs.Policy.{ListedNeed, listed_or, first_listed, needs_listed, lines_of_need, PromiseLinesAreOfNeeds, MeetsAll, calling_programs, CallingProgramsAreListed, PolicyPromisesAreEnough, IsRefusedWith, PolicyPromisesAreNeeded}
 use Rattle.pv_laws_schedules.specs.ReducedPolicy.{reduced_calling_programs, CallingProgramsAreListedReduced, ListedPromisesAreEnoughReduced, ListedPromisesAreNeededReduced}
-use Rattle.pv_laws_classes.proofs.SeenProcesses.{themselves}
+use Rattle.pv_laws_classes.proofs.ReducedProcesses.{themselves}
 use Rattle.pv_laws_schedules.proofs.ReachedStates.{sound-at}
 use Rattle.pv_laws_schedules.proofs.VisitedCalls.{requests_of, programs_of, IsRequested, requested, program-listed, of-program, IsLastCall, last-call_of}
-use Rattle.pv_laws_schedules.proofs.SeenStates.{IsSeenIn, seen-full, seen-reduced, reduced-sound}
+use Rattle.pv_laws_schedules.proofs.ShownStates.{IsSeenIn, seen-full, seen-reduced, reduced-sound}
 
 -- ---- the lines
 
@@ -205,10 +205,10 @@ module _ (program_of : Bytes → Option Program) where
       → (group : Observation Request × Requests) × Contains (programs_of program_of fs) group × (group.0.item.process.program ≡ p.program)
   calling-listed fs u pid p call seen live is = program-listed program_of (requested program_of fs u pid p call seen live is)
 
-  -- what is listed for a program is enough for a step if its call is one of those of the programs
+  -- the listed needs of a program are enough for a step if its call is one of those of the programs
   pub promises-suffice : (rs : Requests) (u : State) (pid : ℕ) (p : Process) → process_at u pid ≡ Some p
       → ((call : Call) → next p ≡ calls_for call → IsRequested program_of rs u pid p call)
-      → (group : Observation Request × Requests) → Among group (groups program_key rs) → p.program ≡ group.0.item.process.program
+      → (group : Observation Request × Requests) → Among group (groups request_program_key rs) → p.program ≡ group.0.item.process.program
       → (set : Promises) → MeetsAll set group.1 → reports_need (step program_of (with_promises u pid set) pid).lines ≡ false
   promises-suffice rs u pid p live each group listed same set meets =
       quiet-if program_of u pid p live set (λ call is.

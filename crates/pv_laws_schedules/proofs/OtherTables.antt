@@ -25,20 +25,20 @@ use Rattle.pv_model.specs.Calls.Paths.{make}
 use Rattle.pv_model.specs.Machine.{Answered, answer, answer_of, answer_where, answer_by_attempt, at_next_line, effect, with_front, update_live, update, Attempt, done, refused, after_walks, ◌>>=◌, ◌>>◌, give, refuse_if, Bytes, is_empty, check_start, contradicts, open_at, open_node, ends_in_dot, link, rename, symlink, child, fork, children, statuses, reap, wait, pledge, with_result, end_process, Effect, Reply, returns, returns_bytes, ends, waits, answers, with_room, place_or_refusal, walk, judgement_or_refusal, judge, open_file_of, open_file, directory_of_file, start_directory, end_of, is_absolute, resolve, at_number, Descriptor, collect, is_too_long, fits, held_by_table, needs, least_free, Next, inside, calls_for, next, is_lenient, missing_promise, Numbered, OpenFile, Program, Process, ProcessRecord, live, State, process_at, with_process, Stepped, step, step_by, call_lines, moved_words, gave, gio_word, buffer_of, Node, directory_node, link_node, Tree, Table, judgement, Walked, begins_walk, Walk, open_walk, execve_walk, rename_walk, walks_of, walk_number, is_unveil}
 use Rattle.pv_model.specs.Walks.{chdir_walk, stat_walk, lstat_walk, readlink_walk, mkdir_walk, symlink_walk, linked_walk, new_link_walk, unlink_walk, rmdir_walk}
 use Rattle.pv_laws_states.specs.States.{IsValid}
-use Rattle.pv_laws_states.proofs.CallRests
+use Rattle.pv_laws_states.proofs.CallRemainders
 use Rattle.pv_laws_states.proofs.CallWalks.{begins-found}
-use Rattle.pv_laws_states.proofs.Members.{found-live, live-found}
-use Rattle.pv_laws_states.proofs.Outcomes.{at_call}
+use Rattle.pv_laws_states.proofs.ReferenceMembers.{found-live, live-found}
+use Rattle.pv_laws_states.proofs.CallOutcomes.{at_call}
 use Rattle.pv_laws_states.proofs.Processes.{process_at-same}
-use Rattle.pv_laws_access.proofs.Decisions.{walks_in}
-use Rattle.pv_laws_access.proofs.Ends.{step-is}
-use Rattle.pv_laws_steps.specs.Beside.{with_change, AppearsAlike}
+use Rattle.pv_laws_access.proofs.WalkDecisions.{walks_in}
+use Rattle.pv_laws_access.proofs.ProcessesAfterEnds.{step-is}
+use Rattle.pv_laws_steps.specs.Beside.{with_change, HasSameReferences}
 use Rattle.pv_laws_steps.specs.Tableless.{is_by_descriptor, relabel}
-use Rattle.pv_laws_steps.proofs.BesideSteps.{fits-found}
+use Rattle.pv_laws_steps.proofs.StepsOfOthers.{fits-found}
 use Rattle.pv_laws_steps.proofs.ChangedProcess.{KeepsParent, changed, Fits, put-itself, length-changed, where-changed, lives-changed, children-changed, collect-changed, fits-put}
 use Rattle.pv_laws_steps.proofs.CommutingSteps.{put-changes}
 use Rattle.pv_laws_steps.proofs.ReportedParts.{lines_of}
-use Rattle.pv_laws_steps.proofs.RelabelledCalls.{descriptors-ask-no_table}
+use Rattle.pv_laws_steps.proofs.CallsWithOtherTables.{descriptors-ask-no_table}
 use Rattle.pv_laws_answers.proofs.AskingCalls.{met-answer, walks-reported}
 use Rattle.pv_laws_answers.proofs.OtherRestraints.{next-call}
 
@@ -104,7 +104,7 @@ module _ (k : ℕ) where
       by false true = record { by = (y, refl, tt) }
       by false false = record { by = refl }
 
-  -- ---- attempts that are alike if tables decide alike about the walks that are made
+  -- ---- attempts that are equal if tables decide the same about the walks that are made
 
   -- J is assumed if a walk is made, and K if a second one is
   abbrev LikeIf : Type 0 → Type 0 → Attempt Effect → Attempt Effect → Type 0
@@ -149,7 +149,7 @@ module _ (k : ℕ) (set : Table) (locked : Bool) where
           ∙ ap (λ (z : State). z.tree)
           (collect-changed k f (record s { tree = t; files = fs; processes = put nat_cmp k (live q) s.processes })
           (fits-put k f k (live q) s.processes
-          (λ p is here. let eq : q ≡ p = cc is in subst (λ (x : Process). AppearsAlike x (f x)) eq (record { directory = refl; descriptors = refl; held = same ∙ ap held_by_table (sym mine) })) fit));
+          (λ p is here. let eq : q ≡ p = cc is in subst (λ (x : Process). HasSameReferences x (f x)) eq (record { directory = refl; descriptors = refl; held = same ∙ ap held_by_table (sym mine) })) fit));
     }
 
     lives : is_some (process_at u k) ≡ is_some (process_at s k)
@@ -189,7 +189,7 @@ module _ (k : ℕ) (set : Table) (locked : Bool) where
 
     -- ---- walks
 
-    -- the tables decide alike about the place where a walk ends
+    -- the tables decide the same about the place where a walk ends
     abbrev DecideAlike : Walk → Type 0
     DecideAlike w = (place : Place) → end_of s me w ≡ Ok place → judgement s.tree (Some set) place w.needed ≡ judgement s.tree me.table place w.needed
 
@@ -257,7 +257,7 @@ module _ (k : ℕ) (set : Table) (locked : Bool) where
     opened flags (Some (d, name)) None n = like-after k 0 _ _ (like-room k _ _ n (own-room _ _ _ refl))
     opened flags None None n = like-refused k 0 _ _
 
-    open-rest : (flags : OpenFlags) (place : Place) → B (CallRests.open_1 s k me flags place) (CallRests.open_1 u k you flags place)
+    open-rest : (flags : OpenFlags) (place : Place) → B (CallRemainders.open_1 s k me flags place) (CallRemainders.open_1 u k you flags place)
     open-rest flags place = search (like-then, opened) depth 40
 
     open-like : (start : Start) (path : Bytes) (flags : OpenFlags) → LikeIf k (DecideAlike (open_walk start path flags)) (Unit {0}) (open_at s k me start path flags) (open_at u k you start path flags)
@@ -267,13 +267,13 @@ module _ (k : ℕ) (set : Table) (locked : Bool) where
         (if-then k J (Unit {0}) (check_start s k me start path) _ _
         (if-then k J (Unit {0}) (refuse_if EMFILE (nat_le 16 (least_free me.descriptors))) _ _
         (if-then k J (Unit {0}) (refuse_if ENFILE (nat_le 128 (least_free s.files))) _ _
-        (one-like (open_walk start path flags) (Unit {0}) (CallRests.open_1 s k me flags) (CallRests.open_1 u k you flags) (open-rest flags)))))
+        (one-like (open_walk start path flags) (Unit {0}) (CallRemainders.open_1 s k me flags) (CallRemainders.open_1 u k you flags) (open-rest flags)))))
 
-    make-rest : (node : Node) (place : Place) → B (CallRests.make_1 s k me node place) (CallRests.make_1 u k you node place)
+    make-rest : (node : Node) (place : Place) → B (CallRemainders.make_1 s k me node place) (CallRemainders.make_1 u k you node place)
     make-rest node place = search parts depth 20
 
     make-like : (w : Walk) (node : Node) → LikeIf k (DecideAlike w) (Unit {0}) (make s k me w node) (make u k you w node)
-    make-like w node = one-like w (Unit {0}) (CallRests.make_1 s k me node) (CallRests.make_1 u k you node) (make-rest node)
+    make-like w node = one-like w (Unit {0}) (CallRemainders.make_1 s k me node) (CallRemainders.make_1 u k you node) (make-rest node)
 
     symlink-like : (text path : Bytes) → LikeIf k (DecideAlike (symlink_walk path)) (Unit {0}) (symlink s k me text path) (symlink u k you text path)
     symlink-like text path =
@@ -282,40 +282,40 @@ module _ (k : ℕ) (set : Table) (locked : Bool) where
         (if-then k J (Unit {0}) (refuse_if ENAMETOOLONG (nat_lt 1023 (length text))) _ _
         (make-like (symlink_walk path) (link_node text)))
 
-    execve-rest : (program_of : Bytes → Option Program) (place : Place) → B (CallRests.execve_1 s k me program_of place) (CallRests.execve_1 u k you program_of place)
+    execve-rest : (program_of : Bytes → Option Program) (place : Place) → B (CallRemainders.execve_1 s k me program_of place) (CallRemainders.execve_1 u k you program_of place)
     execve-rest program_of place = search (like-bind, like-returns) depth 20
 
-    chdir-rest : (place : Place) → B (CallRests.chdir_1 s k me place) (CallRests.chdir_1 u k you place)
+    chdir-rest : (place : Place) → B (CallRemainders.chdir_1 s k me place) (CallRemainders.chdir_1 u k you place)
     chdir-rest place = search (like-bind, like-then, like-returns) depth 20
 
-    stat-rest : (place : Place) → B (CallRests.stat_1 s k me place) (CallRests.stat_1 u k you place)
+    stat-rest : (place : Place) → B (CallRemainders.stat_1 s k me place) (CallRemainders.stat_1 u k you place)
     stat-rest place = search (like-bind, stays) depth 20
 
-    readlink-rest : (place : Place) → B (CallRests.readlink_1 s k me place) (CallRests.readlink_1 u k you place)
+    readlink-rest : (place : Place) → B (CallRemainders.readlink_1 s k me place) (CallRemainders.readlink_1 u k you place)
     readlink-rest place = search (like-bind, stays) depth 20
 
-    unlink-rest : (place : Place) → B (CallRests.unlink_1 s k me place) (CallRests.unlink_1 u k you place)
+    unlink-rest : (place : Place) → B (CallRemainders.unlink_1 s k me place) (CallRemainders.unlink_1 u k you place)
     unlink-rest place = search (like-bind, like-then, like-returns) depth 20
 
-    rmdir-rest : (place : Place) → B (CallRests.rmdir_1 s k me place) (CallRests.rmdir_1 u k you place)
+    rmdir-rest : (place : Place) → B (CallRemainders.rmdir_1 s k me place) (CallRemainders.rmdir_1 u k you place)
     rmdir-rest place = search (like-bind, like-then, like-returns) depth 20
 
-    link-rest : (old new : Place) → B (CallRests.link_2 s k me old new) (CallRests.link_2 u k you old new)
+    link-rest : (old new : Place) → B (CallRemainders.link_2 s k me old new) (CallRemainders.link_2 u k you old new)
     link-rest old new = search parts depth 30
 
-    rename-rest : (old new : Place) → B (CallRests.rename_2 s k me old new) (CallRests.rename_2 u k you old new)
+    rename-rest : (old new : Place) → B (CallRemainders.rename_2 s k me old new) (CallRemainders.rename_2 u k you old new)
     rename-rest old new = search parts depth 40
 
     link-like : (path new : Bytes) → LikeIf k (DecideAlike (linked_walk path)) (DecideAlike (new_link_walk new)) (link s k me path new) (link u k you path new)
     link-like path new =
-        walk-like (linked_walk path) (DecideAlike (new_link_walk new)) (CallRests.link_1 s k me new) (CallRests.link_1 u k you new)
-        (λ place. one-like (new_link_walk new) (Unit {0}) (CallRests.link_2 s k me place) (CallRests.link_2 u k you place) (link-rest place))
+        walk-like (linked_walk path) (DecideAlike (new_link_walk new)) (CallRemainders.link_1 s k me new) (CallRemainders.link_1 u k you new)
+        (λ place. one-like (new_link_walk new) (Unit {0}) (CallRemainders.link_2 s k me place) (CallRemainders.link_2 u k you place) (link-rest place))
 
     rename-like : (path new : Bytes) → LikeIf k (DecideAlike (rename_walk path)) (DecideAlike (rename_walk new)) (rename s k me path new) (rename u k you path new)
     rename-like path new =
         if-then k (DecideAlike (rename_walk path)) (DecideAlike (rename_walk new)) (refuse_if EINVAL (ends_in_dot path || ends_in_dot new)) _ _
-        (walk-like (rename_walk path) (DecideAlike (rename_walk new)) (CallRests.rename_1 s k me new) (CallRests.rename_1 u k you new)
-        (λ place. one-like (rename_walk new) (Unit {0}) (CallRests.rename_2 s k me place) (CallRests.rename_2 u k you place) (rename-rest place)))
+        (walk-like (rename_walk path) (DecideAlike (rename_walk new)) (CallRemainders.rename_1 s k me new) (CallRemainders.rename_1 u k you new)
+        (λ place. one-like (rename_walk new) (Unit {0}) (CallRemainders.rename_2 s k me place) (CallRemainders.rename_2 u k you place) (rename-rest place)))
 
     -- ---- all calls that use no descriptor, other than unveil
 
@@ -335,25 +335,25 @@ module _ (k : ℕ) (set : Table) (locked : Bool) where
     calls-like program_of (TheCall.Pledge promises execpromises) plain other j m = pledge-like promises execpromises
     calls-like program_of (TheCall.Unveil path permissions) plain other j m = cc plain
     calls-like program_of (TheCall.Execve path) plain other j m =
-        one-like (execve_walk path) (Unit {0}) (CallRests.execve_1 s k me program_of) (CallRests.execve_1 u k you program_of) (execve-rest program_of) (λ le. j le (execve_walk path) refl) (λ le. tt)
+        one-like (execve_walk path) (Unit {0}) (CallRemainders.execve_1 s k me program_of) (CallRemainders.execve_1 u k you program_of) (execve-rest program_of) (λ le. j le (execve_walk path) refl) (λ le. tt)
     calls-like program_of (TheCall.Open path flags) plain other j m = open-like WorkingDirectory path flags (λ le. j le (open_walk WorkingDirectory path flags) refl) (λ le. tt)
     calls-like program_of (TheCall.OpenAt start path flags) plain other j m = open-like start path flags (λ le. j le (open_walk start path flags) refl) (λ le. tt)
     calls-like program_of (TheCall.Chdir path) plain other j m =
-        one-like (chdir_walk path) (Unit {0}) (CallRests.chdir_1 s k me) (CallRests.chdir_1 u k you) chdir-rest (λ le. j le (chdir_walk path) refl) (λ le. tt)
+        one-like (chdir_walk path) (Unit {0}) (CallRemainders.chdir_1 s k me) (CallRemainders.chdir_1 u k you) chdir-rest (λ le. j le (chdir_walk path) refl) (λ le. tt)
     calls-like program_of (TheCall.Stat path) plain other j m =
-        one-like (stat_walk path) (Unit {0}) (CallRests.stat_1 s k me) (CallRests.stat_1 u k you) stat-rest (λ le. j le (stat_walk path) refl) (λ le. tt)
+        one-like (stat_walk path) (Unit {0}) (CallRemainders.stat_1 s k me) (CallRemainders.stat_1 u k you) stat-rest (λ le. j le (stat_walk path) refl) (λ le. tt)
     calls-like program_of (TheCall.Lstat path) plain other j m =
-        one-like (lstat_walk path) (Unit {0}) (CallRests.stat_1 s k me) (CallRests.stat_1 u k you) stat-rest (λ le. j le (lstat_walk path) refl) (λ le. tt)
+        one-like (lstat_walk path) (Unit {0}) (CallRemainders.stat_1 s k me) (CallRemainders.stat_1 u k you) stat-rest (λ le. j le (lstat_walk path) refl) (λ le. tt)
     calls-like program_of (TheCall.Readlink path) plain other j m =
-        one-like (readlink_walk path) (Unit {0}) (CallRests.readlink_1 s k me) (CallRests.readlink_1 u k you) readlink-rest (λ le. j le (readlink_walk path) refl) (λ le. tt)
+        one-like (readlink_walk path) (Unit {0}) (CallRemainders.readlink_1 s k me) (CallRemainders.readlink_1 u k you) readlink-rest (λ le. j le (readlink_walk path) refl) (λ le. tt)
     calls-like program_of (TheCall.Mkdir path) plain other j m = make-like (mkdir_walk path) (directory_node []) (λ le. j le (mkdir_walk path) refl) (λ le. tt)
     calls-like program_of (TheCall.Symlink text path) plain other j m = symlink-like text path (λ le. j le (symlink_walk path) refl) (λ le. tt)
     calls-like program_of (TheCall.Link path new) plain other j m = link-like path new (λ le. j le (linked_walk path) refl) (λ le. m le (new_link_walk new) refl)
     calls-like program_of (TheCall.Unlink path) plain other j m =
-        one-like (unlink_walk path) (Unit {0}) (CallRests.unlink_1 s k me) (CallRests.unlink_1 u k you) unlink-rest (λ le. j le (unlink_walk path) refl) (λ le. tt)
+        one-like (unlink_walk path) (Unit {0}) (CallRemainders.unlink_1 s k me) (CallRemainders.unlink_1 u k you) unlink-rest (λ le. j le (unlink_walk path) refl) (λ le. tt)
     calls-like program_of (TheCall.Rmdir path) plain other j m =
         if-then k (DecideAlike (rmdir_walk path)) (Unit {0}) (refuse_if EINVAL (ends_in_dot path)) _ _
-        (one-like (rmdir_walk path) (Unit {0}) (CallRests.rmdir_1 s k me) (CallRests.rmdir_1 u k you) rmdir-rest)
+        (one-like (rmdir_walk path) (Unit {0}) (CallRemainders.rmdir_1 s k me) (CallRemainders.rmdir_1 u k you) rmdir-rest)
         (λ le. j le (rmdir_walk path) refl) (λ le. tt)
     calls-like program_of (TheCall.Rename path new) plain other j m = rename-like path new (λ le. j le (rename_walk path) refl) (λ le. m le (rename_walk new) refl)
     calls-like program_of call plain other j m = cc other
@@ -425,7 +425,7 @@ module _ (program_of : Bytes → Option Program) (s : State) (pid : ℕ) (p : Pr
   at-v : process_at v pid ≡ Some q
   at-v = ap (λ (z : State). process_at z pid) (sym is-changed) ∙ process_at-same s pid q
 
-  appears : AppearsAlike p (change p)
+  appears : HasSameReferences p (change p)
   appears = record { directory = refl; descriptors = refl; held = same }
 
   fit : Fits pid change s.processes
@@ -433,7 +433,7 @@ module _ (program_of : Bytes → Option Program) (s : State) (pid : ℕ) (p : Pr
       fits-found pid change s.processes whole.processes.ascending (λ y found.
       let both : Some y ≡ Some p = sym (found-live s pid y found) ∙ at in
       let eq : y ≡ p = cc both in
-      subst (λ (z : Process). AppearsAlike z (change z)) (sym eq) appears)
+      subst (λ (z : Process). HasSameReferences z (change z)) (sym eq) appears)
 
   abbrev x : State
   x = at_call s pid p
@@ -444,7 +444,7 @@ module _ (program_of : Bytes → Option Program) (s : State) (pid : ℕ) (p : Pr
   fit-x : Fits pid change x.processes
   fit-x =
       fits-put pid change pid (live now) s.processes
-      (λ r is here. let eq : now ≡ r = cc is in subst (λ (z : Process). AppearsAlike z (change z)) eq (record { directory = refl; descriptors = refl; held = same })) fit
+      (λ r is here. let eq : now ≡ r = cc is in subst (λ (z : Process). HasSameReferences z (change z)) eq (record { directory = refl; descriptors = refl; held = same })) fit
 
   abbrev y : State
   y = at_call v pid q
@@ -452,7 +452,7 @@ module _ (program_of : Bytes → Option Program) (s : State) (pid : ℕ) (p : Pr
   y-is : y ≡ with_change x pid change
   y-is = ap (λ (ps : List (ℕ × ProcessRecord)). record s { processes = ps }) (put-itself pid change now s.processes)
 
-  -- the tables decide alike about a walk that the call makes
+  -- the tables decide the same about a walk that the call makes
   abbrev DecidesAlike : Call → Type 0
   DecidesAlike call =
       (n : ℕ) (w : Walk) (place : Place) → n ≤ (answer program_of s pid call).walks → walk_number (walks_of call) n ≡ Some w → end_of s p w ≡ Ok place

@@ -1,56 +1,56 @@
--- The search of pairs: what it visits, its first difference, and what it covers if it is complete.
+-- The search of pairs: the visited pairs, its first difference, and its coverage if it is complete.
 use Rattle.std.proofs.Common.{◌≡◌, ◌∙◌, sym, ap, subst, ℕ, zero, suc, ◌+◌, ◌<◌, ◌≤◌, Bool, true, false, not, ◌&&◌, ◌||◌, ◌==◌, if◌then◌else◌, nat_le, bytes_eq, max, List, [], ◌∷◌, ◌++◌, length, length-append, fold, flat_map, Option, None, Some, is_some, ◌⊎◌, inl, inr, refl, arith}
 use Rattle.std.specs.List.{AllByRecursion, range_with_len}
 use Rattle.std.proofs.lemmas.Bool.{and_parts, or_parts, leb-true}
 use Rattle.std.proofs.lemmas.Bool.Decides.{nat_tests}
 use Rattle.pv_model.specs.Machine.{FoundPair, PairMove, Comparison, different, alike, differs, pair_moves, comparison, same_state, Bytes, Program, Process, State, live, process_at, Run, step, step_of, run, trace_bytes}
-use Rattle.pv_model.specs.Answers.Compare.{Pair, same_pair, pair_after, found_by, is_found, is_live, is_compared, live_in_either, pair_move, compared_from}
-use Rattle.pv_model.specs.Answers.Search.{with_move, search, is_closed}
+use Rattle.pv_model.specs.Answers.Compare.{Pair, same_pair, pair_after, pair_found_by, is_pair_found, is_live, is_compared, live_in_either, pair_move, compared_from}
+use Rattle.pv_model.specs.Answers.Search.{with_element, search, is_closed}
 use Rattle.pv_model.specs.Trace.{gone_lines}
-use Rattle.pv_model.proofs.Runs.{run-append}
-use Rattle.pv_laws_trees.proofs.Entries.{bytes_eq-itself}
+use Rattle.pv_model.proofs.RunComposition.{run-append}
+use Rattle.pv_laws_trees.proofs.DirectoryEntries.{bytes_eq-itself}
 use Rattle.pv_laws_states.specs.States.{IsValid, is_process_number}
-use Rattle.pv_laws_states.proofs.BySteps.{step-keeps_whole}
-use Rattle.pv_laws_states.proofs.Members.{find_number-list_all, live-found}
+use Rattle.pv_laws_states.proofs.ValidBySteps.{step-keeps_valid}
+use Rattle.pv_laws_states.proofs.ReferenceMembers.{find_number-list_all, live-found}
 use Rattle.pv_laws_answers.specs.Witnesses.{EachToLater}
 use Rattle.pv_laws_answers.proofs.CompleteSearches.{still}
 use Rattle.pv_laws_answers.proofs.Lists.{Among, each-among, each-from_among, each-weaker, among-any, all-among, among-map, map-among, among-flat, flat-among, among-filter, filter-among}
 use Rattle.pv_laws_answers.proofs.StateDecoding.{reported-apart}
 use Rattle.pv_laws_answers.proofs.WitnessOrders.{to_later-append}
-use Rattle.pv_laws_schedules.specs.Compare.{IsAlike, ItselfIsAlike, AreComparable, pair_after_schedule, AreStepsOfEither, IsShortest}
-use Rattle.pv_laws_schedules.proofs.Searches
+use Rattle.pv_laws_schedules.specs.Compare.{IsWithoutDifference, ImageEqualsItself, AreComparable, pair_after_schedule, AreStepsOfEither, IsShortest}
+use Rattle.pv_laws_schedules.proofs.BreadthFirstSearch
 
 -- ---- a difference is found at the first step that differs
 
 module _ (program_of : Bytes → Option Program) (limit : ℕ) where
   abbrev after_moves : List FoundPair → List PairMove → List FoundPair
-  after_moves found ms = fold (with_move (pair_moves program_of) found_by is_found limit) found ms
+  after_moves found ms = fold (with_element (pair_moves program_of) pair_found_by is_pair_found limit) found ms
 
   compared-cases : (found : List FoundPair) (m : PairMove) (ms : List PairMove) (P : Comparison → Type 0)
       → (differs m ≡ true → P (different m (length found)))
-      → (differs m ≡ false → P (compared_from program_of limit (with_move (pair_moves program_of) found_by is_found limit found m) ms))
+      → (differs m ≡ false → P (compared_from program_of limit (with_element (pair_moves program_of) pair_found_by is_pair_found limit found m) ms))
       → P (compared_from program_of limit found (m ∷ ms))
   compared-cases found m ms P if-yes if-no = by (differs m) refl
     where
-      by : (b : Bool) → differs m ≡ b → P (if b then different m (length found) else compared_from program_of limit (with_move (pair_moves program_of) found_by is_found limit found m) ms)
+      by : (b : Bool) → differs m ≡ b → P (if b then different m (length found) else compared_from program_of limit (with_element (pair_moves program_of) pair_found_by is_pair_found limit found m) ms)
       by true is = if-yes is
       by false is = if-no is
 
-  none-differs : (found : List FoundPair) (ms : List PairMove) → AllByRecursion (λ m. differs m ≡ false) ms → IsAlike (compared_from program_of limit found ms)
+  none-differs : (found : List FoundPair) (ms : List PairMove) → AllByRecursion (λ m. differs m ≡ false) ms → IsWithoutDifference (compared_from program_of limit found ms)
   none-differs found [] none = tt
   none-differs found (m ∷ ms) none =
-      let rest = none-differs (with_move (pair_moves program_of) found_by is_found limit found m) ms none.1 in
-      compared-cases found m ms IsAlike (λ is. let no = none.0 in let e : true ≡ false = sym is ∙ no in absurd (cc)) (λ _. rest)
+      let rest = none-differs (with_element (pair_moves program_of) pair_found_by is_pair_found limit found m) ms none.1 in
+      compared-cases found m ms IsWithoutDifference (λ is. let no = none.0 in let e : true ≡ false = sym is ∙ no in absurd (cc)) (λ _. rest)
 
   -- a comparison that finds no difference made every step, and tests at the end whether the search is closed
   record NoneDiffers (found : List FoundPair) (ms : List PairMove) (complete : Bool) : Type 0 where
     pub none : AllByRecursion (λ m. differs m ≡ false) ms
-    pub closed : is_closed (pair_moves program_of) found_by is_found limit (after_moves found ms) ≡ complete
+    pub closed : is_closed (pair_moves program_of) pair_found_by is_pair_found limit (after_moves found ms) ≡ complete
 
   alike-none : (found : List FoundPair) (ms : List PairMove) (complete : Bool) (pairs : ℕ) → compared_from program_of limit found ms ≡ alike complete pairs → NoneDiffers found ms complete
   alike-none found [] complete pairs = λ is. record { none = tt; closed = cc }
   alike-none found (m ∷ ms) complete pairs =
-      let rest = alike-none (with_move (pair_moves program_of) found_by is_found limit found m) ms complete pairs in
+      let rest = alike-none (with_element (pair_moves program_of) pair_found_by is_pair_found limit found m) ms complete pairs in
       compared-cases found m ms (λ c. c ≡ alike complete pairs → NoneDiffers found (m ∷ ms) complete)
       (λ _ is. absurd (cc)) (λ no is. let r = rest is in record { none = (no, r.none); closed = r.closed })
 
@@ -64,7 +64,7 @@ module _ (program_of : Bytes → Option Program) (limit : ℕ) where
     different-first : (found : List FoundPair) (ms : List PairMove) (m : PairMove) (pairs : ℕ) → EachToLater R ms → compared_from program_of limit found ms ≡ different m pairs → IsFirst ms m
     different-first found [] m pairs order = λ is. absurd (cc)
     different-first found (n ∷ ms) m pairs order =
-        let rest = different-first (with_move (pair_moves program_of) found_by is_found limit found n) ms m pairs order.1 in
+        let rest = different-first (with_element (pair_moves program_of) pair_found_by is_pair_found limit found n) ms m pairs order.1 in
         compared-cases found n ms (λ c. c ≡ different m pairs → IsFirst (n ∷ ms) m)
         (λ now is. let same : n ≡ m = cc in here same now)
         (λ no is. later no (rest is))
@@ -97,10 +97,10 @@ same-text m same =
     none true = refl
     none false = refl
 
-pub itself-alike : ItselfIsAlike
+pub itself-alike : ImageEqualsItself
 unfolding comparison
 itself-alike program_of limit s =
-    none-differs program_of limit (start ∷ []) (flat_map (pair_moves program_of) (search (pair_moves program_of) found_by is_found limit start))
+    none-differs program_of limit (start ∷ []) (flat_map (pair_moves program_of) (search (pair_moves program_of) pair_found_by is_pair_found limit start))
     (each-from_among (λ m. differs m ≡ false) _ (λ m h.
     let from = flat-among (pair_moves program_of) m _ h in
     let both = each-among IsTwice _ twice from.0 from.1 in
@@ -113,8 +113,8 @@ itself-alike program_of limit s =
     IsTwice : FoundPair → Type 0
     IsTwice f = f.states.first ≡ f.states.second
 
-    twice : AllByRecursion IsTwice (search (pair_moves program_of) found_by is_found limit start)
-    twice = Searches.each-found (pair_moves program_of) found_by is_found limit IsTwice
+    twice : AllByRecursion IsTwice (search (pair_moves program_of) pair_found_by is_pair_found limit start)
+    twice = BreadthFirstSearch.each-found (pair_moves program_of) pair_found_by is_pair_found limit IsTwice
         (λ f is m own.
         let made = map-among (pair_move program_of f) m (live_in_either f.states) own in
         ap (λ (n : PairMove). n.first.after) made.2 ∙ ap (λ u. (step program_of u made.0).after) is ∙ sym (ap (λ (n : PairMove). n.second.after) made.2)) start refl
@@ -124,7 +124,7 @@ itself-alike program_of limit s =
 pair-equal : (a b : Pair) → a.first ≡ b.first → a.second ≡ b.second → a ≡ b
 pair-equal a b e h = λ i. record { first = e i; second = h i }
 
-known-pair : (m : PairMove) (found : List FoundPair) → is_found m found ≡ true → (g : FoundPair) × Among g found × (g.states ≡ (found_by m).states)
+known-pair : (m : PairMove) (found : List FoundPair) → is_pair_found m found ≡ true → (g : FoundPair) × Among g found × (g.states ≡ (pair_found_by m).states)
 known-pair m found is =
     let there = among-any (λ (f : FoundPair). same_pair f.states (pair_after m)) found is in
     let parts = and_parts (same_state there.0.states.first m.first.after) (same_state there.0.states.second m.second.after) there.2 in
@@ -194,7 +194,7 @@ module _ (program_of : Bytes → Option Program) where
     start = pair_after_schedule program_of [] s t
 
     abbrev found : List FoundPair
-    found = search (pair_moves program_of) found_by is_found limit start
+    found = search (pair_moves program_of) pair_found_by is_pair_found limit start
 
     abbrev all_moves : List PairMove
     all_moves = flat_map (pair_moves program_of) found
@@ -218,7 +218,7 @@ module _ (program_of : Bytes → Option Program) where
         let lives = filter-among (λ pid. is_live f.states.first pid || is_live f.states.second pid) made.0 (range_with_len 1 (max f.states.first.last_process f.states.second.last_process)) made.1 in
         record { is = made.2 ∙ ap (pair_move program_of f) (sym pid); lives = ap (λ k. is_live f.states.first k || is_live f.states.second k) pid ∙ lives.1 }
 
-    leads-more : (f : FoundPair) (pid : ℕ) → f ≡ pair_after_schedule program_of f.witness s t → found_by (pair_move program_of f pid) ≡ pair_after_schedule program_of (f.witness ++ pid ∷ []) s t
+    leads-more : (f : FoundPair) (pid : ℕ) → f ≡ pair_after_schedule program_of f.witness s t → pair_found_by (pair_move program_of f pid) ≡ pair_after_schedule program_of (f.witness ++ pid ∷ []) s t
     leads-more f pid leads =
         let a : f.states.first ≡ (run program_of f.witness s).final = ap (λ (g : FoundPair). g.states.first) leads in
         let b : f.states.second ≡ (run program_of f.witness t).final = ap (λ (g : FoundPair). g.states.second) leads in
@@ -230,18 +230,18 @@ module _ (program_of : Bytes → Option Program) where
           };
         }
 
-    sound-move : (f : FoundPair) → IsSound f → (m : PairMove) → Among m (pair_moves program_of f) → IsSound (found_by m)
+    sound-move : (f : FoundPair) → IsSound f → (m : PairMove) → Among m (pair_moves program_of f) → IsSound (pair_found_by m)
     sound-move f is m own =
         let made = made-by f m own in
-        subst (λ (n : PairMove). IsSound (found_by n)) (sym made.is) (record {
-          first = step-keeps_whole program_of it.encodes f.states.first m.pid is.first;
-          second = step-keeps_whole program_of it.encodes f.states.second m.pid is.second;
+        subst (λ (n : PairMove). IsSound (pair_found_by n)) (sym made.is) (record {
+          first = step-keeps_valid program_of it.encodes f.states.first m.pid is.first;
+          second = step-keeps_valid program_of it.encodes f.states.second m.pid is.second;
           leads = leads-more f m.pid is.leads;
           steps = steps-more f.witness m.pid s t is.steps (subst (λ (g : FoundPair). (is_live g.states.first m.pid || is_live g.states.second m.pid) ≡ true) is.leads made.lives);
         })
 
     all-sound : AllByRecursion IsSound found
-    all-sound = Searches.each-found (pair_moves program_of) found_by is_found limit IsSound sound-move start (record { first = it.first; second = it.second; leads = refl; steps = tt })
+    all-sound = BreadthFirstSearch.each-found (pair_moves program_of) pair_found_by is_pair_found limit IsSound sound-move start (record { first = it.first; second = it.second; leads = refl; steps = tt })
 
     sound-at : (f : FoundPair) → Among f found → IsSound f
     sound-at f within = each-among IsSound found all-sound f within
@@ -260,13 +260,13 @@ module _ (program_of : Bytes → Option Program) where
     abbrev Same : FoundPair → FoundPair → Type 0
     Same f g = f.states ≡ g.states
 
-    grows : (f : FoundPair) (m : PairMove) → Among m (pair_moves program_of f) → size (found_by m) ≡ suc (size f)
+    grows : (f : FoundPair) (m : PairMove) → Among m (pair_moves program_of f) → size (pair_found_by m) ≡ suc (size f)
     grows f m own =
         let made = made-by f m own in
         ap (λ (n : PairMove). length n.witness) made.is ∙ (omega (arith, length-append f.witness (m.pid ∷ [])))
 
-    finished : Searches.Finished (pair_moves program_of) found_by is_found limit size Same grows known-pair (λ f. refl) (start ∷ []) [] found
-    finished = Searches.finished (pair_moves program_of) found_by is_found limit size Same grows known-pair (λ f. refl) start it.room
+    finished : BreadthFirstSearch.Finished (pair_moves program_of) pair_found_by is_pair_found limit size Same grows known-pair (λ f. refl) (start ∷ []) [] found
+    finished = BreadthFirstSearch.finished (pair_moves program_of) pair_found_by is_pair_found limit size Same grows known-pair (λ f. refl) start it.room
 
     abbrev NoLonger : PairMove → PairMove → Type 0
     NoLonger m n = length m.witness ≤ length n.witness
@@ -299,14 +299,14 @@ module _ (program_of : Bytes → Option Program) where
         g : FoundPair
         g = here.0
 
-        on : Searches.LeadsOn (pair_moves program_of) found_by is_found limit size Same grows known-pair (λ f. refl) found (pair_move program_of here.0 pid) → length (here.0.witness ++ pid ∷ []) ≤ suc n → ReachedIn (suc n) (next_pair b pid)
+        on : BreadthFirstSearch.LeadsOn (pair_moves program_of) pair_found_by is_pair_found limit size Same grows known-pair (λ f. refl) found (pair_move program_of here.0 pid) → length (here.0.witness ++ pid ∷ []) ≤ suc n → ReachedIn (suc n) (next_pair b pid)
         on (inl next) le = inl (next.0, next.1, next.2 ∙ ap (λ c. next_pair c pid) here.2, omega (arith, next.3))
         on (inr full) le = inr (each-weaker (λ h. size h ≤ length (here.0.witness ++ pid ∷ [])) (λ h. size h ≤ suc n) (λ h k. omega arith) found full.1)
 
         by : (live : Bool) → (is_live here.0.states.first pid || is_live here.0.states.second pid) ≡ live → ReachedIn (suc n) (next_pair b pid)
         by true lives =
-            on (each-among (Searches.LeadsOn (pair_moves program_of) found_by is_found limit size Same grows known-pair (λ f. refl) found) (pair_moves program_of here.0)
-            (each-among (λ f. AllByRecursion (Searches.LeadsOn (pair_moves program_of) found_by is_found limit size Same grows known-pair (λ f. refl) found) (pair_moves program_of f)) found finished.leads here.0 here.1)
+            on (each-among (BreadthFirstSearch.LeadsOn (pair_moves program_of) pair_found_by is_pair_found limit size Same grows known-pair (λ f. refl) found) (pair_moves program_of here.0)
+            (each-among (λ f. AllByRecursion (BreadthFirstSearch.LeadsOn (pair_moves program_of) pair_found_by is_pair_found limit size Same grows known-pair (λ f. refl) found) (pair_moves program_of f)) found finished.leads here.0 here.1)
             (pair_move program_of here.0 pid) (own-move here.0 pid here.1 lives)) (omega (arith, here.3, length-append here.0.witness (pid ∷ [])))
         by false dead =
             let parts = or_parts (is_live here.0.states.first pid) (is_live here.0.states.second pid) dead in
@@ -384,9 +384,9 @@ module _ (program_of : Bytes → Option Program) where
       none : NoneDiffers program_of limit (start ∷ []) all_moves true
       none = alike-none program_of limit (start ∷ []) all_moves true pairs is
 
-      closed : is_closed (pair_moves program_of) found_by is_found limit found ≡ true
+      closed : is_closed (pair_moves program_of) pair_found_by is_pair_found limit found ≡ true
       closed =
-          ap (is_closed (pair_moves program_of) found_by is_found limit) (sym (Searches.made-again (pair_moves program_of) found_by is_found limit size Same grows known-pair (λ f. refl) start it.room))
+          ap (is_closed (pair_moves program_of) pair_found_by is_pair_found limit) (sym (BreadthFirstSearch.made-again (pair_moves program_of) pair_found_by is_pair_found limit size Same grows known-pair (λ f. refl) start it.room))
           ∙ none.closed
 
       abbrev IsVisited : Pair → Type 0
@@ -398,7 +398,7 @@ module _ (program_of : Bytes → Option Program) where
           by : (live : Bool) → (is_live here.0.states.first pid || is_live here.0.states.second pid) ≡ live → IsVisited (next_pair b pid)
           by true lives =
               let own = among-flat (pair_moves program_of) here.0 (pair_move program_of here.0 pid) found here.1 (own-move here.0 pid here.1 lives) in
-              let next = known-pair (pair_move program_of here.0 pid) found (all-among (λ m. is_found m found) all_moves closed (pair_move program_of here.0 pid) own) in
+              let next = known-pair (pair_move program_of here.0 pid) found (all-among (λ m. is_pair_found m found) all_moves closed (pair_move program_of here.0 pid) own) in
               (next.0, next.1, next.2 ∙ ap (λ c. next_pair c pid) here.2)
           by false dead =
               let parts = or_parts (is_live here.0.states.first pid) (is_live here.0.states.second pid) dead in (

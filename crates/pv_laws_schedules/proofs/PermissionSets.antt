@@ -70,7 +70,7 @@ module _ (permission : Perms) where
       let b = covered-bits asked permission is in
       bits-covered (join_permissions had asked) permission (more-asked had.r asked.r permission.r b.0) (more-asked had.w asked.w permission.w b.1) (more-asked had.x asked.x permission.x b.2) (more-asked had.c asked.c permission.c b.3)
 
-  -- the join of sets covers what one of them covers
+  -- the join of sets covers each set that one of them covers
   fold-had : (had : Perms) (xs : List Perms) → covers had permission ≡ true → covers (fold join_permissions had xs) permission ≡ true
   fold-had had [] is = is
   fold-had had (x ∷ xs) is = fold-had (join_permissions had x) xs (had-more had x is)
@@ -80,7 +80,7 @@ module _ (permission : Perms) where
   fold-covers had (y ∷ ys) x (inl e) is = fold-had (join_permissions had y) ys (asked-more had y (ap (λ (z : Perms). covers z permission) (sym e) ∙ is))
   fold-covers had (y ∷ ys) x (inr h) is = fold-covers (join_permissions had y) ys x h is
 
-  -- without permissions that are not used, a set covers what it covered and what is used
+  -- without permissions that are not used, a set still covers the covered permissions that are used
   pub kept-covers : (used all held set : Perms) → covers used permission ≡ true → covers held permission ≡ true
       → covers set (permissions_lacked (permissions_lacked used all) held) ≡ true → covers set permission ≡ true
   kept-covers used all held set u has kept =

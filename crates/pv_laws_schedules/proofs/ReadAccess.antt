@@ -16,17 +16,17 @@ use Rattle.pv_model.specs.declared.place.Place.{Place}
 use Rattle.pv_model.specs.Machine.{Answered, answer, answer_by_attempt, at_next_line, with_front, update_live, update, effect, executes, node_of_descriptor, accesses, Attempt, done, refused, after_walks, ◌>>=◌, ◌>>◌, refuse_if, demand, Bytes, open_file_for, within, with_result, executable_bytes, Effect, returns_bytes, place_or_refusal, judgement_or_refusal, node_of, bytes_of, open_file, end_of, with_file, needs, Numbered, calls_for, next, missing_promise, OpenFile, Program, Process, State, reads as for_reading, process_at, Stepped, step, step_by, read_file, read_by_descriptor, read_by_execve, places, place_found, Justifies, with_bytes, Touches, Node, file_node, node_at, is_directory_at, judgement, Walked, begins_walk, execve_walk}
 use Rattle.pv_model.specs.Answers.Access.{reads, nodes_of_places, nodes_read, nodes_executed}
 use Rattle.pv_model.specs.Calls.Descriptors.{if_mode}
-use Rattle.pv_laws_states.proofs.Outcomes.{at_call}
-use Rattle.pv_laws_states.proofs.CallRests
+use Rattle.pv_laws_states.proofs.CallOutcomes.{at_call}
+use Rattle.pv_laws_states.proofs.CallRemainders
 use Rattle.pv_laws_access.specs.Justice.{reads_bytes}
-use Rattle.pv_laws_access.proofs.Ends.{step-is}
+use Rattle.pv_laws_access.proofs.ProcessesAfterEnds.{step-is}
 use Rattle.pv_laws_access.proofs.JustifiedReads.{near-or_read}
 use Rattle.pv_laws_access.proofs.SimilarTrees.{as_is, as_is-fine, near-view, near-at, AreNear, near_state, IsNear, near-collect, near-bytes, same-but_file, directory-near, resolve-near, judgement-near}
 use Rattle.pv_laws_access.proofs.NextNames.{answer-does}
 use Rattle.pv_laws_access.proofs.ClosedProcesses.{one-walk, found-ok}
 use Rattle.pv_laws_answers.proofs.Lists.{Among, among-left, among-right, among-map, among-filter_map}
-use Rattle.pv_laws_classes.proofs.SeenProcesses.{themselves}
-use Rattle.pv_laws_trees.proofs.Generic.{not-there}
+use Rattle.pv_laws_classes.proofs.ReducedProcesses.{themselves}
+use Rattle.pv_laws_trees.proofs.ListTests.{not-there}
 
 near-update : (f : ℕ) (a : State) (ys : Numbered Node) → AreNear as_is f a.tree.nodes ys → (pid : ℕ) (g : Process → Process) → IsNear as_is f (update a pid g) (update (near_state a ys) pid g)
 near-update f a ys near pid g = by (process_at a pid)
@@ -142,19 +142,19 @@ module _ (program_of : Bytes → Option Program) (s : State) (pid f : ℕ) (ys :
   opened : (z : State) → open_file z me' d ≡ Some (k, file) → open_file_for z pid me' for_reading d ≡ Some (k, file)
   opened z there = ap (if_mode for_reading) there ∙ ap (λ b. if b then Some (k, file) else None) mode
 
-  effect-is : (z : State) → open_file z me' d ≡ Some (k, file) → effect program_of z pid me' (TheCall.Read d n) ≡ (demand EINVAL (within 4096 n) >>= CallRests.read_2 z pid me' k file)
+  effect-is : (z : State) → open_file z me' d ≡ Some (k, file) → effect program_of z pid me' (TheCall.Read d n) ≡ (demand EINVAL (within 4096 n) >>= CallRemainders.read_2 z pid me' k file)
   unfolding effect
-  effect-is z there = ap (λ o. demand EBADF o >>= CallRests.read_1 z pid me' n) (opened z there) ∙ after-none (demand EINVAL (within 4096 n) >>= CallRests.read_2 z pid me' k file)
+  effect-is z there = ap (λ o. demand EBADF o >>= CallRemainders.read_1 z pid me' n) (opened z there) ∙ after-none (demand EINVAL (within 4096 n) >>= CallRemainders.read_2 z pid me' k file)
     where
       after-none : (a : Attempt Effect) → after_walks 0 a ≡ a
       after-none (done w v) = ap (λ (k : ℕ). done k v) (omega arith)
       after-none (refused w e c) = ap (λ (k : ℕ). refused k e c) (omega arith)
 
   abbrev tail : State → Option ℕ → Attempt Effect
-  tail z o = demand EINVAL o >>= CallRests.read_2 z pid me' k file
+  tail z o = demand EINVAL o >>= CallRemainders.read_2 z pid me' k file
 
   abbrev last : State → ℕ → Bool → Attempt Effect
-  last z count b = after_walks 0 (refuse_if EISDIR b >> CallRests.read_3 z pid me' k file count)
+  last z count b = after_walks 0 (refuse_if EISDIR b >> CallRemainders.read_3 z pid me' k file count)
 
   by-count : (z : State) (o : Option ℕ) → open_file z me' d ≡ Some (k, file) → within 4096 n ≡ o → effect program_of z pid me' (TheCall.Read d n) ≡ tail z o
   by-count z o there within_is = effect-is z there ∙ ap (tail z) within_is
@@ -232,15 +232,15 @@ module _ (program_of : Bytes → Option Program) (s : State) (pid f : ℕ) (ys :
 
   -- the call after its walk and its judgement
   abbrev rest : State → Option Bytes → Attempt Effect
-  rest w o = after_walks walks (after_walks 0 (after_walks 0 (demand EACCES o >>= CallRests.execve_3 w pid me'' program_of)))
+  rest w o = after_walks walks (after_walks 0 (after_walks 0 (demand EACCES o >>= CallRemainders.execve_3 w pid me'' program_of)))
 
   effect-of : (w : State) → end_of w me'' (execve_walk path) ≡ Ok place → judgement w.tree me''.table place (execve_walk path).needed ≡ Allowed
       → effect program_of w pid me'' (TheCall.Execve path) ≡ rest w (executable_bytes (node_at w.tree f))
   unfolding effect
   effect-of w found judged =
-      ap (λ (r : Walked). place_or_refusal walks r >>= (λ place. judgement_or_refusal (judgement w.tree me''.table place (execve_walk path).needed) >> CallRests.execve_1 w pid me'' program_of place)) found
-      ∙ ap (λ (j : Judgement). after_walks walks (judgement_or_refusal j >> CallRests.execve_1 w pid me'' program_of place)) judged
-      ∙ ap (λ (o : Option ℕ). after_walks walks (after_walks 0 (demand ENOENT o >>= CallRests.execve_2 w pid me'' program_of))) node
+      ap (λ (r : Walked). place_or_refusal walks r >>= (λ place. judgement_or_refusal (judgement w.tree me''.table place (execve_walk path).needed) >> CallRemainders.execve_1 w pid me'' program_of place)) found
+      ∙ ap (λ (j : Judgement). after_walks walks (judgement_or_refusal j >> CallRemainders.execve_1 w pid me'' program_of place)) judged
+      ∙ ap (λ (o : Option ℕ). after_walks walks (after_walks 0 (demand ENOENT o >>= CallRemainders.execve_2 w pid me'' program_of))) node
 
   first-effect : (o : Option Bytes) → executable_bytes (node_at z.tree f) ≡ o → effect program_of z pid me'' (TheCall.Execve path) ≡ rest z o
   first-effect o is' = effect-of z ends allowed ∙ ap (rest z) is'
@@ -264,11 +264,11 @@ module _ (program_of : Bytes → Option Program) (s : State) (pid f : ℕ) (ys :
 
       by-program : (code : Bytes) → executable_bytes (node_at z.tree f) ≡ Some code → (o : Option Program) → program_of code ≡ o → HasAccess program_of s pid f ys near me (TheCall.Execve path) at is held
       by-program code is' None unparsed =
-          let effect' = first-effect (Some code) is' ∙ ap (λ (o : Option Program). after_walks walks (after_walks 0 (after_walks 0 (after_walks 0 (demand ENOEXEC o >>= CallRests.execve_4 z pid me''))))) unparsed in
+          let effect' = first-effect (Some code) is' ∙ ap (λ (o : Option Program). after_walks walks (after_walks 0 (after_walks 0 (after_walks 0 (demand ENOEXEC o >>= CallRemainders.execve_4 z pid me''))))) unparsed in
           let outcome : (step program_of s pid).outcome ≡ Failed ENOEXEC Plain = outcome-by program_of s pid f ys near me (TheCall.Execve path) at is held (refused (walks + 0) ENOEXEC Plain) effect' in
           read-access program_of s pid f ys near me (TheCall.Execve path) at is held (subst (λ o. Among f (nodes_read s me (TheCall.Execve path) o)) (sym outcome) in-places)
       by-program code is' (Some program) parsed =
-          let effect' = first-effect (Some code) is' ∙ ap (λ (o : Option Program). after_walks walks (after_walks 0 (after_walks 0 (after_walks 0 (demand ENOEXEC o >>= CallRests.execve_4 z pid me''))))) parsed in
+          let effect' = first-effect (Some code) is' ∙ ap (λ (o : Option Program). after_walks walks (after_walks 0 (after_walks 0 (after_walks 0 (demand ENOEXEC o >>= CallRemainders.execve_4 z pid me''))))) parsed in
           let outcome : (step program_of s pid).outcome ≡ Value 0 = outcome-by program_of s pid f ys near me (TheCall.Execve path) at is held _ effect' in
           execute-access program_of s pid f ys near me (TheCall.Execve path) at is held (subst (λ o. Among f (nodes_executed s me (TheCall.Execve path) o)) (sym outcome) in-places)
 

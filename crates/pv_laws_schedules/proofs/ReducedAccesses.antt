@@ -2,10 +2,11 @@
 use Rattle.std.proofs.Common.{◌≡◌, ◌∙◌, sym, ap, ap₂, subst, ℕ, true, false, not, ◌==◌, eq-eqb, List, [], ◌∷◌, ◌++◌, map, length, codes, Contains, Option, None, Some, is_some, ⊎_elim, refl}
 use Rattle.std.specs.List.{list_any}
 use Rattle.std.proofs.lemmas.Bool.{and_parts, not-true}
-use Rattle.pv_model.specs.Machine.{Access, executes, accesses, lines_of_accesses, Move, move, moves_of, AnswerLine, named_files, Observation, observed, of_next, of_process, of_calls, Bytes, same_node, Next, Program, Process, State, process_at, step, run, read_file, file_bytes, with_bytes, Touches, trace_bytes, root, find_entry}
+use Rattle.pv_model.specs.Machine.{Access, executes, accesses, Move, move, moves_of, AnswerLine, named_files, Observation, observed, of_next, of_process, of_calls, Bytes, same_node, Next, Program, Process, State, process_at, step, run, read_file, file_bytes, with_bytes, Touches, trace_bytes, root, find_entry}
 use Rattle.pv_model.specs.Answers.Access.{reads, file_read, is_unread}
+use Rattle.pv_model_questions.specs.Accesses.{lines_of_accesses}
 use Rattle.pv_laws_states.specs.States.{EncodesPrograms, IsValid}
-use Rattle.pv_laws_states.proofs.BySteps.{run-keeps_whole, step-keeps_whole}
+use Rattle.pv_laws_states.proofs.ValidBySteps.{run-keeps_valid, step-keeps_valid}
 use Rattle.pv_laws_access.specs.Sealing.{RunsDifferInFile}
 use Rattle.pv_laws_access.proofs.SimilarTrees.{as_is, near-bytes, near-length_of, same-but_file}
 use Rattle.pv_laws_answers.specs.Accesses.{is_access_listed}
@@ -17,7 +18,7 @@ use Rattle.pv_laws_answers.proofs.UnreadSteps.{unread-alike}
 use Rattle.pv_laws_classes.specs.Reduced.{may_step, bound_at, reduced_moves_of, reduced_found, is_reduced_complete}
 use Rattle.pv_laws_classes.specs.ReducedAnswers.{reduced_accesses, reduced_files_read, reduced_observations, reduced_observations_at, reduced_unread_files}
 use Rattle.pv_laws_classes.specs.Shown.{Shown, IsSeen}
-use Rattle.pv_laws_classes.proofs.SeenProcesses.{themselves}
+use Rattle.pv_laws_classes.proofs.ReducedProcesses.{themselves}
 use Rattle.pv_laws_classes.proofs.ShownLaws.{each-access, each-process}
 use Rattle.pv_laws_schedules.specs.Access.{lines_of_touch}
 use Rattle.pv_laws_schedules.specs.ReducedAccess.{TouchesAreListedReduced, UnreadFilesAreReadByNoneReduced, UnreadFilesChangeNothingReduced}
@@ -26,11 +27,12 @@ use Rattle.pv_laws_schedules.proofs.ReachedStates.{own-move}
 use Rattle.pv_laws_schedules.proofs.ReadAccess.{IsReadAccess, reads-accessed}
 
 pub touches-listed_reduced : TouchesAreListedReduced
-touches-listed_reduced program_of limit s pids pid touch it complete steps touches =
-    let own = touch-accessed program_of (run program_of pids s).final pid it.encodes (run-keeps_whole program_of it.encodes pids s it.whole) touch touches in
-    any-among (λ line. is_access_listed line (reduced_accesses program_of limit s)) own.line (lines_of_touch (run program_of pids s).final (step program_of (run program_of pids s).final pid).after pid touch) own.of_touch
-    (each-among (λ (access : AnswerLine). is_access_listed access (reduced_accesses program_of limit s) ≡ true)
-    (of_calls lines_of_accesses (run program_of pids s).final pid (step program_of (run program_of pids s).final pid)) (each-access program_of limit s pids pid it complete steps) own.line own.of_step)
+touches-listed_reduced program_of limit s files pids pid touch it complete steps touches kept =
+    let u = (run program_of pids s).final in
+    let own = touch-accessed program_of files s.tree u pid it.encodes (run-keeps_valid program_of it.encodes pids s it.whole) touch touches kept in
+    any-among (λ line. is_access_listed line (reduced_accesses program_of limit s files)) own.line (lines_of_touch s.tree u.tree (step program_of u pid).after.tree pid touch) own.of_touch
+    (each-among (λ (access : AnswerLine). is_access_listed access (reduced_accesses program_of limit s files) ≡ true)
+    (of_calls (lines_of_accesses files s.tree) u pid (step program_of u pid)) (each-access program_of limit s files pids pid it complete steps) own.line own.of_step)
 
 -- ---- unread files
 
@@ -95,9 +97,9 @@ module _ (program_of : Bytes → Option Program) (encodes : EncodesPrograms prog
       let x : State = (step program_of s pid).after in
       let y : State = (step program_of (with_bytes s f bytes) pid).after in
       let alike = unread-alike program_of s pid f bytes whole other long (λ p at. unread [] pid (steps.0, tt)) in
-      let valid = step-keeps_whole program_of encodes (with_bytes s f bytes) pid other in
+      let valid = step-keeps_valid program_of encodes (with_bytes s f bytes) pid other in
       let rest : RunsDifferInFile f (run program_of pids x) (run program_of pids (with_bytes x f (file_bytes y f))) =
-      unread-run pids x (file_bytes y f) (step-keeps_whole program_of encodes s pid whole) (subst IsValid (sym alike.after) valid) alike.as_many (λ more last are. unread (pid ∷ more) last (steps.0, are)) steps.1 in
+      unread-run pids x (file_bytes y f) (step-keeps_valid program_of encodes s pid whole) (subst IsValid (sym alike.after) valid) alike.as_many (λ more last are. unread (pid ∷ more) last (steps.0, are)) steps.1 in
       let following : RunsDifferInFile f (run program_of pids x) (run program_of pids y) = subst (λ (z : State). RunsDifferInFile f (run program_of pids x) (run program_of pids z)) alike.after rest in
       let lines = ap₂ (λ a b. a ++ b) alike.lines following.lines in
       record { lines = lines; text = ap trace_bytes lines; final = following.final; as_many = following.as_many }

@@ -10,17 +10,17 @@ use Rattle.pv_model.specs.Effect.{name_of}
 use Rattle.pv_model.specs.Sealed.{why_text}
 use Rattle.pv_model.specs.Touch.{flags_of, has_succeeded}
 use Rattle.pv_model_questions.specs.declared.finding_kind.FindingKind.TheVariants.{Leak, Read}
-use Rattle.pv_model_questions.specs.Exposure.{files_read}
-use Rattle.pv_laws_states.proofs.BySteps.{run-keeps_whole}
+use Rattle.pv_model_questions.specs.Exposure.{read_observer}
+use Rattle.pv_laws_states.proofs.ValidBySteps.{run-keeps_valid}
 use Rattle.pv_laws_access.proofs.Verdicts.{leaks-closed}
 use Rattle.pv_laws_classes.specs.Reduced.{reduced_found}
 use Rattle.pv_laws_classes.specs.Shown.{Shown, ShownProcess, shown_process}
-use Rattle.pv_laws_classes.proofs.SeenProcesses.{themselves}
+use Rattle.pv_laws_classes.proofs.ReducedProcesses.{themselves}
 use Rattle.pv_laws_schedules.specs.Exposure.{located_in}
 use Rattle.pv_laws_schedules.specs.ReducedExposure.{UnlistedLinesAreClosedReduced, UnlistedLinesReadNothingReduced, ListedLinesHappenReduced, SafeFilesAreClosedReduced, WitnessesLeadReduced}
 use Rattle.pv_laws_schedules.proofs.ExposureLines.{IsPlaced, IsAlike, all-closed, listed-found, none-unlisted, safe-there, witnessed}
 use Rattle.pv_laws_schedules.proofs.FindingReasons.{exact-reasons}
-use Rattle.pv_laws_schedules.proofs.SeenStates.{AreSound, IsSeenIn, seen-reduced, reduced-sound}
+use Rattle.pv_laws_schedules.proofs.ShownStates.{AreSound, IsSeenIn, seen-reduced, reduced-sound}
 
 -- ---- the files that a step reads are among its accesses
 
@@ -82,7 +82,7 @@ module _ (f : ℕ) where
         ∙ any-left is_read read executed (none-in-map executes (λ n. refl) (nodes_executed s p call now.outcome))
         ∙ any-reads (nodes_read s p call now.outcome)
 
-  files-read : (s : State) (pid : ℕ) (now : Stepped) → list_any is_read (of_calls accesses s pid now) ≡ list_any (λ n. n == f) (files_read s pid now)
+  files-read : (s : State) (pid : ℕ) (now : Stepped) → list_any is_read (of_calls accesses s pid now) ≡ list_any (λ n. n == f) (read_observer s pid now)
   files-read s pid now = by (process_at s pid)
     where
       by-next : (p : Process) (n : Next)
@@ -135,9 +135,9 @@ module _ (program_of : Bytes → Option Program) (s : State) (found : List Found
   abbrev read_by : Bool → Option Bytes
   read_by b = if b then Some [] else None
 
-  read-same : (f : ℕ) → list_any (λ n. n == f) (files_read shown.there.found.state shown.there.pid (step program_of shown.there.found.state shown.there.pid)) ≡ list_any (λ n. n == f) (files_read u pid (step program_of u pid))
+  read-same : (f : ℕ) → list_any (λ n. n == f) (read_observer shown.there.found.state shown.there.pid (step program_of shown.there.found.state shown.there.pid)) ≡ list_any (λ n. n == f) (read_observer u pid (step program_of u pid))
   read-same f =
-      (λ i. list_any (λ n. n == f) (files_read (shown.state i) (shown.same_number i) (step program_of (shown.state i) (shown.same_number i))))
+      (λ i. list_any (λ n. n == f) (read_observer (shown.state i) (shown.same_number i) (step program_of (shown.state i) (shown.same_number i))))
       ∙ sym (files-read f is_seen.0.state pid (step program_of is_seen.0.state pid))
       ∙ ap (λ (x : Shown). list_any (is_read f) x.accesses) is_seen.2
       ∙ files-read f u pid (step program_of u pid)
@@ -161,7 +161,7 @@ unlisted-closed_reduced program_of limit s pids pid p f is =
     (leak-alike program_of s (reduced_found program_of s limit) (reduced-sound program_of limit s it) pids (run program_of pids s).final pid p is.unlisted.live
     (seen-reduced program_of limit s it is.complete pids pid p is.steps is.unlisted.live)) f
     (themselves (files_of_tree (run program_of pids s).final.tree) f is.unlisted.file) is.unlisted.unlisted in
-    (exact-reasons program_of (located_in pids (run program_of pids s).final pid p) f Leak (run-keeps_whole program_of it.encodes pids s it.whole) is.unlisted.live).none.0 none
+    (exact-reasons program_of (located_in pids (run program_of pids s).final pid p) f Leak (run-keeps_valid program_of it.encodes pids s it.whole) is.unlisted.live).none.0 none
 
 pub unlisted-unread_reduced : UnlistedLinesReadNothingReduced
 unlisted-unread_reduced program_of limit s pids pid p f is =
@@ -170,7 +170,7 @@ unlisted-unread_reduced program_of limit s pids pid p f is =
     (read-alike program_of s (reduced_found program_of s limit) (reduced-sound program_of limit s it) pids (run program_of pids s).final pid p is.unlisted.live
     (seen-reduced program_of limit s it is.complete pids pid p is.steps is.unlisted.live)) f
     (themselves (files_of_tree (run program_of pids s).final.tree) f is.unlisted.file) is.unlisted.unlisted in
-    (exact-reasons program_of (located_in pids (run program_of pids s).final pid p) f Read (run-keeps_whole program_of it.encodes pids s it.whole) is.unlisted.live).none.0 none
+    (exact-reasons program_of (located_in pids (run program_of pids s).final pid p) f Read (run-keeps_valid program_of it.encodes pids s it.whole) is.unlisted.live).none.0 none
 
 pub listed-happen_reduced : ListedLinesHappenReduced
 listed-happen_reduced program_of limit s kind program file line it is =
@@ -187,5 +187,5 @@ safe-files_reduced program_of limit s group f pids pid p it complete listed safe
     let seen = shown program_of s found sound pids (run program_of pids s).final pid p live (seen-reduced program_of limit s it complete pids pid p steps live) in
     let closed = safe-there program_of s found sound group listed f safe seen.there seen.is_placed
     (ap (λ (x : ShownProcess). x.program) seen.same ∙ program) (ap (λ (x : ShownProcess). is_file_at x.tree f) seen.same ∙ file) in
-    (leaks-closed (run program_of pids s).final p f (run-keeps_whole program_of it.encodes pids s it.whole).tree.well_formed).0
+    (leaks-closed (run program_of pids s).final p f (run-keeps_valid program_of it.encodes pids s it.whole).tree.well_formed).0
     (ap (λ (x : ShownProcess). x.leaks f) (sym seen.same) ∙ all-closed seen.there.found.state f closed seen.there.pid seen.there.process seen.is_placed.live)

@@ -1,9 +1,11 @@
 -- Each reported observation is made by its witness, a shortest one.
-use Rattle.std.proofs.Common.{◌≡◌, ◌∙◌, sym, ap, subst, ℕ, suc, ◌≤◌, List, [], ◌∷◌, ◌++◌, length, length-append, Contains, flat_map, map, Option, None, Some, is_some, ◌⊎◌, inl, inr, refl, arith}
+use Rattle.std.proofs.Common.{◌≡◌, ◌∙◌, sym, ap, subst, ℕ, suc, ◌≤◌, Bool, true, false, if◌then◌else◌, List, [], ◌∷◌, ◌++◌, length, length-append, Contains, flat_map, map, Option, None, Some, is_some, ◌⊎◌, inl, inr, refl, arith}
 use Rattle.pv_model.specs.declared.call.Call.{Call}
-use Rattle.pv_model.specs.Machine.{accesses, lines_of_accesses, Found, Move, move, moves_of, states_found, AnswerLine, answer_line_bytes, Numbers, Observer, Observation, observed, observations, first_observations, of_next, of_process, of_calls, Bytes, Next, inside, calls_for, next, Program, Process, State, process_at, Stepped, step, run}
-use Rattle.pv_model.specs.Answers.Access.{access_line, reported_accesses}
+use Rattle.pv_model.specs.Machine.{accesses, Found, Move, move, moves_of, states_found, AnswerLine, answer_line_bytes, Numbers, Observer, Observation, observed, observations, first_observations, of_next, of_process, of_calls, Bytes, Next, inside, calls_for, next, Program, Process, State, process_at, Stepped, step, run, Tree}
+use Rattle.pv_model.specs.Answers.Access.{Access}
 use Rattle.pv_model.specs.Answers.Observed.{CallObserver, observations_at}
+use Rattle.pv_model_questions.specs.AboutFiles.{keeps_access}
+use Rattle.pv_model_questions.specs.Accesses.{access_line, lines_of_access, lines_of_accesses, reported_accesses}
 use Rattle.pv_laws_answers.specs.Search.{IsSearchable}
 use Rattle.pv_laws_answers.specs.Witnesses.{AreSteps}
 use Rattle.pv_laws_answers.proofs.CompleteSearches.{among-contains}
@@ -12,10 +14,10 @@ use Rattle.pv_laws_answers.proofs.NewKeys.{new-came, new-first, new-differ}
 use Rattle.pv_laws_answers.proofs.SoundStates.{made-by, witness-more}
 use Rattle.pv_laws_answers.proofs.WitnessOrders.{to_later-weaker}
 use Rattle.pv_laws_schedules.specs.Access.{IsFirstObserved, IsAccessLine, IsListedAccess, ListedAccessesHappen}
-use Rattle.pv_laws_classes.proofs.SeenProcesses.{themselves}
+use Rattle.pv_laws_classes.proofs.ReducedProcesses.{themselves}
 use Rattle.pv_laws_schedules.proofs.ReachedStates.{ReachedIn, own-move, reached, rising, sound-at}
-use Rattle.pv_laws_schedules.proofs.Rising.{IsRising, rising-flat}
-use Rattle.pv_laws_schedules.proofs.SeenStates.{AreSound}
+use Rattle.pv_laws_schedules.proofs.RisingLists.{IsRising, rising-flat}
+use Rattle.pv_laws_schedules.proofs.ShownStates.{AreSound}
 
 module _ {X : Type 0} (observe : Observer X) (program_of : Bytes → Option Program) where
   -- an observation is made at one of the states
@@ -180,27 +182,43 @@ calls-of-live observe program_of t pid x none h =
 
 -- ---- accesses
 
+-- a line among those of an access is its line, and is kept
+kept-line : (files : List Bytes) (first before after : Tree) (pid : ℕ) (a : Access) (l : AnswerLine) → Among l (lines_of_access files first before after pid a)
+    → (keeps_access files first before after a ≡ true) × (l ≡ access_line first before after pid a)
+kept-line files first before after pid a l = by (keeps_access files first before after a) refl
+  where
+    by : (b : Bool) → keeps_access files first before after a ≡ b → Among l (if b then access_line first before after pid a ∷ [] else [])
+        → (keeps_access files first before after a ≡ true) × (l ≡ access_line first before after pid a)
+    by true kept (inl is) = (kept, is)
+    by true kept (inr none) = absurd none
+    by false left none = absurd none
+
 pub accesses-happen : ListedAccessesHappen
-accesses-happen program_of limit s it = record {
-  happen = each-from_among (IsListedAccess program_of s) (reported_accesses program_of limit s) listed;
-  once = new-differ (λ (o : Observation AnswerLine). answer_line_bytes o.item) [] (observations (of_calls lines_of_accesses) program_of limit s);
+accesses-happen program_of limit s files it = record {
+  happen = each-from_among (IsListedAccess program_of s files) (reported_accesses program_of limit s files) listed;
+  once = new-differ (λ (o : Observation AnswerLine). answer_line_bytes o.item) [] (observations (of_calls (lines_of_accesses files s.tree)) program_of limit s);
 }
   where
-    line : (t : State) (pid : ℕ) (now : Stepped) → now ≡ step program_of t pid → (l : AnswerLine) → Contains (of_calls lines_of_accesses t pid now) l → IsAccessLine program_of t pid l
+    line : (t : State) (pid : ℕ) (now : Stepped) → now ≡ step program_of t pid → (l : AnswerLine) → Contains (of_calls (lines_of_accesses files s.tree) t pid now) l
+        → IsAccessLine program_of files s.tree t pid l
     line t pid now is l has =
-        let call = of-call lines_of_accesses t pid (step program_of t pid) l (subst (λ (st : Stepped). Among l (of_calls lines_of_accesses t pid st)) is (themselves (of_calls lines_of_accesses t pid now) l has)) in
-        let access = map-among (access_line t pid call.process call.call (step program_of t pid)) l (accesses t pid call.process call.call (step program_of t pid)) call.has in
+        let observe = lines_of_accesses files s.tree in
+        let own = step program_of t pid in
+        let call = of-call observe t pid own l (subst (λ (st : Stepped). Among l (of_calls observe t pid st)) is (themselves (of_calls observe t pid now) l has)) in
+        let access = flat-among (lines_of_access files s.tree t.tree own.after.tree pid) l (accesses t pid call.process call.call own) call.has in
+        let kept = kept-line files s.tree t.tree own.after.tree pid access.0 l access.2 in
         record {
           process = call.process;
           call = call.call;
           access = access.0;
           live = call.live;
           calls = call.calls;
-          happens = among-contains access.0 (accesses t pid call.process call.call (step program_of t pid)) access.1;
-          line = access.2;
+          happens = among-contains access.0 (accesses t pid call.process call.call own) access.1;
+          kept = kept.0;
+          line = kept.1;
         }
 
-    listed : (o : Observation AnswerLine) → Among o (reported_accesses program_of limit s) → IsListedAccess program_of s o
+    listed : (o : Observation AnswerLine) → Among o (reported_accesses program_of limit s files) → IsListedAccess program_of s files o
     listed o h =
-        let first = first-observed (of_calls lines_of_accesses) program_of limit s it answer_line_bytes (calls-of-live lines_of_accesses program_of) o h in
+        let first = first-observed (of_calls (lines_of_accesses files s.tree)) program_of limit s it answer_line_bytes (calls-of-live (lines_of_accesses files s.tree) program_of) o h in
         record { first = first; access = line (run program_of first.before s).final o.move.pid o.move.stepped first.last o.item first.item }

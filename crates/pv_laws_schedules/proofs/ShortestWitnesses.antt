@@ -4,28 +4,28 @@ use Rattle.std.specs.List.{list_any}
 use Rattle.pv_model.specs.declared.perms.Perms.{Perms}
 use Rattle.pv_model.specs.Machine.{Found, states_found, Located, program_key as located_key, files_of_tree, Judged, permissions_lacked, Move, Observation, observed, of_calls, program_numbers, Request, Requests, Bytes, no_permissions, join_permissions, covers, needs, live_processes, Program, Process, State, process_at, run}
 use Rattle.pv_model.specs.Answers.Exposure.{located_at, located}
-use Rattle.pv_model.specs.Answers.Policy.{program_key, request, same_need, is_none_of, walks_asked}
+use Rattle.pv_model.specs.Answers.Policy.{request_program_key, request, same_need, is_none_of, walks_asked}
 use Rattle.pv_model_questions.specs.declared.finding_kind.FindingKind.{FindingKind}
 use Rattle.pv_model_questions.specs.Briefs.{brief_since}
-use Rattle.pv_model_questions.specs.Exposure.{Finding, findings_at, greatest_line, last_finding, line_of, reason_by}
+use Rattle.pv_model_questions.specs.Exposure.{Finding, findings_at, greatest_finding_line, last_finding, finding_line, reason_by}
 use Rattle.pv_laws_answers.specs.Search.{IsSearchable}
 use Rattle.pv_laws_answers.specs.Witnesses.{AreSteps}
 use Rattle.pv_laws_answers.proofs.CompleteSearches.{among-contains}
 use Rattle.pv_laws_answers.proofs.Lists.{Among, each-among, among-filter, filter-among, among-flat, flat-among, among-map, map-among}
 use Rattle.pv_laws_answers.proofs.SoundStates.{witness-more}
-use Rattle.pv_laws_classes.proofs.SeenProcesses.{themselves}
+use Rattle.pv_laws_classes.proofs.ReducedProcesses.{themselves}
 use Rattle.pv_laws_schedules.specs.Exposure.{findings_by_text, located_programs, HasNone, IsExactReason, IsFoundAfter}
 use Rattle.pv_laws_schedules.specs.Policy.{needs_listed, newly_asked, walks_by_words, calling_programs}
-use Rattle.pv_laws_schedules.specs.ShortestWitnesses.{IsCallAfter, IsShortestCall, HasNeed, NeedWitnessesAreShortest, AsksAt, PermissionWitnessesAreShortest, FindingWitnessesAreShortest}
+use Rattle.pv_laws_schedules.specs.ShortestWitnesses.{IsCallAfter, IsShortestCall, HasNeed, NeedWitnessesAreShortest, AsksAtTarget, PermissionWitnessesAreShortest, FindingWitnessesAreShortest}
 use Rattle.pv_laws_schedules.proofs.ExposureLines.{IsPlaced, finding-within, found_for, in-all, of-file, placed, text_of}
 use Rattle.pv_laws_schedules.proofs.FindingReasons.{contrary, exact-reasons}
-use Rattle.pv_laws_schedules.proofs.Groups.{of-group, in-group, group-rising, same-programs}
+use Rattle.pv_laws_schedules.proofs.KeyGroups.{of-group, in-group, group-rising, same-programs}
 use Rattle.pv_laws_schedules.proofs.NeededPromises.{IsListedOf, needs-of}
 use Rattle.pv_laws_schedules.proofs.ReachedStates.{ReachedIn, reached, rising, sound-at}
 use Rattle.pv_laws_schedules.proofs.ReportedObservations.{calls-of-live, order, shortest-to}
 use Rattle.pv_laws_schedules.proofs.PermissionSets.{asked-more, bits-covered, covered-bits, had-more, lacked-asked, lacked-had}
-use Rattle.pv_laws_schedules.proofs.Rising.{IsRising, rising-flat, rising-filter, first-in, first-smallest}
-use Rattle.pv_laws_schedules.proofs.SeenStates.{AreSound}
+use Rattle.pv_laws_schedules.proofs.RisingLists.{IsRising, rising-flat, rising-filter, first-in, first-smallest}
+use Rattle.pv_laws_schedules.proofs.ShownStates.{AreSound}
 use Rattle.pv_laws_schedules.proofs.VisitedCalls.{asks, calls_at, own-call, requests_of, IsLastCall, last-call_of}
 
 abbrev steps : {X : Type 0} → Observation X → ℕ
@@ -72,13 +72,13 @@ module _ (program_of : Bytes → Option Program) (limit : ℕ) (s : State) (it :
             shortest-to (of_calls (request program_of)) program_of limit s it (calls-of-live (request program_of) program_of) o of.0 pids pid r
                 (call-observed pids pid r after)
                 (λ q k is.
-                first q (in-group program_key (requests_of program_of (states_found program_of limit s)) group within q k (ap (λ (x : Request). program_numbers x.process.program) is ∙ ap program_numbers same))
+                first q (in-group request_program_key (requests_of program_of (states_found program_of limit s)) group within q k (ap (λ (x : Request). program_numbers x.process.program) is ∙ ap program_numbers same))
                 (subst Has (sym is) has)),
           );
     }
       where
-        of : Among o (requests_of program_of (states_found program_of limit s)) × (program_key o ≡ program_key group.0)
-        of = of-group program_key (requests_of program_of (states_found program_of limit s)) group within o own
+        of : Among o (requests_of program_of (states_found program_of limit s)) × (request_program_key o ≡ request_program_key group.0)
+        of = of-group request_program_key (requests_of program_of (states_found program_of limit s)) group within o own
 
         last : IsLastCall program_of s o
         last = last-call_of program_of s (states_found program_of limit s) (sound-at program_of limit s it) group within o own
@@ -89,7 +89,7 @@ module _ (program_of : Bytes → Option Program) (limit : ℕ) (s : State) (it :
     -- the calls of a program are in the order of the search
     calls-rising : IsRising steps group.1
     calls-rising =
-        group-rising program_key steps (requests_of program_of (states_found program_of limit s)) group within
+        group-rising request_program_key steps (requests_of program_of (states_found program_of limit s)) group within
         (order (of_calls (request program_of)) program_of limit s it)
 
 -- ---- needs
@@ -108,7 +108,7 @@ need-witnesses program_of limit s group l it listed has =
 -- ---- permissions
 
 module _ (permission : Perms) (some : is_none_of permission ≡ false) where
-  -- permissions that were lacked and asked were not had
+  -- permissions that were lacked and asked were not held
   new-asked : (had asked : Perms) → covers (permissions_lacked had asked) permission ≡ true → covers asked permission ≡ true
   new-asked had asked is =
       let b = covered-bits (permissions_lacked had asked) permission is in
@@ -170,7 +170,7 @@ pub permission-witnesses : PermissionWitnessesAreShortest
 permission-witnesses program_of limit s group g l permission it listed has new covered some = (r.0.item, subst (λ (m : Move). IsShortestCall Has program_of s group.0.item.process.program m r.0.item) same-move own)
   where
     Has : Request → Type 0
-    Has = AsksAt g.0.item.words permission
+    Has = AsksAtTarget g.0.item.words permission
 
     by_words : Among g (walks_by_words group.1)
     by_words = themselves (walks_by_words group.1) g has
@@ -264,9 +264,9 @@ module _ (program_of : Bytes → Option Program) (limit : ℕ) (s : State) (it :
       let own = finding-within program_of s found sound kind l f file reason is in
       (x, refl, in-group text_of all h in-files x (among-flat (findings_at program_of s.tree kind) l x group.1 member own) same)
 
-  module _ (x : Finding) (is_last : last_finding h.1 ≡ Some x) (other : IsFoundAfter program_of s kind group.0.process.program h.0.file (line_of x)) where
+  module _ (x : Finding) (is_last : last_finding h.1 ≡ Some x) (other : IsFoundAfter program_of s kind group.0.process.program h.0.file (finding_line x)) where
     abbrev at_greatest : Finding → Bool
-    at_greatest y = line_of y == greatest_line h.1
+    at_greatest y = finding_line y == greatest_finding_line h.1
 
     abbrev u : State
     u = (run program_of other.pids s).final
@@ -275,10 +275,10 @@ module _ (program_of : Bytes → Option Program) (limit : ℕ) (s : State) (it :
     last = filter-among at_greatest x h.1 (first-in (filter at_greatest h.1) x is_last)
 
     -- a finding with the line is no nearer
-    no-nearer : (y : Finding) → Among y h.1 → line_of y ≡ line_of x → finding_distance x ≤ finding_distance y
+    no-nearer : (y : Finding) → Among y h.1 → finding_line y ≡ finding_line x → finding_distance x ≤ finding_distance y
     no-nearer y within same =
         first-smallest finding_distance (filter at_greatest h.1) x y (rising-filter finding_distance at_greatest h.1 findings-rising) is_last
-        (among-filter at_greatest y h.1 within (ap (λ n. n == greatest_line h.1) same ∙ last.1))
+        (among-filter at_greatest y h.1 within (ap (λ n. n == greatest_finding_line h.1) same ∙ last.1))
 
     abbrev there : Found → Located
     there g = record { found = g; pid = other.pid; process = other.process }

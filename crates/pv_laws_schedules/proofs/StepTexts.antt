@@ -1,4 +1,4 @@
--- What the text of a step shows: whether the process is live, and whether its call is one of pledge or unveil.
+-- The data that the text of a step shows: whether the process is live, and whether its call is one of pledge or unveil.
 use Rattle.std.proofs.Common.{◌≡◌, ◌∙◌, ap, ℕ, zero, suc, Bool, true, not, ◌||◌, ◌==◌, take, drop, codes, bytes_eq, [], ◌∷◌, ◌++◌, length, append_assoc, slice_get, Option, None, Some, is_some, refl}
 use Rattle.std.specs.Fmt.{decimal}
 use Rattle.std.proofs.Math.Seq.{drop-append_seam}
@@ -10,7 +10,7 @@ use Rattle.pv_model.specs.Answers.Observed.{is_pledge}
 use Rattle.pv_model.specs.Trace.{pad_left, pad_right, call_text, call_line}
 use Rattle.pv_laws_answers.specs.Search.{text_of_step}
 
--- what comes after the process number in a step's text
+-- the rest of a step's text after the process number
 abbrev pub after_number : ℕ → Bytes → Bytes
 after_number pid text = drop (length (pad_left 5 (decimal pid))) text
 

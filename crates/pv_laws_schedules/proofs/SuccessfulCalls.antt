@@ -9,13 +9,13 @@ use Rattle.pv_model.specs.Answer.{answer_by_reply}
 use Rattle.pv_model.specs.Machine.{answer_by_attempt, at_next_line, effect, Attempt, done, refused, Bytes, with_result, end_process, Effect, Reply, returns, returns_bytes, ends, waits, errno_number, collect, needs, calls_for, next, missing_promise, Program, Process, State, process_at, with_process, Stepped, step, step_by, live, has_succeeded}
 use Rattle.pv_model.specs.Step.{step_by_call}
 use Rattle.pv_laws_states.specs.States.{IsValid}
-use Rattle.pv_laws_states.proofs.Attempts.{Leads}
-use Rattle.pv_laws_states.proofs.Outcomes.{at_call}
+use Rattle.pv_laws_states.proofs.AttemptValues.{Leads}
+use Rattle.pv_laws_states.proofs.CallOutcomes.{at_call}
 use Rattle.pv_laws_states.proofs.Processes.{process_at-other, update-with}
 use Rattle.pv_laws_states.proofs.ValidStates.{sorted-put_number}
 use Rattle.pv_laws_access.proofs.CallEffects.{continues, Did, ends-stays}
 use Rattle.pv_laws_access.proofs.EffectByCall.{does-effect}
-use Rattle.pv_laws_access.proofs.Ends.{step-is}
+use Rattle.pv_laws_access.proofs.ProcessesAfterEnds.{step-is}
 use Rattle.pv_laws_access.proofs.NextNames.{answer-does}
 
 -- the outcome of a reply

@@ -2,11 +2,11 @@
 use Rattle.std.proofs.Common.{◌≡◌, ◌∙◌, sym, ap, ap₂, Bool, true, false, not, ◌&&◌, ◌||◌, List, [], ◌∷◌, ◌++◌, flat_map, refl}
 use Rattle.pv_model.specs.declared.perms.Perms.{Perms}
 use Rattle.pv_model.specs.Machine.{permissions_lacked, AnswerLine, Judged, Observation, no_permissions, join_permissions}
-use Rattle.pv_model.specs.Answers.Observed.{with_alike}
+use Rattle.pv_model.specs.Answers.Observed.{with_equal_key}
 use Rattle.pv_model.specs.Answers.Policy.{new_permissions, new_permissions_lines, walks_asked}
 use Rattle.pv_laws_answers.proofs.Lists.{map-among}
 use Rattle.pv_laws_schedules.specs.Policy.{joined_new, joined_permissions, newly_asked, permissions_at_words, walks_by_words, TargetLinesAreOfPermissions}
-use Rattle.pv_laws_classes.proofs.SeenProcesses.{themselves}
+use Rattle.pv_laws_classes.proofs.ReducedProcesses.{themselves}
 
 lines-of : (had : Perms) (ws : List (Observation Judged)) → new_permissions had ws ≡ flat_map (λ l. new_permissions_lines l.0 l.1) (newly_asked had ws)
 lines-of had [] = refl
@@ -42,8 +42,8 @@ pub target-lines : TargetLinesAreOfPermissions
 target-lines rs = record {
   lines = all-lines (walks_by_words rs);
   all = λ g has.
-      let from = map-among (with_alike (λ (w : Observation Judged). w.item.words) (walks_asked rs)) g _ (themselves (walks_by_words rs) g has) in
+      let from = map-among (with_equal_key (λ (w : Observation Judged). w.item.words) (walks_asked rs)) g _ (themselves (walks_by_words rs) g has) in
       ap (λ (x : Observation Judged × List (Observation Judged)). joined_new (newly_asked no_permissions x.1)) from.2
-      ∙ joined-all no_permissions (with_alike (λ (w : Observation Judged). w.item.words) (walks_asked rs) from.0).1
+      ∙ joined-all no_permissions (with_equal_key (λ (w : Observation Judged). w.item.words) (walks_asked rs) from.0).1
       ∙ ap (λ (x : Observation Judged × List (Observation Judged)). permissions_at_words rs x.0.item.words) (sym from.2);
 }

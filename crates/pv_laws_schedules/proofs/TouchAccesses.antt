@@ -13,18 +13,18 @@ use Rattle.pv_model.specs.Machine.{at_next_line, Access, executes, changes_name,
 use Rattle.pv_model.specs.Answers.Access.{reads, writes, reports, opens, accesses_by_open, accesses_by_success, creates_names, if_truncated, nodes_executed, nodes_of_places, nodes_read, nodes_reported, nodes_written, places_changed, removes_names}
 use Rattle.pv_model.specs.Touch.{change_entry, HasDescriptor, HasOpen}
 use Rattle.pv_laws_states.specs.States.{EncodesPrograms, IsTree, IsValid}
-use Rattle.pv_laws_states.proofs.Attempts.{Leads}
-use Rattle.pv_laws_states.proofs.Outcomes.{at_call}
+use Rattle.pv_laws_states.proofs.AttemptValues.{Leads}
+use Rattle.pv_laws_states.proofs.CallOutcomes.{at_call}
 use Rattle.pv_laws_states.proofs.Processes.{process_at-same}
 use Rattle.pv_laws_states.proofs.ValidEnds.{tree-end}
 use Rattle.pv_laws_access.specs.Justice.{changes_bytes}
 use Rattle.pv_laws_access.proofs.ChangedTrees.{entry-collect, file-collect}
-use Rattle.pv_laws_access.proofs.Ends.{ended-not_live, process_at-collect}
+use Rattle.pv_laws_access.proofs.ProcessesAfterEnds.{ended-not_live, process_at-collect}
 use Rattle.pv_laws_access.proofs.JustifiedChanges.{IsCut, entries-edited, files-written}
 use Rattle.pv_laws_access.proofs.JustifiedGains.{Opens, gains-opened, has-opens, opens-has}
 use Rattle.pv_laws_answers.proofs.Lists.{Among, among-filter, among-filter_map, among-left, among-map, among-right}
-use Rattle.pv_laws_classes.proofs.SeenProcesses.{themselves}
-use Rattle.pv_laws_schedules.proofs.DoneCalls.{done-names, done-succeeds, entry-done, file-done, opened-node}
+use Rattle.pv_laws_classes.proofs.ReducedProcesses.{themselves}
+use Rattle.pv_laws_schedules.proofs.StatesAfterSuccess.{done-names, done-succeeds, entry-done, file-done, opened-node}
 use Rattle.pv_laws_schedules.proofs.NamedPlaces.{IsOpening, WritesCount, ReturnsZero, write-counts, cut-returns}
 use Rattle.pv_laws_schedules.proofs.SuccessfulCalls.{outcome_of, IsDone, succeeds}
 

@@ -7,7 +7,7 @@ use Rattle.pv_model.specs.Answers.Files.{unnamed_files}
 use Rattle.pv_model.specs.Answers.Reach.{listed_names}
 use Rattle.pv_model.specs.Closed.{IsClosed}
 use Rattle.pv_laws_states.specs.States.{EncodesPrograms, IsValid}
-use Rattle.pv_laws_states.proofs.BySteps.{run-keeps_whole}
+use Rattle.pv_laws_states.proofs.ValidBySteps.{run-keeps_valid}
 use Rattle.pv_laws_access.specs.OwnRuns.{IsFixed}
 use Rattle.pv_laws_access.proofs.OwnRuns.{closed-runs_alike, fixed-runs_keep}
 use Rattle.pv_laws_access.proofs.SealedRuns.{sealed-for_ever}
@@ -15,12 +15,12 @@ use Rattle.pv_laws_access.proofs.Verdicts.{leaks-closed}
 use Rattle.pv_laws_answers.proofs.Lists.{Among, among-either, filter-among}
 use Rattle.pv_laws_answers.proofs.LiveProcesses.{listed-live}
 use Rattle.pv_laws_answers.proofs.NewKeys.{new-came}
-use Rattle.pv_laws_classes.proofs.SeenProcesses.{themselves}
-use Rattle.pv_laws_schedules.specs.UnlistedRuns.{OwnRunsAreAlike, OwnRunsKeep, AllRunsAreAlike, UnlistedLinesKeep, UnlistedLinesRunAlike, UnlistedLinesSeal, UnlistedFilesAreSealed, UnlistedLinesRunAlikeReduced, UnlistedFilesAreSealedReduced}
+use Rattle.pv_laws_classes.proofs.ReducedProcesses.{themselves}
+use Rattle.pv_laws_schedules.specs.UnlistedRuns.{OwnRunsAreEqual, OwnRunsKeep, AllRunsAreEqual, UnlistedLinesKeep, UnlistedLinesRunEqually, UnlistedLinesSeal, UnlistedFilesAreSealed, UnlistedLinesRunEquallyReduced, UnlistedFilesAreSealedReduced}
 use Rattle.pv_laws_schedules.proofs.ExposureLines.{unlisted-closed, unlisted-fixed, unlisted-shut}
 use Rattle.pv_laws_schedules.proofs.ReducedExposureLines.{unlisted-closed_reduced}
 
--- what is listed as a file is a file
+-- each listed file is a file
 are-files : (t : Tree) (f : ℕ) → Among f (files_of_tree t) → is_file_at t f ≡ true
 are-files t f h = by (among-either f (named_files t) (unnamed_files t) h)
   where
@@ -40,13 +40,13 @@ module _ (program_of : Bytes → Option Program) (encodes : EncodesPrograms prog
   file : is_file_at u.tree f ≡ true
   file = are-files u.tree f (themselves (files_of_tree u.tree) f listed)
 
-  own-alike : (pid : ℕ) (p : Process) → process_at u pid ≡ Some p → IsClosed u p f → OwnRunsAreAlike program_of u pid f
+  own-alike : (pid : ℕ) (p : Process) → process_at u pid ≡ Some p → IsClosed u p f → OwnRunsAreEqual program_of u pid f
   own-alike pid p live closed own bytes steps long = closed-runs_alike program_of encodes u pid p own f bytes valid file live closed steps long
 
   own-keep : (pid : ℕ) (p : Process) → process_at u pid ≡ Some p → IsFixed u p f → OwnRunsKeep program_of u pid f
   own-keep pid p live fixed own steps still = fixed-runs_keep program_of encodes u pid p own f valid file live fixed steps still
 
-  all-alike : names_of u.tree f ≢ [] → ((pid : ℕ) (p : Process) → process_at u pid ≡ Some p → IsClosed u p f) → AllRunsAreAlike program_of u f
+  all-alike : names_of u.tree f ≢ [] → ((pid : ℕ) (p : Process) → process_at u pid ≡ Some p → IsClosed u p f) → AllRunsAreEqual program_of u f
   all-alike named closed pids bytes long =
       sealed-for_ever program_of encodes u pids f bytes valid (record { file = file; sealed = and_from _ _ (has-name (names_of u.tree f) named) (all-from (λ (p : ℕ × Process). is_empty (leaks u p.1 f)) (live_processes u.processes) quiet) }) long
     where
@@ -60,32 +60,32 @@ module _ (program_of : Bytes → Option Program) (encodes : EncodesPrograms prog
 
 -- ---- the laws
 
-pub unlisted-runs : UnlistedLinesRunAlike
+pub unlisted-runs : UnlistedLinesRunEqually
 unlisted-runs program_of limit s pids pid p f full is =
-    own-alike program_of full.searchable.encodes (run program_of pids s).final (run-keeps_whole program_of full.searchable.encodes pids s full.searchable.whole) f is.file pid p is.live
+    own-alike program_of full.searchable.encodes (run program_of pids s).final (run-keeps_valid program_of full.searchable.encodes pids s full.searchable.whole) f is.file pid p is.live
     (unlisted-closed program_of limit s pids pid p f full is)
 
 pub unlisted-keep : UnlistedLinesKeep
 unlisted-keep program_of limit s pids pid p f full is =
-    own-keep program_of full.searchable.encodes (run program_of pids s).final (run-keeps_whole program_of full.searchable.encodes pids s full.searchable.whole) f is.file pid p is.live
+    own-keep program_of full.searchable.encodes (run program_of pids s).final (run-keeps_valid program_of full.searchable.encodes pids s full.searchable.whole) f is.file pid p is.live
     (unlisted-fixed program_of limit s pids pid p f full is)
 
 pub unlisted-seal : UnlistedLinesSeal
 unlisted-seal program_of limit s pids pid p f full is other named =
-    all-alike program_of full.searchable.encodes (run program_of pids s).final (run-keeps_whole program_of full.searchable.encodes pids s full.searchable.whole) f is.file named
+    all-alike program_of full.searchable.encodes (run program_of pids s).final (run-keeps_valid program_of full.searchable.encodes pids s full.searchable.whole) f is.file named
     (unlisted-shut program_of limit s pids pid p f full is other)
 
 pub unlisted-sealed : UnlistedFilesAreSealed
 unlisted-sealed program_of limit s pids f full file named each =
-    all-alike program_of full.searchable.encodes (run program_of pids s).final (run-keeps_whole program_of full.searchable.encodes pids s full.searchable.whole) f file named
+    all-alike program_of full.searchable.encodes (run program_of pids s).final (run-keeps_valid program_of full.searchable.encodes pids s full.searchable.whole) f file named
     (λ pid p live. unlisted-closed program_of limit s pids pid p f full (each pid p live))
 
-pub unlisted-runs_reduced : UnlistedLinesRunAlikeReduced
+pub unlisted-runs_reduced : UnlistedLinesRunEquallyReduced
 unlisted-runs_reduced program_of limit s pids pid p f is =
-    own-alike program_of is.searchable.encodes (run program_of pids s).final (run-keeps_whole program_of is.searchable.encodes pids s is.searchable.whole) f is.unlisted.file pid p is.unlisted.live
+    own-alike program_of is.searchable.encodes (run program_of pids s).final (run-keeps_valid program_of is.searchable.encodes pids s is.searchable.whole) f is.unlisted.file pid p is.unlisted.live
     (unlisted-closed_reduced program_of limit s pids pid p f is)
 
 pub unlisted-sealed_reduced : UnlistedFilesAreSealedReduced
 unlisted-sealed_reduced program_of limit s pids f it complete steps file named each =
-    all-alike program_of it.encodes (run program_of pids s).final (run-keeps_whole program_of it.encodes pids s it.whole) f file named
+    all-alike program_of it.encodes (run program_of pids s).final (run-keeps_valid program_of it.encodes pids s it.whole) f file named
     (λ pid p live. unlisted-closed_reduced program_of limit s pids pid p f (record { searchable = it; complete = complete; steps = steps; unlisted = each pid p live }))

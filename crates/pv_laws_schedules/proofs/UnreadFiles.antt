@@ -8,14 +8,14 @@ use Rattle.pv_model.specs.Answers.Access.{reads, file_read, files_read, is_unrea
 use Rattle.pv_model.specs.Answers.Observed.{observations_at}
 use Rattle.pv_model.specs.Step.{init_program}
 use Rattle.pv_laws_answers.specs.Search.{IsSearchable}
-use Rattle.pv_laws_answers.specs.Unread.{IsReadByNone}
+use Rattle.pv_laws_answers.specs.Unread.{IsNeverRead}
 use Rattle.pv_laws_answers.proofs.UnreadRuns.{unread-files}
 use Rattle.pv_laws_answers.proofs.Lists.{Among, each-from_among, any-among, among-flat, among-map, filter-among, among-filter_map}
 use Rattle.pv_laws_states.specs.States.{EncodesPrograms, IsValid, is_program_in_bounds}
-use Rattle.pv_laws_states.proofs.BySteps.{first-whole}
+use Rattle.pv_laws_states.proofs.ValidBySteps.{first-valid}
 use Rattle.pv_laws_schedules.specs.Access.{UnreadFilesAreReadByNone, UnreadFilesChangeNothing}
 use Rattle.pv_laws_schedules.proofs.ReadAccess.{IsReadAccess, reads-accessed}
-use Rattle.pv_laws_classes.proofs.SeenProcesses.{themselves}
+use Rattle.pv_laws_classes.proofs.ReducedProcesses.{themselves}
 use Rattle.pv_laws_schedules.proofs.ReachedStates.{own-move}
 
 module _ (program_of : Bytes → Option Program) (limit : ℕ) (s : State) (it : IsSearchable program_of limit s) where
@@ -51,7 +51,7 @@ module _ (program_of : Bytes → Option Program) (limit : ℕ) (s : State) (it :
   unread-parts : (f : ℕ) → Contains (unread_files program_of limit s) f → (same_node (find_entry s.tree root (codes "init")) f ≡ false) × (list_any (λ m. m == f) (files_read program_of limit s) ≡ false)
   unread-parts f has = unlisted f (filter-among (is_unread program_of limit s (files_read program_of limit s)) f (named_files s.tree) (themselves (unread_files program_of limit s) f has)).1
 
-  none-reads : (f : ℕ) → Contains (unread_files program_of limit s) f → IsReadByNone program_of limit s f
+  none-reads : (f : ℕ) → Contains (unread_files program_of limit s) f → IsNeverRead program_of limit s f
   none-reads f has =
       each-from_among (λ g. (pid : ℕ) → is_some (process_at g.state pid) ≡ true → Touches program_of g.state pid (read_file f) → ⊥) (states_found program_of limit s)
       (λ g within pid live touches.
@@ -94,6 +94,6 @@ module _ (program_of : Bytes → Option Program) (encodes : EncodesPrograms prog
 pub unread-change_nothing : UnreadFilesChangeNothing
 unread-change_nothing program_of limit t s f bytes encodes room first other long boots complete has =
     let by = booted program_of encodes t s boots in
-    let it : IsSearchable program_of limit s = record { encodes = encodes; whole = subst IsValid (sym by.1) (first-whole t by.0 first by.2); room = room } in
+    let it : IsSearchable program_of limit s = record { encodes = encodes; whole = subst IsValid (sym by.1) (first-valid t by.0 first by.2); room = room } in
     let apart = other-node (find_entry t root (codes "init")) f (ap (λ (u : State). same_node (find_entry u.tree root (codes "init")) f) (sym by.1) ∙ (unread-parts program_of limit s it f has).0) in
     unread-files program_of limit t s f bytes encodes room first other long apart boots complete (none-reads program_of limit s it f has)

@@ -4,15 +4,15 @@ use Rattle.std.proofs.Common.{◌≡◌, ◌∙◌, sym, ap, subst, ℕ, false, 
 use Rattle.pv_model.specs.declared.call.Call.{Call}
 use Rattle.pv_model.specs.Machine.{answer, Found, Move, move, moves_of, asked_by, is_refused, Observation, observed, of_next, of_process, of_calls, groups, Request, Requests, program_numbers, Bytes, Next, calls_for, next, Program, Process, State, process_at, step}
 use Rattle.pv_model.specs.Answers.Observed.{observations_at}
-use Rattle.pv_model.specs.Answers.Policy.{granted_calls, program_key, request}
+use Rattle.pv_model.specs.Answers.Policy.{granted_calls, request_program_key, request}
 use Rattle.pv_laws_answers.proofs.CompleteSearches.{among-contains}
 use Rattle.pv_laws_answers.proofs.Lists.{Among, among-filter, among-flat, among-map, map-among}
 use Rattle.pv_laws_answers.proofs.SoundStates.{IsSound}
 use Rattle.pv_laws_classes.specs.Shown.{Shown, ShownCall, shown_call}
 use Rattle.pv_laws_classes.proofs.StateSearches.{own-move}
-use Rattle.pv_laws_schedules.proofs.Groups.{HasGroup, grouped, in-group, of-group, same-programs}
+use Rattle.pv_laws_schedules.proofs.KeyGroups.{HasGroup, grouped, in-group, of-group, same-programs}
 use Rattle.pv_laws_schedules.proofs.ReportedObservations.{IsMade, made-in, IsOfCall, of-call}
-use Rattle.pv_laws_schedules.proofs.SeenStates.{AreSound, IsSeenIn}
+use Rattle.pv_laws_schedules.proofs.ShownStates.{AreSound, IsSeenIn}
 
 module _ (program_of : Bytes → Option Program) where
   abbrev pub asks : State → ℕ → Process → Call → Request
@@ -24,7 +24,7 @@ module _ (program_of : Bytes → Option Program) where
 
   -- these calls by program
   abbrev pub programs_of : List Found → List (Observation Request × Requests)
-  programs_of fs = groups program_key (requests_of fs)
+  programs_of fs = groups request_program_key (requests_of fs)
 
   abbrev pub calls_at : State → ℕ → List Request
   calls_at u pid = of_calls (request program_of) u pid (step program_of u pid)
@@ -71,22 +71,22 @@ module _ (program_of : Bytes → Option Program) where
       }
 
   module _ {rs : Requests} {u : State} {pid : ℕ} {p : Process} {call : Call} (it : IsRequested rs u pid p call) where
-    same-key : program_key it.shown_by ≡ program_numbers p.program
+    same-key : request_program_key it.shown_by ≡ program_numbers p.program
     same-key = ap (λ (c : ShownCall). program_numbers c.program) it.same
 
     -- its program is listed
-    pub program-listed : (group : Observation Request × Requests) × Contains (groups program_key rs) group × (group.0.item.process.program ≡ p.program)
+    pub program-listed : (group : Observation Request × Requests) × Contains (groups request_program_key rs) group × (group.0.item.process.program ≡ p.program)
     program-listed =
-        let own : HasGroup program_key rs it.shown_by = grouped program_key rs it.shown_by it.within in (
+        let own : HasGroup request_program_key rs it.shown_by = grouped request_program_key rs it.shown_by it.within in (
           own.group,
-          among-contains own.group (groups program_key rs) own.listed,
+          among-contains own.group (groups request_program_key rs) own.listed,
           same-programs u.tree own.group.0.item.process.program p.program (own.same ∙ same-key),
         )
 
     -- it is one of its program
-    pub of-program : (group : Observation Request × Requests) → Among group (groups program_key rs) → p.program ≡ group.0.item.process.program
+    pub of-program : (group : Observation Request × Requests) → Among group (groups request_program_key rs) → p.program ≡ group.0.item.process.program
         → Among it.shown_by group.1
-    of-program group listed same = in-group program_key rs group listed it.shown_by it.within (same-key ∙ ap program_numbers same)
+    of-program group listed same = in-group request_program_key rs group listed it.shown_by it.within (same-key ∙ ap program_numbers same)
 
     -- if it was not refused, it is a granted call
     pub granted-requested : is_refused (step program_of u pid).outcome ≡ false → IsRequested (granted_calls rs) u pid p call
@@ -133,7 +133,7 @@ module _ (program_of : Bytes → Option Program) where
       only (inl e) = e
       only (inr none) = absurd none
 
-  -- so is each call of a program
+  -- each call of a program is shown too
   pub last-call_of : (s : State) (fs : List Found) → AreSound program_of s fs
       → (group : Observation Request × Requests) → Among group (programs_of fs) → (r : Observation Request) → Among r group.1 → IsLastCall s r
-  last-call_of s fs sound group listed r h = last-call s fs sound r (of-group program_key (requests_of fs) group listed r h).0
+  last-call_of s fs sound group listed r h = last-call s fs sound r (of-group request_program_key (requests_of fs) group listed r h).0

@@ -5,13 +5,13 @@ use Rattle.pv_model.specs.Answers.Compare.{is_live, is_restraint, pair_move}
 use Rattle.pv_laws_states.specs.States.{EncodesPrograms, IsValid}
 use Rattle.pv_laws_answers.specs.Search.{text_of_step}
 
-abbrev pub IsAlike : Comparison → Type 0
-IsAlike (different m pairs) = ⊥
-IsAlike (alike complete pairs) = Unit {0}
+abbrev pub IsWithoutDifference : Comparison → Type 0
+IsWithoutDifference (different m pairs) = ⊥
+IsWithoutDifference (alike complete pairs) = Unit {0}
 
 -- an image never differs from itself, whatever the limit
-abbrev pub ItselfIsAlike : Type 0
-ItselfIsAlike = (program_of : Bytes → Option Program) (limit : ℕ) (s : State) → IsAlike (comparison program_of limit s s)
+abbrev pub ImageEqualsItself : Type 0
+ImageEqualsItself = (program_of : Bytes → Option Program) (limit : ℕ) (s : State) → IsWithoutDifference (comparison program_of limit s s)
 
 -- the premises of a comparison: valid states, and room for the first pair
 pub record AreComparable (program_of : Bytes → Option Program) (limit : ℕ) (s t : State) : Type 0 where
@@ -20,7 +20,7 @@ pub record AreComparable (program_of : Bytes → Option Program) (limit : ℕ) (
   pub second : IsValid t
   pub room : 1 ≤ limit
 
--- a text, but for a call of pledge or unveil
+-- a text, except for a call of pledge or unveil
 abbrev pub text_unless : Bool → Bytes → Option Bytes
 text_unless true text = None
 text_unless false text = Some text
@@ -47,7 +47,7 @@ module _ (program_of : Bytes → Option Program) where
 
   -- ---- the same
 
-  -- the texts of the steps of a run, but for calls of pledge and unveil
+  -- the texts of the steps of a run, except for calls of pledge and unveil
   abbrev pub texts_compared : List ℕ → State → List (Option Bytes)
   texts_compared [] s = []
   texts_compared (pid ∷ pids) s = text_unless (is_restraint (process_at s pid)) (text_of_step program_of s pid) ∷ texts_compared pids (step program_of s pid).after
@@ -63,8 +63,8 @@ DifferencesAreShortest =
     (program_of : Bytes → Option Program) (limit : ℕ) (s t : State) (m : PairMove) (pairs : ℕ) → AreComparable program_of limit s t
     → comparison program_of limit s t ≡ different m pairs → IsShortest program_of s t m
 
--- if the comparison is complete and finds no difference, each schedule runs alike
-abbrev pub AlikeRunsAlike : Type 0
-AlikeRunsAlike =
+-- if the comparison is complete and finds no difference, each schedule has equal runs
+abbrev pub EqualImagesRunEqually : Type 0
+EqualImagesRunEqually =
     (program_of : Bytes → Option Program) (limit : ℕ) (s t : State) (pairs : ℕ) → AreComparable program_of limit s t
     → comparison program_of limit s t ≡ alike true pairs → (pids : List ℕ) → HaveSameTraces program_of s t pids

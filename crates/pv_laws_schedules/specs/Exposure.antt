@@ -6,13 +6,13 @@ use Rattle.pv_model.specs.Closed.{IsClosed}
 use Rattle.pv_model_questions.specs.declared.finding_kind.FindingKind.{FindingKind}
 use Rattle.pv_model_questions.specs.declared.finding_kind.FindingKind.TheVariants.{Leak, Peer, Edit, Read}
 use Rattle.pv_model_questions.specs.Briefs.{brief_since}
-use Rattle.pv_model_questions.specs.Exposure.{Finding, files_read, findings_at, last_finding, greatest_line, line_of, lines_found, reason_by, safe_files, witness_by}
+use Rattle.pv_model_questions.specs.Exposure.{Finding, read_observer, findings_at, last_finding, greatest_finding_line, finding_line, lines_found, reason_by, safe_files_of_first, witness_by}
 use Rattle.pv_laws_states.specs.States.{IsValid}
 use Rattle.pv_laws_access.specs.OwnRuns.{IsFixed}
 use Rattle.pv_laws_answers.specs.Search.{IsSearchable}
 use Rattle.pv_laws_answers.specs.Witnesses.{AreSteps, IsWitness}
 
--- ---- what the kinds of findings say
+-- ---- the statements of the kinds of findings
 
 -- another live process is not closed to a file
 pub record IsOpenToAnother (u : State) (f : ℕ) : Type 0 where
@@ -27,7 +27,7 @@ AreAllClosed u f = (pid : ℕ) (p : Process) → process_at u pid ≡ Some p →
 module _ (program_of : Bytes → Option Program) (u : State) (pid : ℕ) (p : Process) (f : ℕ) where
   -- the next step of the process reads the file
   abbrev pub ReadsNext : Type 0
-  ReadsNext = Contains (files_read u pid (step program_of u pid)) f
+  ReadsNext = Contains (read_observer u pid (step program_of u pid)) f
 
   abbrev pub IsFinding : FindingKind → Type 0
   IsFinding Leak = ¬ IsClosed u p f
@@ -108,7 +108,7 @@ module _ (program_of : Bytes → Option Program) (s : State) where
   pub record IsWitnessed (kind : FindingKind) (findings : Finding × List Finding) : Type 0 where
     pub finding : Finding
     pub is_last : last_finding findings.1 ≡ Some finding
-    pub greatest : line_of finding ≡ greatest_line findings.1
+    pub greatest : finding_line finding ≡ greatest_finding_line findings.1
     pub reached : IsWitness program_of s finding.at.found.witness finding.at.found.state
     pub live : process_at finding.at.found.state finding.at.pid ≡ Some finding.at.process
     pub witness : finding.witness ≡ witness_by kind finding.at
@@ -150,8 +150,8 @@ UnlistedLinesAreClosed =
     → IsUnlisted program_of limit s Leak pids pid p f → IsClosed (run program_of pids s).final p f
 
 -- if it is listed neither under LEAK nor under PEER, all live processes are closed to the file
-abbrev pub UnlistedLinesShutAll : Type 0
-UnlistedLinesShutAll =
+abbrev pub UnlistedLinesCloseAll : Type 0
+UnlistedLinesCloseAll =
     (program_of : Bytes → Option Program) (limit : ℕ) (s : State) (pids : List ℕ) (pid : ℕ) (p : Process) (f : ℕ) → IsCompleteSearch program_of limit s
     → IsUnlisted program_of limit s Leak pids pid p f → IsUnlisted program_of limit s Peer pids pid p f → AreAllClosed (run program_of pids s).final f
 
@@ -183,7 +183,7 @@ WitnessesLead =
 abbrev pub SafeFilesAreClosed : Type 0
 SafeFilesAreClosed =
     (program_of : Bytes → Option Program) (limit : ℕ) (s : State) (group : Located × List Located) (f : ℕ) (pids : List ℕ) (pid : ℕ) (p : Process) → IsCompleteSearch program_of limit s
-    → Contains (located_programs program_of limit s) group → Contains (safe_files s.tree group.1) f → process_at (run program_of pids s).final pid ≡ Some p
+    → Contains (located_programs program_of limit s) group → Contains (safe_files_of_first s.tree group.1) f → process_at (run program_of pids s).final pid ≡ Some p
     → p.program ≡ group.0.process.program → IsTrue (is_file_at (run program_of pids s).final.tree f) → AreAllClosed (run program_of pids s).final f
 
 -- the files of a tree, named or held, are all its files: so the laws above are about each file of a state

@@ -8,14 +8,14 @@ use Rattle.pv_model.specs.declared.outcome.Outcome.TheVariants.{Failed}
 use Rattle.pv_model.specs.declared.perms.Perms.{Perms}
 use Rattle.pv_model.specs.declared.target.Target.{Target}
 use Rattle.pv_model.specs.Machine.{answer, is_complete, Judged, is_refused, Observation, of_calls, groups, is_unveil, Request, Requests, Bytes, needs, covers, calls_for, next, Promises, is_met, Program, Process, State, process_at, step, run, Table}
-use Rattle.pv_model.specs.Answers.Policy.{granted_calls, program_key, request, requests, same_need, walks_asked}
+use Rattle.pv_model.specs.Answers.Policy.{granted_calls, request_program_key, request, requests, same_need, walks_asked}
 use Rattle.pv_laws_answers.specs.ProcessImages.{with_promises, with_own_table}
 use Rattle.pv_laws_answers.specs.Search.{IsSearchable}
 use Rattle.pv_laws_answers.specs.Wanted.{reports_need, reports_of_table}
 use Rattle.pv_laws_answers.specs.Witnesses.{AreSteps}
 use Rattle.pv_laws_classes.specs.Reduced.{is_reduced_complete}
 use Rattle.pv_laws_classes.specs.ReducedAnswers.{reduced_requests}
-use Rattle.pv_laws_schedules.specs.Policy.{ListedNeed, MeetsAll, needs_listed, IsRefusedWith, GivesAsked, GivesAskedBut}
+use Rattle.pv_laws_schedules.specs.Policy.{ListedNeed, MeetsAll, needs_listed, IsRefusedWith, GrantsDemands, GrantsDemandsExcept}
 
 -- a program, with its calls
 abbrev pub Calling : Type 0
@@ -23,9 +23,9 @@ Calling = Observation Request × Requests
 
 -- the programs of a search, each with its granted calls
 abbrev pub granted_programs : Requests → List Calling
-granted_programs rs = groups program_key (granted_calls rs)
+granted_programs rs = groups request_program_key (granted_calls rs)
 
--- ---- what is listed is asked by granted calls
+-- ---- granted calls ask for the listed needs
 
 module _ (program_of : Bytes → Option Program) (s : State) where
   -- a call is the last step of its witness, and neither a promise nor a table refused it
@@ -52,10 +52,10 @@ module _ (program_of : Bytes → Option Program) (s : State) where
     pub less_promises : (l : ListedNeed) (set : Promises) → Contains (needs_listed group.1) l → IsFalse (is_met (Some set) l.0) → IsRefusedWith program_of s set l.1
     pub less_permissions :
         (r : Observation Request) (w : Judged) (table : Table) (permission : Perms) (k : ℕ) → Contains group.1 r → Contains r.item.asked.walks w
-        → IsTrue (covers w.permissions permission) → GivesAskedBut group.1 r.item.before.tree table w.target permission k
+        → IsTrue (covers w.permissions permission) → GrantsDemandsExcept group.1 r.item.before.tree table w.target permission k
         → (answer program_of (with_own_table r.item.before r.move.pid table) r.move.pid r.item.call).outcome ≡ Failed EACCES (ByUnveil (Some k))
 
--- so it is of each listed program, whether the search is complete or not
+-- this holds for each listed program, whether the search is complete or not
 abbrev pub ListedNeedsAreGranted : Type 0
 ListedNeedsAreGranted =
     (program_of : Bytes → Option Program) (limit : ℕ) (s : State) (group : Calling) → IsSearchable program_of limit s
@@ -81,15 +81,15 @@ module _ (program_of : Bytes → Option Program) (u : State) (pid : ℕ) where
   pub record IsEnoughFor (call : Call) (group : Calling) : Type 0 where
     pub promises : (set : Promises) → MeetsAll set group.1 → IsFalse (reports_need (step program_of (with_promises u pid set) pid).lines)
     pub permissions :
-        (table : Table) → IsFalse (is_unveil call) → ((target : Target) → GivesAsked group.1 u.tree table target)
+        (table : Table) → IsFalse (is_unveil call) → ((target : Target) → GrantsDemands group.1 u.tree table target)
         → IsFalse (reports_of_table (step program_of (with_own_table u pid table) pid).lines)
 
-  -- the program is listed, and what is listed for it is enough for the step
+  -- the program is listed, and its listed needs are enough for the step
   pub record NeedsNoMore (p : Process) (call : Call) (rs : Requests) : Type 0 where
     pub listed : (group : Calling) × Contains (granted_programs rs) group × (group.0.item.process.program ≡ p.program)
     pub enough : (group : Calling) → Contains (granted_programs rs) group → p.program ≡ group.0.item.process.program → IsEnoughFor call group
 
--- so it is of each granted call in any schedule, if the search is complete
+-- this holds for each granted call in any schedule, if the search is complete
 abbrev pub GrantedCallsNeedNoMore : Type 0
 GrantedCallsNeedNoMore =
     (program_of : Bytes → Option Program) (limit : ℕ) (s : State) (pids : List ℕ) (pid : ℕ) (p : Process) (call : Call) → IsSearchable program_of limit s → IsTrue (is_complete program_of limit s)

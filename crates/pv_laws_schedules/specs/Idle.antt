@@ -15,14 +15,14 @@ use Rattle.pv_laws_schedules.specs.Policy.{calling_programs}
 use Rattle.pv_laws_schedules.specs.ReducedPolicy.{reduced_calling_programs}
 
 -- the promises that are listed as idle for a program
-abbrev pub idle_promises : Requests → List Promise
-idle_promises rs = filter (is_idle rs) promises_in_use
+abbrev pub listed_idle_promises : Requests → List Promise
+listed_idle_promises rs = filter (is_idle rs) promises_in_use
 
 -- promises lack the idle ones, and are otherwise those that a process holds
 abbrev pub LacksIdle : Requests → (held set : Promises) → Type 0
-LacksIdle rs held set = (a : Promise) → contains set a ≡ (contains held a && not (list_any (same_promise a) (idle_promises rs)))
+LacksIdle rs held set = (a : Promise) → contains set a ≡ (contains held a && not (list_any (same_promise a) (listed_idle_promises rs)))
 
--- two steps have the same lines, and the next states are equal but for promises
+-- two steps have the same lines, and the next states are equal up to promises
 pub record StepsDifferInPromises (a b : Stepped) : Type 0 where
   pub lines : b.lines ≡ a.lines
   pub after : begun_with None b.after ≡ begun_with None a.after

@@ -4,7 +4,7 @@ use Rattle.pv_model.specs.declared.call.Call.{Call}
 use Rattle.pv_model.specs.declared.perms.Perms.{Perms}
 use Rattle.pv_model.specs.declared.target.Target.{Target}
 use Rattle.pv_model.specs.Machine.{is_complete, permissions_lacked, target_words, Observation, groups, is_unveil, Request, Requests, Bytes, covers, calls_for, next, Program, Process, State, process_at, step, run, Tree, Table}
-use Rattle.pv_model.specs.Answers.Policy.{restricted, entries_held, all_used, joined, idle_permission_line, idle_permission_lines}
+use Rattle.pv_model.specs.Answers.Policy.{restricted, entries_held, all_used, union_of_granted, idle_permission_line, idle_permission_lines}
 use Rattle.pv_laws_answers.specs.ProcessImages.{with_own_table}
 use Rattle.pv_laws_answers.specs.Search.{IsSearchable}
 use Rattle.pv_laws_answers.specs.Witnesses.{AreSteps}
@@ -14,25 +14,25 @@ use Rattle.pv_laws_schedules.specs.ReducedPolicy.{reduced_calling_programs}
 
 -- the permissions that are listed as idle for entries with some words: those that such entries give at the calls of a
 -- program, without those used there
-abbrev pub idle_permissions : Requests → Bytes → Perms
-idle_permissions rs words =
-    permissions_lacked (joined (filter (λ g. bytes_eq g.0 words) (all_used (restricted rs))))
-    (joined (filter (λ g. bytes_eq g.0 words) (flat_map entries_held (restricted rs))))
+abbrev pub listed_idle_permissions : Requests → Bytes → Perms
+listed_idle_permissions rs words =
+    permissions_lacked (union_of_granted (filter (λ g. bytes_eq g.0 words) (all_used (restricted rs))))
+    (union_of_granted (filter (λ g. bytes_eq g.0 words) (flat_map entries_held (restricted rs))))
 
 -- the lines IDLE of a program about permissions are those of the permissions that are listed as idle for the words of each
 -- entry
 abbrev pub IdleLinesAreOfPermissions : Type 0
 IdleLinesAreOfPermissions =
     (rs : Requests)
-    → idle_permission_lines (restricted rs) ≡ flat_map (λ g. idle_permission_line (idle_permissions rs g.0.0) g.0.0) (groups (λ g. g.0) (flat_map entries_held (restricted rs)))
+    → idle_permission_lines (restricted rs) ≡ flat_map (λ g. idle_permission_line (listed_idle_permissions rs g.0.0) g.0.0) (groups (λ g. g.0) (flat_map entries_held (restricted rs)))
 
 -- an entry has the target of another, and lacks no permission of it that is not listed as idle for its words
 pub record LacksIdleAt (rs : Requests) (t : Tree) (held set : Target × Perms) : Type 0 where
   pub target : set.0 ≡ held.0
   pub fewer : IsTrue (covers held.1 set.1)
-  pub others : IsTrue (covers set.1 (permissions_lacked (idle_permissions rs (target_words t held.0)) held.1))
+  pub others : IsTrue (covers set.1 (permissions_lacked (listed_idle_permissions rs (target_words t held.0)) held.1))
 
--- so it is of each entry of a table, in their order
+-- this holds for each entry of a table, in their order
 abbrev pub LacksIdleEntries : Requests → Tree → (held set : Table) → Type 0
 LacksIdleEntries rs t [] [] = Unit {0}
 LacksIdleEntries rs t (e ∷ held) (d ∷ set) = LacksIdleAt rs t e d × LacksIdleEntries rs t held set

@@ -1,4 +1,5 @@
 pub mod Compare
+pub mod AboutFiles
 pub mod Access
 pub mod Exposure
 pub mod Policy

@@ -11,8 +11,8 @@ use Rattle.pv_model.specs.declared.target.Target.{Target}
 use Rattle.pv_model.specs.Machine.{answer, permissions_lacked, is_complete, AnswerLine, answer_line, Judged, first_of, target_words, Observation, groups, is_unveil, Request, Requests, Bytes, no_permissions, join_permissions, covers, calls_for, next, Promises, Need, is_met, Program, Process, State, process_at, step, run, Tree, Table, same_target, permissions_at}
 use Rattle.pv_model.specs.Answers.Explain.{need_text}
 use Rattle.pv_model.specs.Answers.Explore.{by_line}
-use Rattle.pv_model.specs.Answers.Policy.{program_key, requests, needs_with, promises_in_use, with_need, promise_lines, walks_asked, new_permissions_lines, target_lines}
-use Rattle.pv_laws_answers.specs.ProcessImages.{with_promises, with_own_table, governing_target, GivesAt}
+use Rattle.pv_model.specs.Answers.Policy.{request_program_key, requests, needs_with, promises_in_use, with_need, promise_lines, walks_asked, new_permissions_lines, target_lines}
+use Rattle.pv_laws_answers.specs.ProcessImages.{with_promises, with_own_table, governing_target, GrantsAt}
 use Rattle.pv_laws_answers.specs.Search.{IsSearchable}
 use Rattle.pv_laws_answers.specs.Wanted.{reports_need, reports_of_table}
 use Rattle.pv_laws_answers.specs.Witnesses.{AreSteps}
@@ -51,7 +51,7 @@ MeetsAll set rs = (l : ListedNeed) → Contains (needs_listed rs) l → IsTrue (
 
 -- the programs, each with its calls
 abbrev pub calling_programs : (Bytes → Option Program) → ℕ → State → List (Observation Request × Requests)
-calling_programs program_of limit s = groups program_key (requests program_of limit s)
+calling_programs program_of limit s = groups request_program_key (requests program_of limit s)
 
 -- ---- the laws
 
@@ -99,33 +99,35 @@ abbrev pub asks_at_words : Requests → Bytes → Bool
 asks_at_words rs words = list_any (λ w. bytes_eq w.item.words words) (walks_asked rs)
 
 -- a table gives at a target all permissions that the program asks at targets with its words
-abbrev pub GivesAsked : Requests → Tree → Table → Target → Type 0
-GivesAsked rs t table target = IsTrue (asks_at_words rs (target_words t target)) → GivesAt t table target (permissions_at_words rs (target_words t target))
+abbrev pub GrantsDemands : Requests → Tree → Table → Target → Type 0
+GrantsDemands rs t table target = IsTrue (asks_at_words rs (target_words t target)) → GrantsAt t table target (permissions_at_words rs (target_words t target))
 
--- if the search is complete, no call of a program in any schedule has an UNVL line of a check, if it is made with a table
--- that gives what the program asks; except for a second walk whose call was refused at the first in that state
+-- if the search is complete, no call of a program in any schedule has an UNVL line of a check, if it is made with a
+-- table that gives the permissions that the program asks for; except for a second walk whose call was refused at the
+-- first in that state
 abbrev pub ListedPermissionsAreEnough : Type 0
 ListedPermissionsAreEnough =
     (program_of : Bytes → Option Program) (limit : ℕ) (s : State) (group : Observation Request × Requests) (pids : List ℕ) (pid : ℕ) (p : Process) (call : Call) (table : Table)
     → IsSearchable program_of limit s → IsTrue (is_complete program_of limit s) → Contains (calling_programs program_of limit s) group
     → process_at (run program_of pids s).final pid ≡ Some p → p.program ≡ group.0.item.process.program → next p ≡ calls_for call → IsFalse (is_unveil call)
-    → ((target : Target) → GivesAsked group.1 (run program_of pids s).final.tree table target)
+    → ((target : Target) → GrantsDemands group.1 (run program_of pids s).final.tree table target)
     → IsTrue (reports_of_table (step program_of (with_own_table (run program_of pids s).final pid table) pid).lines)
     → ((answer program_of (with_own_table (run program_of pids s).final pid table) pid call).walks ≡ 2) × ((answer program_of (run program_of pids s).final pid call).walks ≡ 1)
     × IsTrue (reports_of_table (step program_of (run program_of pids s).final pid).lines)
 
--- a table gives what the program asks, except at one target, where the entry that governs it lacks a permission
-pub record GivesAskedBut (rs : Requests) (t : Tree) (table : Table) (target : Target) (permission : Perms) (k : ℕ) : Type 0 where
+-- a table gives the permissions that the program asks for, except at one target, where the entry that governs it lacks
+-- a permission
+pub record GrantsDemandsExcept (rs : Requests) (t : Tree) (table : Table) (target : Target) (permission : Perms) (k : ℕ) : Type 0 where
   pub governs : governing_target t table target ≡ Some k
   pub lacks : IsFalse (covers (permissions_at table k) permission)
-  pub others : (other : Target) → IsFalse (same_target other target) → GivesAsked rs t table other
+  pub others : (other : Target) → IsFalse (same_target other target) → GrantsDemands rs t table other
 
 -- that entry then refuses each call of the search that asked for the permission there
 abbrev pub ListedPermissionsAreNeeded : Type 0
 ListedPermissionsAreNeeded =
     (program_of : Bytes → Option Program) (limit : ℕ) (s : State) (group : Observation Request × Requests) (r : Observation Request) (w : Judged) (table : Table) (permission : Perms) (k : ℕ)
     → IsSearchable program_of limit s → Contains (calling_programs program_of limit s) group → Contains group.1 r → Contains r.item.asked.walks w → IsTrue (covers w.permissions permission)
-    → GivesAskedBut group.1 r.item.before.tree table w.target permission k
+    → GrantsDemandsExcept group.1 r.item.before.tree table w.target permission k
     → (answer program_of (with_own_table r.item.before r.move.pid table) r.move.pid r.item.call).outcome ≡ Failed EACCES (ByUnveil (Some k))
 
 -- the permissions that walks ask and no earlier one of them asked, each with its walk
@@ -141,8 +143,8 @@ joined_new (l ∷ ls) = join_permissions l.0 (joined_new ls)
 abbrev pub walks_by_words : Requests → List (Observation Judged × List (Observation Judged))
 walks_by_words rs = groups (λ w. w.item.words) (walks_asked rs)
 
--- the lines UNVL of a program are those of the permissions that are newly asked at each target in words, which are together
--- all that are asked there
+-- the lines UNVL of a program are those of the permissions that are newly asked at each target in words, which are
+-- together all permissions that are asked there
 pub record TargetLinesOf (rs : Requests) : Type 0 where
   pub lines : target_lines rs ≡ flat_map (λ g. flat_map (λ l. new_permissions_lines l.0 l.1) (newly_asked no_permissions g.1)) (walks_by_words rs)
   pub all : (g : Observation Judged × List (Observation Judged)) → Contains (walks_by_words rs) g → joined_new (newly_asked no_permissions g.1) ≡ permissions_at_words rs g.0.item.words

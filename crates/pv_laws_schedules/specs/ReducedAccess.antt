@@ -10,15 +10,18 @@ use Rattle.pv_laws_answers.specs.Search.{IsSearchable}
 use Rattle.pv_laws_answers.specs.Witnesses.{AreSteps}
 use Rattle.pv_laws_classes.specs.Reduced.{is_reduced_complete}
 use Rattle.pv_laws_classes.specs.ReducedAnswers.{reduced_accesses, reduced_unread_files}
-use Rattle.pv_laws_schedules.specs.Access.{lines_of_touch}
+use Rattle.pv_laws_schedules.specs.Access.{keeps_touch, lines_of_touch}
 
--- if the search is complete, each touch of each step of a live process in each schedule is listed with one of its lines
+-- if the search is complete, each touch of each step of a live process in each schedule is listed with one of its lines, and
+-- so is each of given files in the answer about them
 abbrev pub TouchesAreListedReduced : Type 0
 TouchesAreListedReduced =
-    (program_of : Bytes → Option Program) (limit : ℕ) (s : State) (pids : List ℕ) (pid : ℕ) (touch : Touch) → IsSearchable program_of limit s → IsTrue (is_reduced_complete program_of s limit)
+    (program_of : Bytes → Option Program) (limit : ℕ) (s : State) (files : List Bytes) (pids : List ℕ) (pid : ℕ) (touch : Touch)
+    → IsSearchable program_of limit s → IsTrue (is_reduced_complete program_of s limit)
     → AreSteps program_of (pids ++ pid ∷ []) s → Touches program_of (run program_of pids s).final pid touch
-    → IsTrue (list_any (λ line. is_access_listed line (reduced_accesses program_of limit s))
-    (lines_of_touch (run program_of pids s).final (step program_of (run program_of pids s).final pid).after pid touch))
+    → IsTrue (keeps_touch s.tree (run program_of pids s).final.tree (step program_of (run program_of pids s).final pid).after.tree files touch)
+    → IsTrue (list_any (λ line. is_access_listed line (reduced_accesses program_of limit s files))
+    (lines_of_touch s.tree (run program_of pids s).final.tree (step program_of (run program_of pids s).final pid).after.tree pid touch))
 
 -- no such step reads a file that is listed as unread
 abbrev pub UnreadFilesAreReadByNoneReduced : Type 0

@@ -1,12 +1,12 @@
 -- Laws of `exposure` by the reduced search: the findings about the processes of each program at its lines, and the files of
--- their states. The search shows why a process is not closed to a file, and what its next step reads, but neither the other
--- processes nor what it can change: so lines that are not listed under PEER and EDIT have no law.
+-- their states. The search shows why a process is not closed to a file, and the file that its next step reads, but
+-- neither the other processes nor its possible changes: so lines that are not listed under PEER and EDIT have no law.
 use Rattle.std.specs.Prelude.{◌≡◌, ℕ, IsTrue, List, Contains, Option, Some}
 use Rattle.pv_model.specs.Machine.{Located, is_file_at, Bytes, Program, Process, State, process_at, run}
 use Rattle.pv_model.specs.Closed.{IsClosed}
 use Rattle.pv_model_questions.specs.declared.finding_kind.FindingKind.{FindingKind}
 use Rattle.pv_model_questions.specs.declared.finding_kind.FindingKind.TheVariants.{Leak, Read}
-use Rattle.pv_model_questions.specs.Exposure.{Finding, safe_files}
+use Rattle.pv_model_questions.specs.Exposure.{Finding, safe_files_of_first}
 use Rattle.pv_laws_answers.specs.Search.{IsSearchable}
 use Rattle.pv_laws_answers.specs.Witnesses.{AreSteps}
 use Rattle.pv_laws_classes.specs.Reduced.{reduced_found, is_reduced_complete}
@@ -52,7 +52,7 @@ ListedLinesHappenReduced =
 abbrev pub SafeFilesAreClosedReduced : Type 0
 SafeFilesAreClosedReduced =
     (program_of : Bytes → Option Program) (limit : ℕ) (s : State) (group : Located × List Located) (f : ℕ) (pids : List ℕ) (pid : ℕ) (p : Process) → IsSearchable program_of limit s
-    → IsTrue (is_reduced_complete program_of s limit) → Contains (reduced_located_programs program_of limit s) group → Contains (safe_files s.tree group.1) f → AreSteps program_of pids s
+    → IsTrue (is_reduced_complete program_of s limit) → Contains (reduced_located_programs program_of limit s) group → Contains (safe_files_of_first s.tree group.1) f → AreSteps program_of pids s
     → process_at (run program_of pids s).final pid ≡ Some p → p.program ≡ group.0.process.program → IsTrue (is_file_at (run program_of pids s).final.tree f)
     → IsClosed (run program_of pids s).final p f
 

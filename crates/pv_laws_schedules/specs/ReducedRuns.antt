@@ -64,6 +64,6 @@ reduced_exposure_text =
 pub record ReducedTexts : Type 0 where
   pub complete : IsTrue (is_complete no_programs 30 file_open)
   pub states : length (states_found no_programs 30 file_open) ≡ 20
-  pub access : answer_bytes (reduced_access_lines no_programs 30 file_open) ≡ reduced_access_text
+  pub access : answer_bytes (reduced_access_lines no_programs 30 file_open []) ≡ reduced_access_text
   pub policy : answer_bytes (reduced_policy_lines no_programs 30 file_open) ≡ reduced_policy_text
   pub exposure : answer_bytes exposed_now ≡ reduced_exposure_text

@@ -1,14 +1,22 @@
 //! Laws of the accesses of a search, and of the files that no step reads.
 
-ghost use Rattle.pv_laws_schedules.specs.Access.{AccessesAreJustified, ListedAccessesHappen, TouchesAreListed, UnreadFilesAreReadByNone, UnreadFilesChangeNothing};
+ghost use Rattle.pv_laws_schedules.specs.Access.{AccessesAreJustified, EachAccessIsListed, ListedAccessesHappen, TouchesAreListed, UnreadFilesAreReadByNone, UnreadFilesChangeNothing};
 
-/// Each listed access is one of the last step of its witness, and no shorter schedule has it.
+/// Each listed access is one of the last step of its witness, and no shorter schedule has it. With given files, it is about
+/// one of them.
 pub fn listed_accesses_happen()
     ensures { ListedAccessesHappen }
 {}
 
+/// If a search is complete, each access of each step in each schedule is listed. With given files, so is each that is about
+/// one of them, under whatever path.
+pub fn each_access_is_listed()
+    ensures { EachAccessIsListed }
+{}
+
 /// If a search is complete, each touch of each step of a schedule is listed for its process: a read of a file with READ or
-/// EXEC, a change of a file with WRIT, of an entry with NAME, a report of a node with TELL, a new descriptor with OPEN.
+/// EXEC, a change of a file with WRIT, of an entry with NAME, a report of a node with TELL, a new descriptor with OPEN. With
+/// given files, so is each touch of one of them.
 pub fn touches_are_listed()
     ensures { TouchesAreListed }
 {}

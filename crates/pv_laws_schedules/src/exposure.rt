@@ -1,11 +1,11 @@
-//! Laws of what an attacker gains who takes over a process of a program, at each of its lines.
+//! Laws of the gains of an attacker who takes over a process of a program, at each of its lines.
 
-ghost use Rattle.pv_laws_schedules.specs.Exposure.{ReasonsAreExact, UnlistedLinesHaveNoReason, UnlistedLinesAreClosed, UnlistedLinesShutAll, UnlistedLinesAreFixed, UnlistedLinesReadNothing, ListedLinesHappen, WitnessesLead, SafeFilesAreClosed, EachFileIsListed};
+ghost use Rattle.pv_laws_schedules.specs.Exposure.{ReasonsAreExact, UnlistedLinesHaveNoReason, UnlistedLinesAreClosed, UnlistedLinesCloseAll, UnlistedLinesAreFixed, UnlistedLinesReadNothing, ListedLinesHappen, WitnessesLead, SafeFilesAreClosed, EachFileIsListed};
 ghost use Rattle.pv_laws_schedules.specs.ShortestWitnesses.{FindingWitnessesAreShortest};
-ghost use Rattle.pv_laws_schedules.specs.UnlistedRuns.{UnlistedFilesAreSealed, UnlistedLinesKeep, UnlistedLinesRunAlike, UnlistedLinesSeal};
+ghost use Rattle.pv_laws_schedules.specs.UnlistedRuns.{UnlistedFilesAreSealed, UnlistedLinesKeep, UnlistedLinesRunEqually, UnlistedLinesSeal};
 
-/// A reason LEAK, PEER, EDIT or READ is found for a process and a file exactly if the process is not closed to the file, if
-/// it is and another live process is not, if it is not fixed to the file, or if its next step reads the file.
+/// A reason LEAK, PEER, EDIT or READ is found for a process and a file if and only if the process is not closed to the
+/// file, if it is and another live process is not, if it is not fixed to the file, or if its next step reads the file.
 pub fn reasons_are_exact()
     ensures { ReasonsAreExact }
 {}
@@ -25,7 +25,7 @@ pub fn unlisted_lines_are_closed()
 /// If a search is complete, in every schedule with a process of a program at a line that is listed neither under LEAK nor
 /// under PEER for a file's description, all live processes are closed to each file with this description.
 pub fn unlisted_lines_shut_all()
-    ensures { UnlistedLinesShutAll }
+    ensures { UnlistedLinesCloseAll }
 {}
 
 /// If a search is complete, in every schedule a process of a program at a line that is not listed under EDIT for a file's
@@ -44,7 +44,7 @@ pub fn unlisted_lines_read_nothing()
 /// description: no run of this process and those that are forked from it depends on the bytes of the file, given their
 /// number.
 pub fn unlisted_lines_run_alike()
-    ensures { UnlistedLinesRunAlike }
+    ensures { UnlistedLinesRunEqually }
 {}
 
 /// If a search is complete, in every schedule, from a process at a line that is not listed under EDIT for a file's

@@ -27,7 +27,7 @@ pub fn listed_promises_are_needed()
 {}
 
 /// The lines about targets of a program are those of the permissions newly asked at each target in words, which are
-/// together all that are asked there.
+/// together all permissions that are asked there.
 pub fn target_lines_are_of_permissions()
     ensures { TargetLinesAreOfPermissions }
 {}

@@ -3,7 +3,7 @@
 ghost use Rattle.pv_laws_schedules.specs.ReducedAccess.{TouchesAreListedReduced, UnreadFilesAreReadByNoneReduced, UnreadFilesChangeNothingReduced};
 
 /// If the reduced search is complete, it lists each touch of each step of a live process in each schedule, as the full
-/// search does.
+/// search does, and with given files each touch of one of them.
 pub fn touches_are_listed_reduced()
     ensures { TouchesAreListedReduced }
 {}

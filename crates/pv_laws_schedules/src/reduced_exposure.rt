@@ -1,7 +1,7 @@
-//! Laws of what an attacker gains who takes over a process of a program, at each of its lines, by the reduced search.
+//! Laws of the gains of an attacker who takes over a process of a program, at each of its lines, by the reduced search.
 
 ghost use Rattle.pv_laws_schedules.specs.ReducedExposure.{UnlistedLinesAreClosedReduced, UnlistedLinesReadNothingReduced, ListedLinesHappenReduced, WitnessesLeadReduced, SafeFilesAreClosedReduced};
-ghost use Rattle.pv_laws_schedules.specs.UnlistedRuns.{UnlistedFilesAreSealedReduced, UnlistedLinesRunAlikeReduced};
+ghost use Rattle.pv_laws_schedules.specs.UnlistedRuns.{UnlistedFilesAreSealedReduced, UnlistedLinesRunEquallyReduced};
 
 /// If the reduced search is complete, after every schedule a process of a program at a line that is not listed under LEAK
 /// for a file's description is closed to each file with this description.
@@ -19,7 +19,7 @@ pub fn unlisted_lines_read_nothing_reduced()
 /// file's description: no run of this process and those that are forked from it depends on the bytes of the file, given
 /// their number.
 pub fn unlisted_lines_run_alike_reduced()
-    ensures { UnlistedLinesRunAlikeReduced }
+    ensures { UnlistedLinesRunEquallyReduced }
 {}
 
 /// If the reduced search is complete, after every schedule a file with a name is sealed if all live processes are at lines

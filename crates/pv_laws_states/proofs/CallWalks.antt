@@ -15,12 +15,12 @@ use Rattle.pv_model.specs.declared.perms.Perms.{Perms}
 use Rattle.pv_model.specs.declared.place.Place.{Place}
 use Rattle.pv_model.specs.declared.promise.Promise.{Promise}
 use Rattle.pv_model.specs.Machine.{answer, answer_by_attempt, at_next_line, effect, Attempt, done, refused, after_walks, ◌>>=◌, ◌>>◌, give, refuse, refuse_if, demand, Bytes, is_empty, within, next_name, seek_base, list_name, is_past_greatest, write_end, read, executable_bytes, statuses, asked_promises, unless_refused, entries_of_table, refuse_if_locked, pledge, Effect, answers, place_or_refusal, walk, judgement_or_refusal, judge, end_of, with_room, node_of, descriptor_at, open_file, status, collect, needs, least_free, covers, read_permissions, Promises, narrow_promises, is_lenient, missing_promise, is_too_long, fits, OpenFile, Program, Process, State, reads, writes, process_at, with_process, Tree, root, node_at, entries_at, is_directory_at, Table, entry_for, permissions_at, with_permissions, target_of, judgement, Walked, components, is_absolute, begins_walk, follows_last, end_mark, resolve, Walk, execve_walk, unveil_walk, walks_of, walk_number, is_unveil, unveil, with_number}
-use Rattle.pv_model.specs.Calls.Restraints.{add_entry}
+use Rattle.pv_model.specs.Calls.Restraints.{add_table_entry}
 use Rattle.pv_model.specs.Promises.{read_promises}
 use Rattle.pv_model.specs.Walks.{permissions_or_none}
-use Rattle.pv_laws_states.specs.Courses.{walks_in_sequence, IsAfter, IsStoppedEarly, GoesAlong, IsRefusedAt, IsStoppedByTable, IsStoppedByLock}
-use Rattle.pv_laws_states.proofs.Outcomes.{at_call, by_answer}
-use Rattle.pv_laws_states.proofs.CallRests
+use Rattle.pv_laws_states.specs.Courses.{walks_in_sequence, IsAfter, IsStoppedEarly, IsOnCourse, IsRefusedAt, IsStoppedByTable, IsStoppedByLock}
+use Rattle.pv_laws_states.proofs.CallOutcomes.{at_call, by_answer}
+use Rattle.pv_laws_states.proofs.CallRemainders
 use Rattle.pv_model.specs.declared.target.Target.{Target}
 use Rattle.pv_laws_states.proofs.RelatedCalls.{AreOnSame, Respects, both-have, call-both}
 
@@ -74,38 +74,38 @@ following-narrowed (Err p) = (refl, refl)
 -- ---- attempts that make walks
 
 abbrev Goes : Attempt (Unit {0}) → Attempt Effect → Type 0
-Goes course a = IsStoppedEarly a ⊎ GoesAlong course a
+Goes course a = IsStoppedEarly a ⊎ IsOnCourse course a
 
-along-after : (n : ℕ) (course : Attempt (Unit {0})) (a : Attempt Effect) → GoesAlong course a → GoesAlong (after_walks n course) (after_walks n a)
+along-after : (n : ℕ) (course : Attempt (Unit {0})) (a : Attempt Effect) → IsOnCourse course a → IsOnCourse (after_walks n course) (after_walks n a)
 along-after n (done walks value) a is = following-after n walks a is
 along-after n (refused walks errno cause) a is = ap (after_walks n) is
 
 goes-zero : (course : Attempt (Unit {0})) (m : ℕ) (a : Attempt Effect) → m ≡ 0 → Goes course a → Goes course (after_walks m a)
 goes-zero course m (done walks value) none is = ⊎_elim (λ stopped. absurd stopped) (λ goes. inr (go course goes)) is
   where
-    go : (c : Attempt (Unit {0})) → GoesAlong c (done walks value) → GoesAlong c (done (m + walks) value)
+    go : (c : Attempt (Unit {0})) → IsOnCourse c (done walks value) → IsOnCourse c (done (m + walks) value)
     go (done k v) is = omega (arith, none, is)
     go (refused k errno cause) is = cc is
 goes-zero course m (refused walks errno cause) none is =
     ⊎_elim (λ stopped. inl (omega (arith, none, stopped.0), stopped.1)) (λ goes. inr (go course goes)) is
   where
-    go : (c : Attempt (Unit {0})) → GoesAlong c (refused walks errno cause) → GoesAlong c (refused (m + walks) errno cause)
+    go : (c : Attempt (Unit {0})) → IsOnCourse c (refused walks errno cause) → IsOnCourse c (refused (m + walks) errno cause)
     go (done k v) is = (omega (arith, none, is.0), is.1)
     go (refused k e other) is = ap (λ n. refused n errno cause) (omega (arith, none)) ∙ is
 
 module _ (s : State) (me : Process) where
-  -- a walk whose place is judged, and the attempt after it
+  -- a walk whose place is checked, and the attempt after it
   walked_where : (w : Walk) (ws : List Walk) (next : Place → Attempt Effect)
-      → ((place : Place) → end_of s me w ≡ Ok place → judgement s.tree me.table place w.needed ≡ Allowed → GoesAlong (walks_in_sequence s me ws) (next place))
-      → GoesAlong (walks_in_sequence s me (w ∷ ws)) (walk s me w >>= (λ place. judge s me w place >> next place))
+      → ((place : Place) → end_of s me w ≡ Ok place → judgement s.tree me.table place w.needed ≡ Allowed → IsOnCourse (walks_in_sequence s me ws) (next place))
+      → IsOnCourse (walks_in_sequence s me (w ∷ ws)) (walk s me w >>= (λ place. judge s me w place >> next place))
   walked_where w ws next is = by (end_of s me w) refl
     where
-      judged : (place : Place) → end_of s me w ≡ Ok place → (j : Judgement) → judgement s.tree me.table place w.needed ≡ j → GoesAlong (judgement_or_refusal j >> walks_in_sequence s me ws) (judgement_or_refusal j >> next place)
+      judged : (place : Place) → end_of s me w ≡ Ok place → (j : Judgement) → judgement s.tree me.table place w.needed ≡ j → IsOnCourse (judgement_or_refusal j >> walks_in_sequence s me ws) (judgement_or_refusal j >> next place)
       judged place found Allowed may = along-after 0 (walks_in_sequence s me ws) (next place) (is place found may)
       judged place found Hidden may = refl
       judged place found (Denied k) may = refl
 
-      by : (r : Walked) → end_of s me w ≡ r → GoesAlong (place_or_refusal (if begins_walk w.path then 1 else 0) r >>= (λ place. judge s me w place >> walks_in_sequence s me ws))
+      by : (r : Walked) → end_of s me w ≡ r → IsOnCourse (place_or_refusal (if begins_walk w.path then 1 else 0) r >>= (λ place. judge s me w place >> walks_in_sequence s me ws))
           (place_or_refusal (if begins_walk w.path then 1 else 0) r >>= (λ place. judge s me w place >> next place))
       by (Ok place) found = along-after (if begins_walk w.path then 1 else 0) (judge s me w place >> walks_in_sequence s me ws) (judge s me w place >> next place) (judged place found (judgement s.tree me.table place w.needed) refl)
       by (Err e) found = refl
@@ -123,17 +123,17 @@ module _ (s : State) (pid : ℕ) (me : Process) where
 
   still-pledge : (promises execpromises : Option Bytes) → IsAfter 0 (pledge s pid me promises execpromises)
   still-pledge promises execpromises =
-      following-bind (asked_promises promises) (CallRests.pledge_1 s pid me execpromises) (following-asked promises) (λ asked.
-      following-bind (asked_promises execpromises) (CallRests.pledge_2 s pid me asked) (following-asked execpromises) (λ exec_asked.
-      following-bind (unless_refused (narrow_promises (is_lenient me.promises) me.promises asked)) (CallRests.pledge_3 s pid me exec_asked) (following-narrowed _) (λ preserved.
+      following-bind (asked_promises promises) (CallRemainders.pledge_1 s pid me execpromises) (following-asked promises) (λ asked.
+      following-bind (asked_promises execpromises) (CallRemainders.pledge_2 s pid me asked) (following-asked execpromises) (λ exec_asked.
+      following-bind (unless_refused (narrow_promises (is_lenient me.promises) me.promises asked)) (CallRemainders.pledge_3 s pid me exec_asked) (following-narrowed _) (λ preserved.
       following-bind (unless_refused (narrow_promises (is_lenient me.promises) me.execpromises exec_asked))
       (λ exec_preserved. answers (with_process s pid (record me { promises = preserved; execpromises = exec_preserved })) 0) (following-narrowed _) (λ exec_preserved. refl))))
 
-  still-execve : (program_of : Bytes → Option Program) (place : Place) → IsAfter 0 (CallRests.execve_1 s pid me program_of place)
+  still-execve : (program_of : Bytes → Option Program) (place : Place) → IsAfter 0 (CallRemainders.execve_1 s pid me program_of place)
   still-execve program_of place =
-      demanded ENOENT (node_of place) (CallRests.execve_2 s pid me program_of) (λ n.
-      demanded EACCES (executable_bytes (node_at s.tree n)) (CallRests.execve_3 s pid me program_of) (λ bytes.
-      demanded ENOEXEC (program_of bytes) (CallRests.execve_4 s pid me) (λ program. refl)))
+      demanded ENOENT (node_of place) (CallRemainders.execve_2 s pid me program_of) (λ n.
+      demanded EACCES (executable_bytes (node_at s.tree n)) (CallRemainders.execve_3 s pid me program_of) (λ bytes.
+      demanded ENOEXEC (program_of bytes) (CallRemainders.execve_4 s pid me) (λ program. refl)))
 
   still-listed : (k : ℕ) (file : OpenFile) (o : Option Bytes) → IsAfter 0 (list_name s pid me k file o)
   still-listed k file None = refl
@@ -155,16 +155,16 @@ module _ (s : State) (pid : ℕ) (me : Process) where
             (answers (with_process s pid (record me { descriptors = with_number me.descriptors n (record { file = w.file; close_on_exec = false }) })) n)) (descriptor_at me d) (λ v is n. inr refl);
         pledges = λ promises execpromises is. inr (still-pledge promises execpromises);
         unveils = no_unveil;
-        executes = λ path is. inr (walked_where s me (execve_walk path) [] (CallRests.execve_1 s pid me program_of) (λ place found allowed. still-execve program_of place));
+        executes = λ path is. inr (walked_where s me (execve_walk path) [] (CallRemainders.execve_1 s pid me program_of) (λ place found allowed. still-execve program_of place));
       };
       files = record {
         opened = λ d. both-have AreOnSame (open_file s me d) (λ v is. record { node = refl; mode = refl });
         full = refl;
-        reads = λ d n is v w opened may count. inr (tested EISDIR (is_directory_at s.tree v.1.node) (CallRests.read_3 s pid me v.0 v.1 count) refl);
-        writes = λ d n is v w opened may count few. inr (tested EFBIG (is_past_greatest s.tree (write_end s pid me v.1 count)) (CallRests.write_3 s pid me v.0 v.1 count) (roomy _ count));
-        seeks = λ d by whence is v w opened. inr (demanded EINVAL (within 2147483647 (pos (seek_base s pid me v.1 whence) +ℤ by)) (CallRests.lseek_3 s pid me v.0 v.1) (λ offset. refl));
+        reads = λ d n is v w opened may count. inr (tested EISDIR (is_directory_at s.tree v.1.node) (CallRemainders.read_3 s pid me v.0 v.1 count) refl);
+        writes = λ d n is v w opened may count few. inr (tested EFBIG (is_past_greatest s.tree (write_end s pid me v.1 count)) (CallRemainders.write_3 s pid me v.0 v.1 count) (roomy _ count));
+        seeks = λ d by whence is v w opened. inr (demanded EINVAL (within 2147483647 (pos (seek_base s pid me v.1 whence) +ℤ by)) (CallRemainders.lseek_3 s pid me v.0 v.1) (λ offset. refl));
         reports = λ d is v w opened. inr refl;
-        cuts = λ d n is v w opened size. inr (tested EFBIG (is_past_greatest s.tree size) (CallRests.ftruncate_4 s pid me v.1 size) (roomy _ 0));
+        cuts = λ d n is v w opened size. inr (tested EFBIG (is_past_greatest s.tree size) (CallRemainders.ftruncate_4 s pid me v.1 size) (roomy _ 0));
         lists = λ d is v w opened. inr (still-listed v.0 v.1 (next_name v.1.listed (entries_at s.tree v.1.node)));
       };
       tree = record {
@@ -187,7 +187,7 @@ module _ (s : State) (pid : ℕ) (me : Process) where
     }
 
 pub calls-along : (program_of : Bytes → Option Program) (s : State) (pid : ℕ) (me : Process) (call : Call) → IsFalse (is_unveil call)
-    → IsStoppedEarly (effect program_of s pid me call) ⊎ GoesAlong (walks_in_sequence s me (walks_of call)) (effect program_of s pid me call)
+    → IsStoppedEarly (effect program_of s pid me call) ⊎ IsOnCourse (walks_in_sequence s me (walks_of call)) (effect program_of s pid me call)
 calls-along program_of s pid me call other = call-both (Along s pid me) program_of s s pid me me call (along s pid me program_of call other)
 
 -- ---- the place where a call is refused
@@ -195,7 +195,7 @@ calls-along program_of s pid me call other = call-both (Along s pid me) program_
 pub begins-found : (t : Tree) (follow : Follow) (start : ℕ) (path : Bytes) (place : Place) → resolve t follow start path ≡ Ok place → begins_walk path ≡ true
 unfolding resolve
 begins-found t follow start path place is =
-    by (Rattle.pv_model.specs.Walk.walk t (follows_last follow) 32 (components path) (end_mark follow path) (if is_absolute path then root else start)) (is_empty path) refl (nat_lt 1023 (length path)) refl is
+    by (Rattle.pv_model.specs.Walk.walk_with_links t (follows_last follow) 32 (components path) (end_mark follow path) (if is_absolute path then root else start)) (is_empty path) refl (nat_lt 1023 (length path)) refl is
   where
     by : (r : Walked) (a : Bool) → is_empty path ≡ a → (b : Bool) → nat_lt 1023 (length path) ≡ b → (if a then Err ENOENT else if b then Err ENAMETOOLONG else r) ≡ Ok place → begins_walk path ≡ true
     by r true empty b long is = cc is
@@ -263,14 +263,14 @@ module _ (s : State) (pid : ℕ) (me : Process) (call : Call) (entry : Option �
 
   -- each call other than unveil
   by_course : (a : Attempt Effect) (walks : ℕ) (errno : Errno) → a ≡ refused walks errno (ByUnveil entry)
-      → IsStoppedEarly a ⊎ GoesAlong (walks_in_sequence s me (walks_of call)) a → Stopped walks
+      → IsStoppedEarly a ⊎ IsOnCourse (walks_in_sequence s me (walks_of call)) a → Stopped walks
   by_course a walks errno is goes =
-      ⊎_elim (λ early. of_table (subst IsStoppedEarly is early).1) (λ way. on (walks_in_sequence s me (walks_of call)) refl (subst (GoesAlong (walks_in_sequence s me (walks_of call))) is way)) goes
+      ⊎_elim (λ early. of_table (subst IsStoppedEarly is early).1) (λ way. on (walks_in_sequence s me (walks_of call)) refl (subst (IsOnCourse (walks_in_sequence s me (walks_of call))) is way)) goes
     where
       of_table : true ≡ false → Stopped walks
       of_table bad = cc bad
 
-      on : (c : Attempt (Unit {0})) → walks_in_sequence s me (walks_of call) ≡ c → GoesAlong c (refused walks errno (ByUnveil entry)) → Stopped walks
+      on : (c : Attempt (Unit {0})) → walks_in_sequence s me (walks_of call) ≡ c → IsOnCourse c (refused walks errno (ByUnveil entry)) → Stopped walks
       on (done k v) same way = of_table way.1
       on (refused k e cause) same way =
           let count : walks ≡ k = cc way in
@@ -290,17 +290,17 @@ module _ (s : State) (pid : ℕ) (me : Process) (path text : Bytes) (entry : Opt
 
   at_entry : (place : Place) → resolve s.tree Last me.directory path ≡ Ok place → (permissions : Perms) → read_permissions text ≡ Some permissions
       → (o : Option ℕ) → entry_for entries (target_of s.tree place) ≡ o
-      → IsRefusal (after_walks 0 (after_walks 0 (after_walks 1 (add_entry entries (target_of s.tree place) permissions o >>= CallRests.unveil_3 s pid me)))) → Widens
+      → IsRefusal (after_walks 0 (after_walks 0 (after_walks 1 (add_table_entry entries (target_of s.tree place) permissions o >>= CallRemainders.unveil_3 s pid me)))) → Widens
   unfolding Rattle.pv_model.specs.Trace.asked_permissions
   at_entry place found permissions read None new is = by (nat_le 64 (length entries)) is
     where
-      by : (b : Bool) → IsRefusal (after_walks 0 (after_walks 0 (after_walks 1 ((if b then refuse E2BIG else give (entries ++ (target_of s.tree place, permissions) ∷ [])) >>= CallRests.unveil_3 s pid me)))) → Widens
+      by : (b : Bool) → IsRefusal (after_walks 0 (after_walks 0 (after_walks 1 ((if b then refuse E2BIG else give (entries ++ (target_of s.tree place, permissions) ∷ [])) >>= CallRemainders.unveil_3 s pid me)))) → Widens
       by true is = cc is
       by false is = cc is
   at_entry place found permissions read (Some k) own is = by (covers (permissions_at entries k) permissions) refl is
     where
       by : (b : Bool) → covers (permissions_at entries k) permissions ≡ b
-          → IsRefusal (after_walks 0 (after_walks 0 (after_walks 1 ((if b then give (with_permissions entries k (target_of s.tree place) permissions) else refused 0 EPERM (ByUnveil (Some k))) >>= CallRests.unveil_3 s pid me)))) → Widens
+          → IsRefusal (after_walks 0 (after_walks 0 (after_walks 1 ((if b then give (with_permissions entries k (target_of s.tree place) permissions) else refused 0 EPERM (ByUnveil (Some k))) >>= CallRemainders.unveil_3 s pid me)))) → Widens
       by true lacks is = cc is
       by false lacks is =
           let count : 1 ≡ walks = cc is in
@@ -316,18 +316,18 @@ module _ (s : State) (pid : ℕ) (me : Process) (path text : Bytes) (entry : Opt
           }))
 
   at_place : (permissions : Perms) → read_permissions text ≡ Some permissions → (r : Walked) → resolve s.tree Last me.directory path ≡ r
-      → IsRefusal (after_walks 0 (after_walks 0 (place_or_refusal (if begins_walk path then 1 else 0) r >>= CallRests.unveil_2 s pid me permissions))) → Widens
+      → IsRefusal (after_walks 0 (after_walks 0 (place_or_refusal (if begins_walk path then 1 else 0) r >>= CallRemainders.unveil_2 s pid me permissions))) → Widens
   at_place permissions read (Err e) found is = cc is
   at_place permissions read (Ok place) found is =
       at_entry place found permissions read (entry_for entries (target_of s.tree place)) refl
-      (ap (λ b. after_walks 0 (after_walks 0 (after_walks (if b then 1 else 0) (CallRests.unveil_2 s pid me permissions place)))) (sym (begins-found s.tree Last me.directory path place found)) ∙ is)
+      (ap (λ b. after_walks 0 (after_walks 0 (after_walks (if b then 1 else 0) (CallRemainders.unveil_2 s pid me permissions place)))) (sym (begins-found s.tree Last me.directory path place found)) ∙ is)
 
   at_lock : (permissions : Perms) → read_permissions text ≡ Some permissions → (locked : Bool)
-      → IsRefusal (after_walks 0 (refuse_if_locked locked >> (walk s me (unveil_walk path permissions) >>= CallRests.unveil_2 s pid me permissions))) → Widens
+      → IsRefusal (after_walks 0 (refuse_if_locked locked >> (walk s me (unveil_walk path permissions) >>= CallRemainders.unveil_2 s pid me permissions))) → Widens
   at_lock permissions read true is = cc is
   at_lock permissions read false is = at_place permissions read (resolve s.tree Last me.directory path) refl is
 
-  widened : (o : Option Perms) → read_permissions text ≡ o → IsRefusal (demand EINVAL o >>= CallRests.unveil_1 s pid me path) → Widens
+  widened : (o : Option Perms) → read_permissions text ≡ o → IsRefusal (demand EINVAL o >>= CallRemainders.unveil_1 s pid me path) → Widens
   widened None read is = cc is
   widened (Some permissions) read is = at_lock permissions read me.locked is
 
@@ -398,41 +398,41 @@ module _ (s : State) (pid : ℕ) (me : Process) (path text : Bytes) (walks : ℕ
   ByLock = IsStoppedByLock me (TheCall.Unveil (Some path) (Some text)) errno
 
   free-entry : (n : ℕ) (table : Table) (target : Target) (permissions : Perms) (o : Option ℕ)
-      → IsLocked (after_walks 0 (after_walks 0 (after_walks n (add_entry table target permissions o >>= CallRests.unveil_3 s pid me)))) → ByLock
+      → IsLocked (after_walks 0 (after_walks 0 (after_walks n (add_table_entry table target permissions o >>= CallRemainders.unveil_3 s pid me)))) → ByLock
   free-entry n table target permissions None is = by (nat_le 64 (length table)) is
     where
-      by : (b : Bool) → IsLocked (after_walks 0 (after_walks 0 (after_walks n ((if b then refuse E2BIG else give (table ++ (target, permissions) ∷ [])) >>= CallRests.unveil_3 s pid me)))) → ByLock
+      by : (b : Bool) → IsLocked (after_walks 0 (after_walks 0 (after_walks n ((if b then refuse E2BIG else give (table ++ (target, permissions) ∷ [])) >>= CallRemainders.unveil_3 s pid me)))) → ByLock
       by true is = cc is
       by false is = cc is
   free-entry n table target permissions (Some k) is = by (covers (permissions_at table k) permissions) is
     where
-      by : (b : Bool) → IsLocked (after_walks 0 (after_walks 0 (after_walks n ((if b then give (with_permissions table k target permissions) else refused 0 EPERM (ByUnveil (Some k))) >>= CallRests.unveil_3 s pid me)))) → ByLock
+      by : (b : Bool) → IsLocked (after_walks 0 (after_walks 0 (after_walks n ((if b then give (with_permissions table k target permissions) else refused 0 EPERM (ByUnveil (Some k))) >>= CallRemainders.unveil_3 s pid me)))) → ByLock
       by true is = cc is
       by false is = cc is
 
-  free-place : (permissions : Perms) (r : Walked) → IsLocked (after_walks 0 (after_walks 0 (place_or_refusal (if begins_walk path then 1 else 0) r >>= CallRests.unveil_2 s pid me permissions))) → ByLock
+  free-place : (permissions : Perms) (r : Walked) → IsLocked (after_walks 0 (after_walks 0 (place_or_refusal (if begins_walk path then 1 else 0) r >>= CallRemainders.unveil_2 s pid me permissions))) → ByLock
   free-place permissions (Err e) is = cc is
   free-place permissions (Ok place) is =
       free-entry (if begins_walk path then 1 else 0) (entries_of_table me.table) (target_of s.tree place) permissions (entry_for (entries_of_table me.table) (target_of s.tree place)) is
 
-  under-lock : (permissions : Perms) (locked : Bool) → me.locked ≡ locked → IsLocked (after_walks 0 (refuse_if_locked locked >> (walk s me (unveil_walk path permissions) >>= CallRests.unveil_2 s pid me permissions))) → ByLock
+  under-lock : (permissions : Perms) (locked : Bool) → me.locked ≡ locked → IsLocked (after_walks 0 (refuse_if_locked locked >> (walk s me (unveil_walk path permissions) >>= CallRemainders.unveil_2 s pid me permissions))) → ByLock
   under-lock permissions true lock is = let error : EPERM ≡ errno = cc is in record { locked = lock; unveils = refl; error = sym error }
   under-lock permissions false lock is = free-place permissions (resolve s.tree Last me.directory path) is
 
-  locked-by : (o : Option Perms) → IsLocked (demand EINVAL o >>= CallRests.unveil_1 s pid me path) → ByLock
+  locked-by : (o : Option Perms) → IsLocked (demand EINVAL o >>= CallRemainders.unveil_1 s pid me path) → ByLock
   locked-by None is = cc is
   locked-by (Some permissions) is = under-lock permissions me.locked refl is
 
 module _ (program_of : Bytes → Option Program) (s : State) (pid : ℕ) where
   lock-course : (me : Process) (call : Call) (a : Attempt Effect) (walks : ℕ) (errno : Errno) → a ≡ refused walks errno Locked
-      → IsStoppedEarly a ⊎ GoesAlong (walks_in_sequence s me (walks_of call)) a → IsStoppedByLock me call errno
+      → IsStoppedEarly a ⊎ IsOnCourse (walks_in_sequence s me (walks_of call)) a → IsStoppedByLock me call errno
   lock-course me call a walks errno is goes =
-      ⊎_elim (λ early. bad (subst IsStoppedEarly is early).1) (λ way. on (walks_in_sequence s me (walks_of call)) refl (subst (GoesAlong (walks_in_sequence s me (walks_of call))) is way)) goes
+      ⊎_elim (λ early. bad (subst IsStoppedEarly is early).1) (λ way. on (walks_in_sequence s me (walks_of call)) refl (subst (IsOnCourse (walks_in_sequence s me (walks_of call))) is way)) goes
     where
       bad : true ≡ false → IsStoppedByLock me call errno
       bad differ = cc differ
 
-      on : (c : Attempt (Unit {0})) → walks_in_sequence s me (walks_of call) ≡ c → GoesAlong c (refused walks errno Locked) → IsStoppedByLock me call errno
+      on : (c : Attempt (Unit {0})) → walks_in_sequence s me (walks_of call) ≡ c → IsOnCourse c (refused walks errno Locked) → IsStoppedByLock me call errno
       on (done k v) same way = bad way.1
       on (refused k e cause) same way =
           let named : Locked ≡ cause = cc way in absurd (along-free s me (walks_of call) k e (same ∙ ap (refused k e) (sym named)))

@@ -10,9 +10,9 @@ use Rattle.pv_model.specs.Machine.{Bytes, is_empty, among, held_by_table, Number
 use Rattle.pv_model.specs.declared.target.Target.{Target}
 use Rattle.pv_model.specs.declared.target.Target.TheVariants.{Directory as of_directory, Name as of_name}
 use Rattle.pv_laws_states.specs.States.{is_byte, is_text_byte, are_bytes, is_text, IsTree, is_listed_name, IsOpenFile, AreFiles, is_target, is_table, IsRunning, IsPlaced, IsSolid, IsValid}
-use Rattle.pv_laws_trees.proofs.Places.{list_all-weaker, IsGoodPlace, is_encoded, resolve-good, component-name, link-text, not_zero}
+use Rattle.pv_laws_trees.proofs.WalkPlaces.{list_all-weaker, IsGoodPlace, is_encoded, resolve-good, component-name, link-text, not_zero}
 use Rattle.pv_laws_trees.proofs.Trees.{sound}
-use Rattle.pv_laws_trees.proofs.Changes.{directory_is_some}
+use Rattle.pv_laws_trees.proofs.TreeChanges.{directory_is_some}
 use Rattle.pv_laws_states.proofs.ProcessInsides.{IsReady}
 use Rattle.pv_laws_states.proofs.ValidStates.{has_room, solid, solid-with_process, table-same}
 -- ---- places

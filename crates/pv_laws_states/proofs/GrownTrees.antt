@@ -6,15 +6,15 @@ use Rattle.pv_laws_trees.specs.Preserved.{numbers_wanted, preserved}
 use Rattle.pv_laws_trees.specs.Room.{IsNoLarger}
 use Rattle.pv_laws_states.specs.States.{are_bytes, AllBytes, IsTree, IsValid}
 pub use Rattle.pv_laws_trees.proofs.TreeBytes.{bytes-with_node, bytes-entries, bytes-with_entry, bytes-without_entry}
-use Rattle.pv_laws_trees.proofs.Changes.{node_at-same, node_at-other, directory-below}
-use Rattle.pv_laws_trees.proofs.Edits.{stays-content}
+use Rattle.pv_laws_trees.proofs.TreeChanges.{node_at-same, node_at-other, directory-below}
+use Rattle.pv_laws_trees.proofs.WellFormedChanges.{stays-content}
 use Rattle.pv_laws_trees.proofs.NewNodes.{new-same, there-new, there-old, stays-new, named-new}
-use Rattle.pv_laws_trees.proofs.Numbered.{at_number-below, keep-some, keep-passes, least_free-below, least_free-within, present-all, present-drop, at_number-drop, length-drop_one}
-use Rattle.pv_laws_trees.proofs.Rooms.{smaller-fits, smaller-not_too_long}
+use Rattle.pv_laws_trees.proofs.NumberedMaps.{at_number-below, keep-some, keep-passes, least_free-below, least_free-within, present-all, present-drop, at_number-drop, length-drop_one}
+use Rattle.pv_laws_trees.proofs.NodeRoom.{smaller-fits, smaller-not_too_long}
 use Rattle.pv_laws_states.proofs.ChangedStates.{Carries, carries-self, solid-with_tree}
 use Rattle.pv_laws_states.proofs.ProcessInsides.{IsReady}
 use Rattle.pv_laws_trees.proofs.Trees.{ordered, among-entry, entry-among}
-use Rattle.pv_laws_states.proofs.Collect.{held_after, tree-collect}
+use Rattle.pv_laws_states.proofs.CollectedStates.{held_after, tree-collect}
 use Rattle.pv_laws_trees.proofs.Collection.{wanted-is, wanted-named, wanted-held}
 use Rattle.pv_laws_states.proofs.ValidStates.{HasRoom, has_room, solid}
 

@@ -6,14 +6,14 @@ use Rattle.std.specs.Cmp.{unsigned_ties}
 use Rattle.std.specs.declared.cmp.Ordering.TheVariants.{Less, Equal, Greater}
 use Rattle.std.proofs.lemmas.Bool.{eqb-true}
 use Rattle.pv_model.specs.Machine.{parent_of, among, used_files, held_by_process, collect, present, keep, Process, ProcessRecord, live, ended_record, State, process_at, live_process}
-use Rattle.pv_laws_states.specs.Steps.{IsSameOutside, AreAlikeBut}
-use Rattle.pv_laws_states.proofs.Members.{all_of}
+use Rattle.pv_laws_states.specs.Steps.{IsSameOutside, AreSameExceptInsides}
+use Rattle.pv_laws_states.proofs.ReferenceMembers.{all_of}
 use Rattle.pv_laws_trees.specs.Preserved.{preserved}
 
 -- ---- similar lists of processes
 
 module _ (pid : ℕ) where
-  pub alike-find : (xs ys : List (ℕ × ProcessRecord)) → AreAlikeBut pid xs ys → find nat_cmp pid xs ≡ find nat_cmp pid ys
+  pub alike-find : (xs ys : List (ℕ × ProcessRecord)) → AreSameExceptInsides pid xs ys → find nat_cmp pid xs ≡ find nat_cmp pid ys
   alike-find [] [] is = refl
   alike-find [] (y ∷ ys) is = absurd is
   alike-find (x ∷ xs) [] is = absurd is
@@ -24,7 +24,7 @@ module _ (pid : ℕ) where
         | false ↦ λ apart. alike-find xs ys is.3
       ] refl)
 
-  pub alike-length : (xs ys : List (ℕ × ProcessRecord)) → AreAlikeBut pid xs ys → length xs ≡ length ys
+  pub alike-length : (xs ys : List (ℕ × ProcessRecord)) → AreSameExceptInsides pid xs ys → length xs ≡ length ys
   alike-length [] [] is = refl
   alike-length [] (y ∷ ys) is = absurd is
   alike-length (x ∷ xs) [] is = absurd is
@@ -35,33 +35,33 @@ module _ (pid : ℕ) where
   alike-self (ended_record above status) = (refl, refl)
 
   -- the same record is stored in both
-  pub alike-put : (k : ℕ) (r : ProcessRecord) (xs ys : List (ℕ × ProcessRecord)) → AreAlikeBut pid xs ys → AreAlikeBut pid (put nat_cmp k r xs) (put nat_cmp k r ys)
+  pub alike-put : (k : ℕ) (r : ProcessRecord) (xs ys : List (ℕ × ProcessRecord)) → AreSameExceptInsides pid xs ys → AreSameExceptInsides pid (put nat_cmp k r xs) (put nat_cmp k r ys)
   alike-put k r [] [] is = (refl, alike-self r, λ _. refl, tt)
   alike-put k r [] (y ∷ ys) is = absurd is
   alike-put k r (x ∷ xs) [] is = absurd is
   alike-put k r (x ∷ xs) (y ∷ ys) is =
-      subst (λ o. AreAlikeBut pid (by_order o ((k, r) ∷ x ∷ xs) ((x.0, r) ∷ xs) (x ∷ put nat_cmp k r xs)) (by_order (nat_cmp k y.0) ((k, r) ∷ y ∷ ys) ((y.0, r) ∷ ys) (y ∷ put nat_cmp k r ys)))
+      subst (λ o. AreSameExceptInsides pid (by_order o ((k, r) ∷ x ∷ xs) ((x.0, r) ∷ xs) (x ∷ put nat_cmp k r xs)) (by_order (nat_cmp k y.0) ((k, r) ∷ y ∷ ys) ((y.0, r) ∷ ys) (y ∷ put nat_cmp k r ys)))
       (ap (nat_cmp k) (sym is.0))
-      (elim (nat_cmp k y.0) as (λ o. AreAlikeBut pid (by_order o ((k, r) ∷ x ∷ xs) ((x.0, r) ∷ xs) (x ∷ put nat_cmp k r xs)) (by_order o ((k, r) ∷ y ∷ ys) ((y.0, r) ∷ ys) (y ∷ put nat_cmp k r ys))) [
+      (elim (nat_cmp k y.0) as (λ o. AreSameExceptInsides pid (by_order o ((k, r) ∷ x ∷ xs) ((x.0, r) ∷ xs) (x ∷ put nat_cmp k r xs)) (by_order o ((k, r) ∷ y ∷ ys) ((y.0, r) ∷ ys) (y ∷ put nat_cmp k r ys))) [
         | Less ↦ (refl, alike-self r, λ _. refl, is)
         | Equal ↦ (is.0, alike-self r, λ _. refl, is.3)
         | Greater ↦ (is.0, is.1, is.2, alike-put k r xs ys is.3)
       ])
 
   -- the same records are removed from both
-  pub alike-where : (test : ℕ → Bool) (xs ys : List (ℕ × ProcessRecord)) → AreAlikeBut pid xs ys → AreAlikeBut pid (where_key nat_cmp test xs) (where_key nat_cmp test ys)
+  pub alike-where : (test : ℕ → Bool) (xs ys : List (ℕ × ProcessRecord)) → AreSameExceptInsides pid xs ys → AreSameExceptInsides pid (where_key nat_cmp test xs) (where_key nat_cmp test ys)
   alike-where test [] [] is = tt
   alike-where test [] (y ∷ ys) is = absurd is
   alike-where test (x ∷ xs) [] is = absurd is
   alike-where test (x ∷ xs) (y ∷ ys) is =
-      subst (λ b. AreAlikeBut pid (cond b (x ∷ where_key nat_cmp test xs) (where_key nat_cmp test xs)) (cond (test y.0) (y ∷ where_key nat_cmp test ys) (where_key nat_cmp test ys))) (ap test (sym is.0))
-      (elim (test y.0) as (λ b. AreAlikeBut pid (cond b (x ∷ where_key nat_cmp test xs) (where_key nat_cmp test xs)) (cond b (y ∷ where_key nat_cmp test ys) (where_key nat_cmp test ys))) [
+      subst (λ b. AreSameExceptInsides pid (cond b (x ∷ where_key nat_cmp test xs) (where_key nat_cmp test xs)) (cond (test y.0) (y ∷ where_key nat_cmp test ys) (where_key nat_cmp test ys))) (ap test (sym is.0))
+      (elim (test y.0) as (λ b. AreSameExceptInsides pid (cond b (x ∷ where_key nat_cmp test xs) (where_key nat_cmp test xs)) (cond b (y ∷ where_key nat_cmp test ys) (where_key nat_cmp test ys))) [
         | true ↦ (is.0, is.1, is.2, alike-where test xs ys is.3)
         | false ↦ alike-where test xs ys is.3
       ])
 
   alike-held : (g : Process → List ℕ) → ((p q : Process) → p ≡ record q { registers = p.registers; buffer = p.buffer } → g p ≡ g q)
-      → (xs ys : List (ℕ × ProcessRecord)) → AreAlikeBut pid xs ys → all_of g xs ≡ all_of g ys
+      → (xs ys : List (ℕ × ProcessRecord)) → AreSameExceptInsides pid xs ys → all_of g xs ≡ all_of g ys
   alike-held g same [] [] is = refl
   alike-held g same [] (y ∷ ys) is = absurd is
   alike-held g same (x ∷ xs) [] is = absurd is
@@ -82,11 +82,11 @@ module _ (pid : ℕ) where
 pub record AreSimilar (pid : ℕ) (x y : State) : Type 0 where
   pub processes : List (ℕ × ProcessRecord)
   pub same : y ≡ record x { processes = processes }
-  pub alike : AreAlikeBut pid processes x.processes
+  pub alike : AreSameExceptInsides pid processes x.processes
 
 module _ (pid : ℕ) where
   -- similar processes leave the same tree
-  pub alike-tree : (x : State) (ps : List (ℕ × ProcessRecord)) → AreAlikeBut pid ps x.processes → (collect (record x { processes = ps })).tree ≡ (collect x).tree
+  pub alike-tree : (x : State) (ps : List (ℕ × ProcessRecord)) → AreSameExceptInsides pid ps x.processes → (collect (record x { processes = ps })).tree ≡ (collect x).tree
   unfolding collect
   alike-tree x ps is =
       ap₂ (λ (hs us : List ℕ). preserved x.tree (hs ++ map (λ f. f.node) (present (keep (among us) x.files))))

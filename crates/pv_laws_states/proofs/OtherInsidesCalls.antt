@@ -11,16 +11,16 @@ use Rattle.pv_model.specs.declared.outcome.Cause.TheVariants.{Promise as ByPromi
 use Rattle.pv_model.specs.declared.promise.Promise.{Promise}
 use Rattle.pv_model.specs.Answer.{answer_by_reply}
 use Rattle.std.specs.FinMap.Entries.{put, where_key}
-use Rattle.pv_laws_states.specs.Steps.{IsSameOutside, AreAlikeBut}
+use Rattle.pv_laws_states.specs.Steps.{IsSameOutside, AreSameExceptInsides}
 use Rattle.pv_laws_states.proofs.OtherInsides.{alike-find, alike-length, alike-put, alike-parent, AreSimilar, alike-where, similar-tree, similar-process}
-use Rattle.pv_laws_states.proofs.Outcomes.{at_call}
+use Rattle.pv_laws_states.proofs.CallOutcomes.{at_call}
 use Rattle.pv_laws_states.proofs.Processes.{process_at-same}
 use Rattle.pv_laws_states.proofs.RelatedAttempts.{AreBoth, both-kept, both-done, both-room}
 use Rattle.pv_laws_states.proofs.RelatedCalls.{call-both}
 use Rattle.pv_laws_states.proofs.RespectedParts.{OthersRespect, others-respect, same-own}
 
 -- the children of a process, in similar lists
-alike-children : (pid n : ℕ) (xs ys : List (ℕ × ProcessRecord)) → AreAlikeBut pid xs ys
+alike-children : (pid n : ℕ) (xs ys : List (ℕ × ProcessRecord)) → AreSameExceptInsides pid xs ys
     → (statuses (filter (λ r. parent_of r.1 == n) xs) ≡ statuses (filter (λ r. parent_of r.1 == n) ys)) × (is_empty (filter (λ r. parent_of r.1 == n) xs) ≡ is_empty (filter (λ r. parent_of r.1 == n) ys))
 alike-children pid n [] [] is = (refl, refl)
 alike-children pid n [] (y ∷ ys) is = absurd is
@@ -42,7 +42,7 @@ alike-children pid n ((k, r) ∷ xs) ((j, q) ∷ ys) is =
     head (ended_record above status) (live o) same as1 bs1 rest = absurd same
     head (ended_record above status) (ended_record parent code) same as1 bs1 rest = λ i. (is.0 i, same.1 i) ∷ rest i
 
-module _ (s : State) (pid : ℕ) (me : Process) (qs : List (ℕ × ProcessRecord)) (alike : AreAlikeBut pid qs s.processes) where
+module _ (s : State) (pid : ℕ) (me : Process) (qs : List (ℕ × ProcessRecord)) (alike : AreSameExceptInsides pid qs s.processes) where
   abbrev other : State
   other = record s { processes = qs }
 
@@ -127,7 +127,7 @@ lines-alike pid p call a b is =
     ap₂ (λ o w. call_lines pid p call (record { after = a.after; outcome = o; walks = w })) is.outcome is.walks
     ∙ ap (lines_with pid p call b.walks b.outcome) (moved-alike a.after b.after pid p call b.outcome is.buffer)
 
-module _ (program_of : Bytes → Option Program) (s : State) (pid : ℕ) (others : List (ℕ × ProcessRecord)) (alike : AreAlikeBut pid others s.processes) where
+module _ (program_of : Bytes → Option Program) (s : State) (pid : ℕ) (others : List (ℕ × ProcessRecord)) (alike : AreSameExceptInsides pid others s.processes) where
   abbrev changed : State
   changed = record s { processes = others }
 
@@ -159,7 +159,7 @@ module _ (program_of : Bytes → Option Program) (s : State) (pid : ℕ) (others
   step-alike None at = refl
   step-alike (Some p) at = next-alike p at (next p)
 
-pub ignores-others : (program_of : Bytes → Option Program) (s : State) (pid : ℕ) (others : List (ℕ × ProcessRecord)) → AreAlikeBut pid others s.processes
+pub ignores-others : (program_of : Bytes → Option Program) (s : State) (pid : ℕ) (others : List (ℕ × ProcessRecord)) → AreSameExceptInsides pid others s.processes
     → (step program_of (record s { processes = others }) pid).lines ≡ (step program_of s pid).lines
 unfolding step
 ignores-others program_of s pid others alike =

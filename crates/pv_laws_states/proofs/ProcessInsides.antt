@@ -15,8 +15,8 @@ use Rattle.pv_model.specs.Machine.{at_next_line, with_front, update_live, update
 use Rattle.pv_laws_states.specs.Held.{used}
 use Rattle.pv_laws_trees.specs.Preserved.{preserved}
 use Rattle.pv_laws_states.specs.States.{is_word, is_byte, are_bytes, IsRunning, IsPlaced, IsSolid, IsValid}
-use Rattle.pv_laws_states.proofs.Members.{all_of, live-found, find_number-list_all}
-use Rattle.pv_laws_states.proofs.Collect.{held_after}
+use Rattle.pv_laws_states.proofs.ReferenceMembers.{all_of, live-found, find_number-list_all}
+use Rattle.pv_laws_states.proofs.CollectedStates.{held_after}
 use Rattle.pv_laws_states.proofs.ValidStates.{HasRoom, solid, solid-with_process}
 
 -- ---- lists whose elements pass a test
@@ -186,8 +186,8 @@ room-same s pid p q sorted at same room =
     record { fits = ap Rattle.pv_model.specs.Room.fits tree ∙ room.fits; not_too_long = ap Rattle.pv_model.specs.Room.is_too_long tree ∙ room.not_too_long }
 
 -- a valid state stays valid when the inside of a process changes
-pub whole-inside : (s : State) (pid : ℕ) (p q : Process) → IsValid s → process_at s pid ≡ Some p → SameHolds p q → IsRunning q → IsValid (with_process s pid q)
-whole-inside s pid p q whole at same running =
+pub valid-inside : (s : State) (pid : ℕ) (p q : Process) → IsValid s → process_at s pid ≡ Some p → SameHolds p q → IsRunning q → IsValid (with_process s pid q)
+valid-inside s pid p q whole at same running =
     let after = solid-with_process s pid p q (solid s whole) at running (placed-same s p q same (whole.processes.placed pid p at)) same.parent in
     record {
       tree = after.tree;

@@ -12,7 +12,7 @@ module _ (R : State → State → Type 0) where
   AreBothBy (done w (x, r)) b = (y : State) × (b ≡ done w (y, r)) × R x y
   AreBothBy (refused w e c) b = b ≡ refused w e c
 
-  -- both are refused alike, or both have the same reply and lead to related states
+  -- both are refused in the same way, or both have the same reply and lead to related states
   pub record AreBoth (a b : Attempt Effect) : Type 0 where
     pub by : AreBothBy a b
 

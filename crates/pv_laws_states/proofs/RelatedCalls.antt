@@ -20,7 +20,7 @@ use Rattle.pv_model.specs.Calls.Descriptors.{if_mode}
 use Rattle.pv_model.specs.Calls.Paths.{make}
 use Rattle.pv_model.specs.Walks.{chdir_walk, stat_walk, lstat_walk, readlink_walk, mkdir_walk, symlink_walk, linked_walk, new_link_walk, unlink_walk, rmdir_walk, rename_walk}
 use Rattle.pv_laws_states.specs.Courses.{IsAfter}
-use Rattle.pv_laws_states.proofs.CallRests
+use Rattle.pv_laws_states.proofs.CallRemainders
 use Rattle.pv_laws_states.proofs.RelatedAttempts.{KeptByChecks, bound, following, tested, demanded}
 
 -- ---- nodes and open files in two states
@@ -65,7 +65,7 @@ still-directory_of s pid me d = by (open_file s me d)
     of true n = (refl, refl)
     of false n = refl
 
-    by : (o : Option (ℕ × OpenFile)) → IsAfter 0 (demand EBADF o >>= CallRests.directory_of_1 s pid me)
+    by : (o : Option (ℕ × OpenFile)) → IsAfter 0 (demand EBADF o >>= CallRemainders.directory_of_1 s pid me)
     by None = (refl, refl)
     by (Some v) = of (not (is_directory_at s.tree v.1.node)) v.1.node
 
@@ -131,13 +131,13 @@ module _ (B : List Walk → Attempt Effect → Attempt Effect → Type 0) (progr
   pub record RespectsFiles : Type 0 where
     pub opened : (d : ℤ) → BothHave AreOnSame (open_file s me d) (open_file u you d)
     pub full : nat_le 128 (least_free u.files) ≡ nat_le 128 (least_free s.files)
-    pub reads : (d n : ℤ) → call ≡ TheCall.Read d n → (v w : ℕ × OpenFile) → Opened d v w → reads v.1.mode ≡ true → (count : ℕ) → B [] (CallRests.read_2 s pid me v.0 v.1 count) (CallRests.read_2 u pid you w.0 w.1 count)
+    pub reads : (d n : ℤ) → call ≡ TheCall.Read d n → (v w : ℕ × OpenFile) → Opened d v w → reads v.1.mode ≡ true → (count : ℕ) → B [] (CallRemainders.read_2 s pid me v.0 v.1 count) (CallRemainders.read_2 u pid you w.0 w.1 count)
     pub writes : (d n : ℤ) → call ≡ TheCall.Write d n → (v w : ℕ × OpenFile) → Opened d v w → writes v.1.mode ≡ true → (count : ℕ) → within 4096 n ≡ Some count
-        → B [] (CallRests.write_2 s pid me v.0 v.1 count) (CallRests.write_2 u pid you w.0 w.1 count)
-    pub seeks : (d by : ℤ) (whence : Whence) → call ≡ TheCall.Lseek d by whence → (v w : ℕ × OpenFile) → Opened d v w → B [] (CallRests.lseek_2 s pid me by whence v.0 v.1) (CallRests.lseek_2 u pid you by whence w.0 w.1)
+        → B [] (CallRemainders.write_2 s pid me v.0 v.1 count) (CallRemainders.write_2 u pid you w.0 w.1 count)
+    pub seeks : (d by : ℤ) (whence : Whence) → call ≡ TheCall.Lseek d by whence → (v w : ℕ × OpenFile) → Opened d v w → B [] (CallRemainders.lseek_2 s pid me by whence v.0 v.1) (CallRemainders.lseek_2 u pid you by whence w.0 w.1)
     pub reports : (d : ℤ) → call ≡ TheCall.Fstat d → (v w : ℕ × OpenFile) → Opened d v w → B [] (answers_bytes s 0 (status s.tree v.1.node)) (answers_bytes u 0 (status u.tree w.1.node))
-    pub cuts : (d n : ℤ) → call ≡ TheCall.Ftruncate d n → (v w : ℕ × OpenFile) → Opened d v w → (size : ℕ) → B [] (CallRests.ftruncate_3 s pid me v.1 size) (CallRests.ftruncate_3 u pid you w.1 size)
-    pub lists : (d : ℤ) → call ≡ TheCall.Getdents d → (v w : ℕ × OpenFile) → Opened d v w → B [] (CallRests.getdents_2 s pid me v.0 v.1) (CallRests.getdents_2 u pid you w.0 w.1)
+    pub cuts : (d n : ℤ) → call ≡ TheCall.Ftruncate d n → (v w : ℕ × OpenFile) → Opened d v w → (size : ℕ) → B [] (CallRemainders.ftruncate_3 s pid me v.1 size) (CallRemainders.ftruncate_3 u pid you w.1 size)
+    pub lists : (d : ℤ) → call ≡ TheCall.Getdents d → (v w : ℕ × OpenFile) → Opened d v w → B [] (CallRemainders.getdents_2 s pid me v.0 v.1) (CallRemainders.getdents_2 u pid you w.0 w.1)
 
   pub record RespectsTree : Type 0 where
     pub nodes : (n : ℕ) → AreNodesAlike (node_at s.tree n) (node_at u.tree n)
@@ -150,22 +150,22 @@ module _ (B : List Walk → Attempt Effect → Attempt Effect → Type 0) (progr
         → B [] (answers_bytes s 0 (status s.tree n)) (answers_bytes u 0 (status u.tree n))
     pub lstats : (path : Bytes) → call ≡ TheCall.Lstat path → (place : Place) → end_of s me (lstat_walk path) ≡ Ok place → judgement s.tree me.table place permission_r ≡ Allowed → (n : ℕ) → node_of place ≡ Some n
         → B [] (answers_bytes s 0 (status s.tree n)) (answers_bytes u 0 (status u.tree n))
-    pub unlinks : (p : ℕ × Bytes) → B [] (CallRests.less_3 s pid me p) (CallRests.less_3 u pid you p)
+    pub unlinks : (p : ℕ × Bytes) → B [] (CallRemainders.less_3 s pid me p) (CallRemainders.less_3 u pid you p)
 
   pub record RespectsRoom : Type 0 where
     pub makes : (w : Walk) (node : Node) → walks_of call ≡ w ∷ [] → w.start ≡ WorkingDirectory → entries_of (Some node) ≡ [] → (place : Place) → end_of s me w ≡ Ok place → IsFalse (is_some (node_of place))
-        → (p : ℕ × Bytes) → name_of place ≡ Some p → B [] (CallRests.make_3 s pid me node p) (CallRests.make_3 u pid you node p)
+        → (p : ℕ × Bytes) → name_of place ≡ Some p → B [] (CallRemainders.make_3 s pid me node p) (CallRemainders.make_3 u pid you node p)
     pub links : (path new : Bytes) → call ≡ TheCall.Link path new → (place : Place) → end_of s me (new_link_walk new) ≡ Ok place → IsFalse (is_some (node_of place))
-        → (n : ℕ) (p : ℕ × Bytes) → name_of place ≡ Some p → B [] (CallRests.link_6 s pid me n p) (CallRests.link_6 u pid you n p)
+        → (n : ℕ) (p : ℕ × Bytes) → name_of place ≡ Some p → B [] (CallRemainders.link_6 s pid me n p) (CallRemainders.link_6 u pid you n p)
     pub moves : (path new : Bytes) → call ≡ TheCall.Rename path new → (old_place new_place : Place) → end_of s me (rename_walk path) ≡ Ok old_place → end_of s me (rename_walk new) ≡ Ok new_place
         → (n : ℕ) (p q : ℕ × Bytes) → node_of old_place ≡ Some n → name_of old_place ≡ Some p → name_of new_place ≡ Some q → IsFalse (same_node (node_of new_place) n)
-        → B [] (CallRests.move_5 s pid me n p.0 p.1 q.0 q.1) (CallRests.move_5 u pid you n p.0 p.1 q.0 q.1)
+        → B [] (CallRemainders.move_5 s pid me n p.0 p.1 q.0 q.1) (CallRemainders.move_5 u pid you n p.0 p.1 q.0 q.1)
     pub opens : (start : Start) (path : Bytes) (f : OpenFlags) (place : Place) → OpensAt start path f place → (n : ℕ) → node_of place ≡ Some n
-        → B [] (CallRests.open_7 s pid me (with_open_file s pid me f n (if f.truncate then with_content s.tree n [] else s.tree)))
-        (CallRests.open_7 u pid you (with_open_file u pid you f n (if f.truncate then with_content u.tree n [] else u.tree)))
+        → B [] (CallRemainders.open_7 s pid me (with_open_file s pid me f n (if f.truncate then with_content s.tree n [] else s.tree)))
+        (CallRemainders.open_7 u pid you (with_open_file u pid you f n (if f.truncate then with_content u.tree n [] else u.tree)))
     pub creates : (start : Start) (path : Bytes) (f : OpenFlags) (place : Place) → OpensAt start path f place → (p : ℕ × Bytes) → name_of place ≡ Some p → node_of place ≡ None
-        → B [] (CallRests.open_7 s pid me (with_open_file s pid me f (new_number s.tree) (with_new_node s.tree p.0 p.1 (file_node false []))))
-        (CallRests.open_7 u pid you (with_open_file u pid you f (new_number u.tree) (with_new_node u.tree p.0 p.1 (file_node false []))))
+        → B [] (CallRemainders.open_7 s pid me (with_open_file s pid me f (new_number s.tree) (with_new_node s.tree p.0 p.1 (file_node false []))))
+        (CallRemainders.open_7 u pid you (with_open_file u pid you f (new_number u.tree) (with_new_node u.tree p.0 p.1 (file_node false []))))
 
   pub record Respects : Type 0 where
     pub checks : KeptByChecks B
@@ -243,7 +243,7 @@ module _ (B : List Walk → Attempt Effect → Attempt Effect → Type 0) (progr
     directory-same : (d : ℤ) → directory_of u pid you d ≡ directory_of s pid me d
     directory-same d = by (open_file s me d) (open_file u you d) (r.files.opened d)
       where
-        by : (o q : Option (ℕ × OpenFile)) → BothHave AreOnSame o q → (demand EBADF q >>= CallRests.directory_of_1 u pid you) ≡ (demand EBADF o >>= CallRests.directory_of_1 s pid me)
+        by : (o q : Option (ℕ × OpenFile)) → BothHave AreOnSame o q → (demand EBADF q >>= CallRemainders.directory_of_1 u pid you) ≡ (demand EBADF o >>= CallRemainders.directory_of_1 s pid me)
         by None None same = refl
         by None (Some w) same = absurd same
         by (Some v) None same = absurd same
@@ -293,14 +293,14 @@ module _ (B : List Walk → Attempt Effect → Attempt Effect → Type 0) (progr
 
     dup-both : (d : ℤ) → E (dup s pid me d) (dup u pid you d)
     dup-both d =
-        by-descriptor d (CallRests.dup_1 s pid me) (CallRests.dup_1 u pid you) (λ v w same.
-        subst (λ n. E (CallRests.dup_1 s pid me v) (refuse_if EMFILE (nat_le 16 n) >> answers (with_process u pid (record you { descriptors = with_number you.descriptors n (record { file = w.file; close_on_exec = false }) })) n)) (sym r.own.free)
+        by-descriptor d (CallRemainders.dup_1 s pid me) (CallRemainders.dup_1 u pid you) (λ v w same.
+        subst (λ n. E (CallRemainders.dup_1 s pid me v) (refuse_if EMFILE (nat_le 16 n) >> answers (with_process u pid (record you { descriptors = with_number you.descriptors n (record { file = w.file; close_on_exec = false }) })) n)) (sym r.own.free)
         (if-same [] EMFILE (nat_le 16 (least_free me.descriptors)) _ _ (λ no. same (least_free me.descriptors))))
 
     dup2-both : (d e : ℤ) → E (dup2 s pid me d e) (dup2 u pid you d e)
     dup2-both d e =
-        by-descriptor d (CallRests.dup2_1 s pid me d e) (CallRests.dup2_1 u pid you d e) (λ v w same.
-        value-same EBADF (within 15 e) (CallRests.dup2_2 s pid me d v) (CallRests.dup2_2 u pid you d w) (λ n is. by v w same n (is_number d n)))
+        by-descriptor d (CallRemainders.dup2_1 s pid me d e) (CallRemainders.dup2_1 u pid you d e) (λ v w same.
+        value-same EBADF (within 15 e) (CallRemainders.dup2_2 s pid me d v) (CallRemainders.dup2_2 u pid you d w) (λ n is. by v w same n (is_number d n)))
       where
         by : (v w : Descriptor) → ((n : ℕ) → Leaves (with_process s pid (record me { descriptors = with_number me.descriptors n (record { file = v.file; close_on_exec = false }) }))
             (with_process u pid (record you { descriptors = with_number you.descriptors n (record { file = w.file; close_on_exec = false }) })) (returns n))
@@ -320,31 +320,31 @@ module _ (B : List Walk → Attempt Effect → Attempt Effect → Type 0) (progr
 
     read-both : (d n : ℤ) → call ≡ TheCall.Read d n → E (read s pid me d n) (read u pid you d n)
     read-both d n is =
-        by-mode reads d (CallRests.read_1 s pid me n) (CallRests.read_1 u pid you n) (λ v w opened may.
-        value-same EINVAL (within 4096 n) (CallRests.read_2 s pid me v.0 v.1) (CallRests.read_2 u pid you w.0 w.1) (λ count few. r.files.reads d n is v w opened may count))
+        by-mode reads d (CallRemainders.read_1 s pid me n) (CallRemainders.read_1 u pid you n) (λ v w opened may.
+        value-same EINVAL (within 4096 n) (CallRemainders.read_2 s pid me v.0 v.1) (CallRemainders.read_2 u pid you w.0 w.1) (λ count few. r.files.reads d n is v w opened may count))
 
     write-both : (d n : ℤ) → call ≡ TheCall.Write d n → E (write s pid me d n) (write u pid you d n)
     write-both d n is =
-        by-mode writes d (CallRests.write_1 s pid me n) (CallRests.write_1 u pid you n) (λ v w opened may.
-        value-same EINVAL (within 4096 n) (CallRests.write_2 s pid me v.0 v.1) (CallRests.write_2 u pid you w.0 w.1) (λ count few. r.files.writes d n is v w opened may count few))
+        by-mode writes d (CallRemainders.write_1 s pid me n) (CallRemainders.write_1 u pid you n) (λ v w opened may.
+        value-same EINVAL (within 4096 n) (CallRemainders.write_2 s pid me v.0 v.1) (CallRemainders.write_2 u pid you w.0 w.1) (λ count few. r.files.writes d n is v w opened may count few))
 
     lseek-both : (d by : ℤ) (whence : Whence) → call ≡ TheCall.Lseek d by whence → E (lseek s pid me d by whence) (lseek u pid you d by whence)
     lseek-both d by whence is =
-        by-file d (CallRests.lseek_1 s pid me by whence) (CallRests.lseek_1 u pid you by whence) (λ v w opened.
+        by-file d (CallRemainders.lseek_1 s pid me by whence) (CallRemainders.lseek_1 u pid you by whence) (λ v w opened.
         if-other EINVAL (is_directory_at s.tree v.1.node) (is_directory_at u.tree w.1.node) (ap (is_directory_at u.tree) opened.same.node ∙ dir v.1.node)
-        (CallRests.lseek_2 s pid me by whence v.0 v.1) (CallRests.lseek_2 u pid you by whence w.0 w.1) (r.files.seeks d by whence is v w opened))
+        (CallRemainders.lseek_2 s pid me by whence v.0 v.1) (CallRemainders.lseek_2 u pid you by whence w.0 w.1) (r.files.seeks d by whence is v w opened))
 
     ftruncate-both : (d n : ℤ) → call ≡ TheCall.Ftruncate d n → E (ftruncate s pid me d n) (ftruncate u pid you d n)
     ftruncate-both d n is =
-        by-file d (CallRests.ftruncate_1 s pid me n) (CallRests.ftruncate_1 u pid you n) (λ v w opened.
-        if-other EINVAL (not (writes v.1.mode)) (not (writes w.1.mode)) (ap (λ m. not (writes m)) opened.same.mode) (CallRests.ftruncate_2 s pid me n v.1) (CallRests.ftruncate_2 u pid you n w.1)
-        (value-same EINVAL (natural n) (CallRests.ftruncate_3 s pid me v.1) (CallRests.ftruncate_3 u pid you w.1) (λ size low. r.files.cuts d n is v w opened size)))
+        by-file d (CallRemainders.ftruncate_1 s pid me n) (CallRemainders.ftruncate_1 u pid you n) (λ v w opened.
+        if-other EINVAL (not (writes v.1.mode)) (not (writes w.1.mode)) (ap (λ m. not (writes m)) opened.same.mode) (CallRemainders.ftruncate_2 s pid me n v.1) (CallRemainders.ftruncate_2 u pid you n w.1)
+        (value-same EINVAL (natural n) (CallRemainders.ftruncate_3 s pid me v.1) (CallRemainders.ftruncate_3 u pid you w.1) (λ size low. r.files.cuts d n is v w opened size)))
 
     getdents-both : (d : ℤ) → call ≡ TheCall.Getdents d → E (getdents s pid me d) (getdents u pid you d)
     getdents-both d is =
-        by-file d (CallRests.getdents_1 s pid me) (CallRests.getdents_1 u pid you) (λ v w opened.
+        by-file d (CallRemainders.getdents_1 s pid me) (CallRemainders.getdents_1 u pid you) (λ v w opened.
         if-other EINVAL (not (is_directory_at s.tree v.1.node)) (not (is_directory_at u.tree w.1.node)) (ap (λ n. not (is_directory_at u.tree n)) opened.same.node ∙ ap not (dir v.1.node))
-        (CallRests.getdents_2 s pid me v.0 v.1) (CallRests.getdents_2 u pid you w.0 w.1) (r.files.lists d is v w opened))
+        (CallRemainders.getdents_2 s pid me v.0 v.1) (CallRemainders.getdents_2 u pid you w.0 w.1) (r.files.lists d is v w opened))
 
     -- ---- processes
 
@@ -372,29 +372,29 @@ module _ (B : List Walk → Attempt Effect → Attempt Effect → Type 0) (progr
 
     chdir-both : (path : Bytes) → B (chdir_walk path ∷ []) (chdir s pid me path) (chdir u pid you path)
     chdir-both path =
-        r.tree.walked (chdir_walk path) (CallRests.chdir_1 s pid me) (CallRests.chdir_1 u pid you) (λ place found allowed.
-        value-same ENOENT (node_of place) (CallRests.chdir_2 s pid me) (CallRests.chdir_2 u pid you) (λ n is.
+        r.tree.walked (chdir_walk path) (CallRemainders.chdir_1 s pid me) (CallRemainders.chdir_1 u pid you) (λ place found allowed.
+        value-same ENOENT (node_of place) (CallRemainders.chdir_2 s pid me) (CallRemainders.chdir_2 u pid you) (λ n is.
         if-other ENOTDIR (not (is_directory_at s.tree n)) (not (is_directory_at u.tree n)) (ap not (dir n)) (answers (with_process s pid (record me { directory = n })) 0) (answers (with_process u pid (record you { directory = n })) 0) (r.own.enters n)))
 
     stat-both : (w : Walk)
         → ((place : Place) → end_of s me w ≡ Ok place → judgement s.tree me.table place w.needed ≡ Allowed → (n : ℕ) → node_of place ≡ Some n → E (answers_bytes s 0 (status s.tree n)) (answers_bytes u 0 (status u.tree n)))
         → B (w ∷ []) (stat_at s pid me w) (stat_at u pid you w)
     stat-both w reports =
-        r.tree.walked w (CallRests.stat_1 s pid me) (CallRests.stat_1 u pid you) (λ place found allowed.
+        r.tree.walked w (CallRemainders.stat_1 s pid me) (CallRemainders.stat_1 u pid you) (λ place found allowed.
         value-same ENOENT (node_of place) (λ n. answers_bytes s 0 (status s.tree n)) (λ n. answers_bytes u 0 (status u.tree n)) (reports place found allowed))
 
     readlink-both : (path : Bytes) → B (readlink_walk path ∷ []) (readlink s pid me path) (readlink u pid you path)
     readlink-both path =
-        r.tree.walked (readlink_walk path) (CallRests.readlink_1 s pid me) (CallRests.readlink_1 u pid you) (λ place found allowed.
-        value-same ENOENT (node_of place) (CallRests.readlink_2 s pid me) (CallRests.readlink_2 u pid you) (λ n is.
+        r.tree.walked (readlink_walk path) (CallRemainders.readlink_1 s pid me) (CallRemainders.readlink_1 u pid you) (λ place found allowed.
+        value-same ENOENT (node_of place) (CallRemainders.readlink_2 s pid me) (CallRemainders.readlink_2 u pid you) (λ n is.
         demanded B r.checks [] EINVAL (link_text (node_at s.tree n)) (link_text (node_at u.tree n)) (view link_text (λ executable old new. refl) n)
         (λ text. answers_bytes s (length text) text) (λ text. answers_bytes u (length text) text) (λ text has. r.processes.left (returns_bytes (length text) text))))
 
     make-both : (w : Walk) (node : Node) → walks_of call ≡ w ∷ [] → w.start ≡ WorkingDirectory → entries_of (Some node) ≡ [] → B (w ∷ []) (make s pid me w node) (make u pid you w node)
     make-both w node walks here bare =
-        r.tree.walked w (CallRests.make_1 s pid me node) (CallRests.make_1 u pid you node) (λ place found allowed.
-        if-same [] EEXIST (is_some (node_of place)) (CallRests.make_2 s pid me node place) (CallRests.make_2 u pid you node place) (λ free.
-        value-same EEXIST (name_of place) (CallRests.make_3 s pid me node) (CallRests.make_3 u pid you node) (λ p named. r.room.makes w node walks here bare place found free p named)))
+        r.tree.walked w (CallRemainders.make_1 s pid me node) (CallRemainders.make_1 u pid you node) (λ place found allowed.
+        if-same [] EEXIST (is_some (node_of place)) (CallRemainders.make_2 s pid me node place) (CallRemainders.make_2 u pid you node place) (λ free.
+        value-same EEXIST (name_of place) (CallRemainders.make_3 s pid me node) (CallRemainders.make_3 u pid you node) (λ p named. r.room.makes w node walks here bare place found free p named)))
 
     symlink-both : (text path : Bytes) → walks_of call ≡ symlink_walk path ∷ [] → B (symlink_walk path ∷ []) (symlink s pid me text path) (symlink u pid you text path)
     symlink-both text path walks =
@@ -405,52 +405,52 @@ module _ (B : List Walk → Attempt Effect → Attempt Effect → Type 0) (progr
 
     link-both : (path new : Bytes) → call ≡ TheCall.Link path new → B (linked_walk path ∷ new_link_walk new ∷ []) (link s pid me path new) (link u pid you path new)
     link-both path new is =
-        r.tree.walked_twice (linked_walk path) (new_link_walk new) (CallRests.link_2 s pid me) (CallRests.link_2 u pid you) (λ old_place new_place old_found found.
-        value-same ENOENT (node_of old_place) (CallRests.link_3 s pid me new_place) (CallRests.link_3 u pid you new_place) (λ n there.
-        if-other EPERM (is_directory_at s.tree n) (is_directory_at u.tree n) (dir n) (CallRests.link_4 s pid me new_place n) (CallRests.link_4 u pid you new_place n)
-        (if-same [] EEXIST (is_some (node_of new_place)) (CallRests.link_5 s pid me new_place n) (CallRests.link_5 u pid you new_place n) (λ free.
-        value-same EEXIST (name_of new_place) (CallRests.link_6 s pid me n) (CallRests.link_6 u pid you n) (λ p named. r.room.links path new is new_place found free n p named)))))
+        r.tree.walked_twice (linked_walk path) (new_link_walk new) (CallRemainders.link_2 s pid me) (CallRemainders.link_2 u pid you) (λ old_place new_place old_found found.
+        value-same ENOENT (node_of old_place) (CallRemainders.link_3 s pid me new_place) (CallRemainders.link_3 u pid you new_place) (λ n there.
+        if-other EPERM (is_directory_at s.tree n) (is_directory_at u.tree n) (dir n) (CallRemainders.link_4 s pid me new_place n) (CallRemainders.link_4 u pid you new_place n)
+        (if-same [] EEXIST (is_some (node_of new_place)) (CallRemainders.link_5 s pid me new_place n) (CallRemainders.link_5 u pid you new_place n) (λ free.
+        value-same EEXIST (name_of new_place) (CallRemainders.link_6 s pid me n) (CallRemainders.link_6 u pid you n) (λ p named. r.room.links path new is new_place found free n p named)))))
 
     unlink-both : (path : Bytes) → B (unlink_walk path ∷ []) (unlink s pid me path) (unlink u pid you path)
     unlink-both path =
-        r.tree.walked (unlink_walk path) (CallRests.unlink_1 s pid me) (CallRests.unlink_1 u pid you) (λ place found allowed.
-        value-same ENOENT (node_of place) (CallRests.unlink_2 s pid me place) (CallRests.unlink_2 u pid you place) (λ n is.
-        if-other EPERM (is_directory_at s.tree n) (is_directory_at u.tree n) (dir n) (CallRests.unlink_3 s pid me place) (CallRests.unlink_3 u pid you place)
-        (value-same EPERM (name_of place) (CallRests.less_3 s pid me) (CallRests.less_3 u pid you) (λ p named. r.tree.unlinks p))))
+        r.tree.walked (unlink_walk path) (CallRemainders.unlink_1 s pid me) (CallRemainders.unlink_1 u pid you) (λ place found allowed.
+        value-same ENOENT (node_of place) (CallRemainders.unlink_2 s pid me place) (CallRemainders.unlink_2 u pid you place) (λ n is.
+        if-other EPERM (is_directory_at s.tree n) (is_directory_at u.tree n) (dir n) (CallRemainders.unlink_3 s pid me place) (CallRemainders.unlink_3 u pid you place)
+        (value-same EPERM (name_of place) (CallRemainders.less_3 s pid me) (CallRemainders.less_3 u pid you) (λ p named. r.tree.unlinks p))))
 
     rmdir-both : (path : Bytes) → B (rmdir_walk path ∷ []) (rmdir s pid me path) (rmdir u pid you path)
     rmdir-both path =
         let w : Walk = rmdir_walk path in
-        if-same (w ∷ []) EINVAL (ends_in_dot path) (walk s me w >>= (λ place. judge s me w place >> CallRests.rmdir_1 s pid me place)) (walk u you w >>= (λ place. judge u you w place >> CallRests.rmdir_1 u pid you place)) (λ no.
-        r.tree.walked w (CallRests.rmdir_1 s pid me) (CallRests.rmdir_1 u pid you) (λ place found allowed.
-        value-same ENOENT (node_of place) (CallRests.rmdir_2 s pid me place) (CallRests.rmdir_2 u pid you place) (λ n is.
-        if-other ENOTDIR (not (is_directory_at s.tree n)) (not (is_directory_at u.tree n)) (ap not (dir n)) (CallRests.rmdir_3 s pid me place n) (CallRests.rmdir_3 u pid you place n)
-        (value-same EBUSY (name_of place) (CallRests.rmdir_4 s pid me n) (CallRests.rmdir_4 u pid you n) (λ p named.
-        if-other ENOTEMPTY (not (is_empty (entries_at s.tree n))) (not (is_empty (entries_at u.tree n))) (ap (λ (es : Entries). not (is_empty es)) (entries n)) (CallRests.less_3 s pid me p) (CallRests.less_3 u pid you p) (r.tree.unlinks p))))))
+        if-same (w ∷ []) EINVAL (ends_in_dot path) (walk s me w >>= (λ place. judge s me w place >> CallRemainders.rmdir_1 s pid me place)) (walk u you w >>= (λ place. judge u you w place >> CallRemainders.rmdir_1 u pid you place)) (λ no.
+        r.tree.walked w (CallRemainders.rmdir_1 s pid me) (CallRemainders.rmdir_1 u pid you) (λ place found allowed.
+        value-same ENOENT (node_of place) (CallRemainders.rmdir_2 s pid me place) (CallRemainders.rmdir_2 u pid you place) (λ n is.
+        if-other ENOTDIR (not (is_directory_at s.tree n)) (not (is_directory_at u.tree n)) (ap not (dir n)) (CallRemainders.rmdir_3 s pid me place n) (CallRemainders.rmdir_3 u pid you place n)
+        (value-same EBUSY (name_of place) (CallRemainders.rmdir_4 s pid me n) (CallRemainders.rmdir_4 u pid you n) (λ p named.
+        if-other ENOTEMPTY (not (is_empty (entries_at s.tree n))) (not (is_empty (entries_at u.tree n))) (ap (λ (es : Entries). not (is_empty es)) (entries n)) (CallRemainders.less_3 s pid me p) (CallRemainders.less_3 u pid you p) (r.tree.unlinks p))))))
 
-    move-both : (n : ℕ) (p q : ℕ × Bytes) (there : Option ℕ) → E (CallRests.move_5 s pid me n p.0 p.1 q.0 q.1) (CallRests.move_5 u pid you n p.0 p.1 q.0 q.1)
+    move-both : (n : ℕ) (p q : ℕ × Bytes) (there : Option ℕ) → E (CallRemainders.move_5 s pid me n p.0 p.1 q.0 q.1) (CallRemainders.move_5 u pid you n p.0 p.1 q.0 q.1)
         → E (move_entry s pid me n p.0 p.1 q.0 q.1 there) (move_entry u pid you n p.0 p.1 q.0 q.1 there)
     move-both n p q there moved =
-        if-other EINVAL (contains_directory s.tree n q.0) (contains_directory u.tree n q.0) (r.tree.contains n q.0) (CallRests.move_2 s pid me n p.0 p.1 q.0 q.1 there) (CallRests.move_2 u pid you n p.0 p.1 q.0 q.1 there)
+        if-other EINVAL (contains_directory s.tree n q.0) (contains_directory u.tree n q.0) (r.tree.contains n q.0) (CallRemainders.move_2 s pid me n p.0 p.1 q.0 q.1 there) (CallRemainders.move_2 u pid you n p.0 p.1 q.0 q.1 there)
         (if-other EISDIR (is_directory_there s.tree there && not (is_directory_at s.tree n)) (is_directory_there u.tree there && not (is_directory_at u.tree n)) (ap₂ (λ a b. a && not b) (dir-there there) (dir n))
-        (CallRests.move_3 s pid me n p.0 p.1 q.0 q.1 there) (CallRests.move_3 u pid you n p.0 p.1 q.0 q.1 there)
+        (CallRemainders.move_3 s pid me n p.0 p.1 q.0 q.1 there) (CallRemainders.move_3 u pid you n p.0 p.1 q.0 q.1 there)
         (if-other ENOTDIR (is_directory_at s.tree n && is_some there && not (is_directory_there s.tree there)) (is_directory_at u.tree n && is_some there && not (is_directory_there u.tree there))
-        (ap₂ (λ a b. a && is_some there && not b) (dir n) (dir-there there)) (CallRests.move_4 s pid me n p.0 p.1 q.0 q.1 there) (CallRests.move_4 u pid you n p.0 p.1 q.0 q.1 there)
+        (ap₂ (λ a b. a && is_some there && not b) (dir n) (dir-there there)) (CallRemainders.move_4 s pid me n p.0 p.1 q.0 q.1 there) (CallRemainders.move_4 u pid you n p.0 p.1 q.0 q.1 there)
         (if-other ENOTEMPTY (not (is_empty (entries_there s.tree there))) (not (is_empty (entries_there u.tree there))) (ap (λ (es : Entries). not (is_empty es)) (entries-there there))
-        (CallRests.move_5 s pid me n p.0 p.1 q.0 q.1) (CallRests.move_5 u pid you n p.0 p.1 q.0 q.1) moved)))
+        (CallRemainders.move_5 s pid me n p.0 p.1 q.0 q.1) (CallRemainders.move_5 u pid you n p.0 p.1 q.0 q.1) moved)))
 
     rename-both : (path new : Bytes) → call ≡ TheCall.Rename path new → B (rename_walk path ∷ rename_walk new ∷ []) (rename s pid me path new) (rename u pid you path new)
     rename-both path new is =
         let w : Walk = rename_walk path in
         if-same (w ∷ rename_walk new ∷ []) EINVAL (ends_in_dot path || ends_in_dot new)
-        (walk s me w >>= (λ place. judge s me w place >> CallRests.rename_1 s pid me new place)) (walk u you w >>= (λ place. judge u you w place >> CallRests.rename_1 u pid you new place)) (λ no.
-        r.tree.walked_twice w (rename_walk new) (CallRests.rename_2 s pid me) (CallRests.rename_2 u pid you) (λ old_place new_place old_found found.
-        value-same ENOENT (node_of old_place) (CallRests.rename_3 s pid me old_place new_place) (CallRests.rename_3 u pid you old_place new_place) (λ n there.
-        value-same EBUSY (name_of old_place) (CallRests.rename_4 s pid me new_place n) (CallRests.rename_4 u pid you new_place n) (λ p old_named.
-        value-same EBUSY (name_of new_place) (CallRests.rename_5 s pid me new_place n p) (CallRests.rename_5 u pid you new_place n p) (λ q named.
+        (walk s me w >>= (λ place. judge s me w place >> CallRemainders.rename_1 s pid me new place)) (walk u you w >>= (λ place. judge u you w place >> CallRemainders.rename_1 u pid you new place)) (λ no.
+        r.tree.walked_twice w (rename_walk new) (CallRemainders.rename_2 s pid me) (CallRemainders.rename_2 u pid you) (λ old_place new_place old_found found.
+        value-same ENOENT (node_of old_place) (CallRemainders.rename_3 s pid me old_place new_place) (CallRemainders.rename_3 u pid you old_place new_place) (λ n there.
+        value-same EBUSY (name_of old_place) (CallRemainders.rename_4 s pid me new_place n) (CallRemainders.rename_4 u pid you new_place n) (λ p old_named.
+        value-same EBUSY (name_of new_place) (CallRemainders.rename_5 s pid me new_place n p) (CallRemainders.rename_5 u pid you new_place n p) (λ q named.
         by n p q (node_of new_place) (same_node (node_of new_place) n) (λ other. r.room.moves path new is old_place new_place old_found found n p q there old_named named other))))))
       where
-        by : (n : ℕ) (p q : ℕ × Bytes) (there : Option ℕ) (b : Bool) → (IsFalse b → E (CallRests.move_5 s pid me n p.0 p.1 q.0 q.1) (CallRests.move_5 u pid you n p.0 p.1 q.0 q.1))
+        by : (n : ℕ) (p q : ℕ × Bytes) (there : Option ℕ) (b : Bool) → (IsFalse b → E (CallRemainders.move_5 s pid me n p.0 p.1 q.0 q.1) (CallRemainders.move_5 u pid you n p.0 p.1 q.0 q.1))
             → E (if b then answers s 0 else move_entry s pid me n p.0 p.1 q.0 q.1 there) (if b then answers u 0 else move_entry u pid you n p.0 p.1 q.0 q.1 there)
         by n p q there true moved = r.processes.left (returns 0)
         by n p q there false moved = move-both n p q there (moved refl)
@@ -458,36 +458,36 @@ module _ (B : List Walk → Attempt Effect → Attempt Effect → Type 0) (progr
     -- ---- open
 
     node-both : (start : Start) (path : Bytes) (f : OpenFlags) (place : Place) → OpensAt start path f place → (name : Option (ℕ × Bytes)) (node : Option ℕ) → name_of place ≡ name → node_of place ≡ node
-        → E (open_node s pid me f name node >>= CallRests.open_7 s pid me) (open_node u pid you f name node >>= CallRests.open_7 u pid you)
+        → E (open_node s pid me f name node >>= CallRemainders.open_7 s pid me) (open_node u pid you f name node >>= CallRemainders.open_7 u pid you)
     node-both start path f place opens name (Some n) named is = r.checks.after [] _ _ (r.room.opens start path f place opens n is)
     node-both start path f place opens (Some p) None named is = r.checks.after [] _ _ (r.room.creates start path f place opens p named is)
     node-both start path f place opens None None named is = r.checks.refuses [] ENOENT Plain refl
 
     abbrev at_s : Place → Option Node
-    at_s place = CallRests.node_there s pid me place
+    at_s place = CallRemainders.node_there s pid me place
 
     abbrev at_u : Place → Option Node
-    at_u place = CallRests.node_there u pid you place
+    at_u place = CallRemainders.node_there u pid you place
 
-    found-both : (start : Start) (path : Bytes) (f : OpenFlags) (place : Place) → OpensAt start path f place → E (CallRests.open_1 s pid me f place) (CallRests.open_1 u pid you f place)
+    found-both : (start : Start) (path : Bytes) (f : OpenFlags) (place : Place) → OpensAt start path f place → E (CallRemainders.open_1 s pid me f place) (CallRemainders.open_1 u pid you f place)
     found-both start path f place opens =
         let n : Option ℕ = node_of place in
         if-other EEXIST (f.create && f.exclusive && is_some (at_s place)) (f.create && f.exclusive && is_some (at_u place)) (ap (λ b. f.create && f.exclusive && b) (view-there is_some (λ executable old new. refl) n))
-        (CallRests.open_2 s pid me f place) (CallRests.open_2 u pid you f place)
+        (CallRemainders.open_2 s pid me f place) (CallRemainders.open_2 u pid you f place)
         (if-other ENOENT (is_none (at_s place) && not f.create) (is_none (at_u place) && not f.create) (ap (λ b. b && not f.create) (view-there is_none (λ executable old new. refl) n))
-        (CallRests.open_3 s pid me f place) (CallRests.open_3 u pid you f place)
-        (if-other ELOOP (is_link (at_s place)) (is_link (at_u place)) (view-there is_link (λ executable old new. refl) n) (CallRests.open_4 s pid me f place) (CallRests.open_4 u pid you f place)
+        (CallRemainders.open_3 s pid me f place) (CallRemainders.open_3 u pid you f place)
+        (if-other ELOOP (is_link (at_s place)) (is_link (at_u place)) (view-there is_link (λ executable old new. refl) n) (CallRemainders.open_4 s pid me f place) (CallRemainders.open_4 u pid you f place)
         (if-other ENOTDIR (f.directory && not (is_directory (at_s place))) (f.directory && not (is_directory (at_u place))) (ap (λ b. f.directory && not b) (view-there is_directory (λ executable old new. refl) n))
-        (CallRests.open_5 s pid me f place) (CallRests.open_5 u pid you f place)
+        (CallRemainders.open_5 s pid me f place) (CallRemainders.open_5 u pid you f place)
         (if-other EISDIR (is_directory (at_s place) && writes f.mode) (is_directory (at_u place) && writes f.mode) (ap (λ b. b && writes f.mode) (view-there is_directory (λ executable old new. refl) n))
-        (CallRests.open_6 s pid me f place) (CallRests.open_6 u pid you f place) (node-both start path f place opens (name_of place) (node_of place) refl refl)))))
+        (CallRemainders.open_6 s pid me f place) (CallRemainders.open_6 u pid you f place) (node-both start path f place opens (name_of place) (node_of place) refl refl)))))
 
     open-both : (start : Start) (path : Bytes) (f : OpenFlags) → walks_of call ≡ open_walk start path f ∷ [] → B (open_walk start path f ∷ []) (open_at s pid me start path f) (open_at u pid you start path f)
     open-both start path f walks =
         let w : Walk = open_walk start path f in
         let ws : List Walk = w ∷ [] in
-        let one_c : Attempt Effect = walk s me w >>= (λ place. judge s me w place >> CallRests.open_1 s pid me f place) in
-        let two_c : Attempt Effect = walk u you w >>= (λ place. judge u you w place >> CallRests.open_1 u pid you f place) in
+        let one_c : Attempt Effect = walk s me w >>= (λ place. judge s me w place >> CallRemainders.open_1 s pid me f place) in
+        let two_c : Attempt Effect = walk u you w >>= (λ place. judge u you w place >> CallRemainders.open_1 u pid you f place) in
         let one_b : Attempt Effect = refuse_if ENFILE (nat_le 128 (least_free s.files)) >> one_c in
         let two_b : Attempt Effect = refuse_if ENFILE (nat_le 128 (least_free u.files)) >> two_c in
         let one_a : Attempt Effect = refuse_if EMFILE (nat_le 16 (least_free me.descriptors)) >> one_b in
@@ -496,7 +496,7 @@ module _ (B : List Walk → Attempt Effect → Attempt Effect → Type 0) (progr
         following B r.checks ws (check_start s pid me start path) (check_start u pid you start path) (start-same start path) (still-start s pid me start path) one_a two_a (λ v begun.
         tested B r.checks ws EMFILE (nat_le 16 (least_free me.descriptors)) (nat_le 16 (least_free you.descriptors)) (ap (nat_le 16) r.own.free) one_b two_b (λ few.
         tested B r.checks ws ENFILE (nat_le 128 (least_free s.files)) (nat_le 128 (least_free u.files)) r.files.full one_c two_c (λ free.
-        r.tree.walked w (CallRests.open_1 s pid me f) (CallRests.open_1 u pid you f) (λ place found allowed. found-both start path f place (record { walks = walks; begun = begun; found = found; free = free }))))))
+        r.tree.walked w (CallRemainders.open_1 s pid me f) (CallRemainders.open_1 u pid you f) (λ place found allowed. found-both start path f place (record { walks = walks; begun = begun; found = found; free = free }))))))
 
     -- ---- each call
 

@@ -16,14 +16,14 @@ use Rattle.pv_model.specs.declared.perms.Perms.{Perms}
 use Rattle.pv_model.specs.declared.place.Place.{Place}
 use Rattle.pv_model.specs.Machine.{Attempt, done, ◌>>=◌, ◌>>◌, demand, Bytes, is_empty, without_descriptor, within, write_place, after_write, list_name, with_open_file, new_open_file, child, children, statuses, execve, with_program, executable_bytes, asked_promises, unless_refused, add_target, refuse_if_locked, pledge, unveil, Effect, Reply, returns, answers, answers_bytes, status, with_room, place_or_refusal, walk, judgement_or_refusal, judge, end_of, node_of, descriptor_at, open_file_of, open_file, start_directory, Numbered, at_number, with_number, least_free, read_permissions, Promises, narrow_promises, is_lenient, OpenFile, Descriptor, Program, Process, ProcessRecord, State, writes, with_process, node_at, Tree, Table, target_of, judgement, Walked, begins_walk, resolve, is_absolute, Walk, execve_walk}
 use Rattle.pv_model.specs.Calls.Descriptors.{with_bytes_written}
-use Rattle.pv_laws_states.proofs.CallRests
+use Rattle.pv_laws_states.proofs.CallRemainders
 use Rattle.pv_laws_states.proofs.RelatedAttempts.{KeptByAll, kept-by-checks, all-bind, all-then}
 use Rattle.pv_laws_states.proofs.RelatedCalls.{BothHave, both-have, AreOnSame, RespectsProcesses, RespectsOwn, RespectsFiles, RespectsTree, RespectsRoom, Respects, directory-alike, opened-same}
 
 module _ (A : Attempt Effect → Attempt Effect → Type 0) (all : KeptByAll A) (s u : State) (pid : ℕ) (me you : Process) where
   -- ---- walks
 
-  -- a walk that ends at the same place, which is judged alike
+  -- a walk that ends at the same place, with the same decision
   pub walked-alike : ((place : Place) (needed : Perms) → judgement u.tree you.table place needed ≡ judgement s.tree me.table place needed) → (w : Walk) → end_of u you w ≡ end_of s me w
       → (g h : Place → Attempt Effect) → ((place : Place) → end_of s me w ≡ Ok place → judgement s.tree me.table place w.needed ≡ Allowed → A (g place) (h place))
       → A (walk s me w >>= (λ place. judge s me w place >> g place)) (walk u you w >>= (λ place. judge u you w place >> h place))
@@ -48,10 +48,10 @@ module _ (A : Attempt Effect → Attempt Effect → Type 0) (all : KeptByAll A) 
       → ((a b : Option Promises) → A (answers (with_process s pid (record me { promises = a; execpromises = b })) 0) (answers (with_process u pid (record you { promises = a; execpromises = b })) 0))
       → (promises execpromises : Option Bytes) → A (pledge s pid me promises execpromises) (pledge u pid you promises execpromises)
   pledge-both same exec_same gives promises execpromises =
-      all-bind A all (asked_promises promises) (asked_promises promises) refl (CallRests.pledge_1 s pid me execpromises) (CallRests.pledge_1 u pid you execpromises) (λ asked.
-      all-bind A all (asked_promises execpromises) (asked_promises execpromises) refl (CallRests.pledge_2 s pid me asked) (CallRests.pledge_2 u pid you asked) (λ exec_asked.
+      all-bind A all (asked_promises promises) (asked_promises promises) refl (CallRemainders.pledge_1 s pid me execpromises) (CallRemainders.pledge_1 u pid you execpromises) (λ asked.
+      all-bind A all (asked_promises execpromises) (asked_promises execpromises) refl (CallRemainders.pledge_2 s pid me asked) (CallRemainders.pledge_2 u pid you asked) (λ exec_asked.
       all-bind A all (unless_refused (narrow_promises (is_lenient me.promises) me.promises asked)) (unless_refused (narrow_promises (is_lenient you.promises) you.promises asked))
-      (ap (λ o. unless_refused (narrow_promises (is_lenient o) o asked)) same) (CallRests.pledge_3 s pid me exec_asked) (CallRests.pledge_3 u pid you exec_asked) (λ preserved.
+      (ap (λ o. unless_refused (narrow_promises (is_lenient o) o asked)) same) (CallRemainders.pledge_3 s pid me exec_asked) (CallRemainders.pledge_3 u pid you exec_asked) (λ preserved.
       all-bind A all (unless_refused (narrow_promises (is_lenient me.promises) me.execpromises exec_asked)) (unless_refused (narrow_promises (is_lenient you.promises) you.execpromises exec_asked))
       (λ i. unless_refused (narrow_promises (is_lenient (same i)) (exec_same i) exec_asked))
       (λ exec_preserved. answers (with_process s pid (record me { promises = preserved; execpromises = exec_preserved })) 0)
@@ -66,13 +66,13 @@ module _ (A : Attempt Effect → Attempt Effect → Type 0) (all : KeptByAll A) 
   unveil-both lock_same table_same ends targets locks gives (Some path) None = all.refuses 0 EINVAL Plain
   unveil-both lock_same table_same ends targets locks gives (Some path) (Some text) =
       let n : ℕ = if begins_walk path then 1 else 0 in
-      all-bind A all (demand EINVAL (read_permissions text)) (demand EINVAL (read_permissions text)) refl (CallRests.unveil_1 s pid me path) (CallRests.unveil_1 u pid you path) (λ permissions.
+      all-bind A all (demand EINVAL (read_permissions text)) (demand EINVAL (read_permissions text)) refl (CallRemainders.unveil_1 s pid me path) (CallRemainders.unveil_1 u pid you path) (λ permissions.
       all-then A all (refuse_if_locked me.locked) (refuse_if_locked you.locked) (ap refuse_if_locked lock_same)
-      (place_or_refusal n (resolve s.tree Last me.directory path) >>= CallRests.unveil_2 s pid me permissions) (place_or_refusal n (resolve u.tree Last you.directory path) >>= CallRests.unveil_2 u pid you permissions)
+      (place_or_refusal n (resolve s.tree Last me.directory path) >>= CallRemainders.unveil_2 s pid me permissions) (place_or_refusal n (resolve u.tree Last you.directory path) >>= CallRemainders.unveil_2 u pid you permissions)
       (all-bind A all (place_or_refusal n (resolve s.tree Last me.directory path)) (place_or_refusal n (resolve u.tree Last you.directory path)) (ap (place_or_refusal n) (ends path))
-      (CallRests.unveil_2 s pid me permissions) (CallRests.unveil_2 u pid you permissions) (λ place.
+      (CallRemainders.unveil_2 s pid me permissions) (CallRemainders.unveil_2 u pid you permissions) (λ place.
       all-bind A all (add_target s pid me (target_of s.tree place) permissions) (add_target u pid you (target_of u.tree place) permissions)
-      (λ i. add_target s pid (record me { table = table_same i }) (targets place i) permissions) (CallRests.unveil_3 s pid me) (CallRests.unveil_3 u pid you) gives)))
+      (λ i. add_target s pid (record me { table = table_same i }) (targets place i) permissions) (CallRemainders.unveil_3 s pid me) (CallRemainders.unveil_3 u pid you) gives)))
 
   -- the programs of files are the same
   pub execve-both : (program_of : Bytes → Option Program)
@@ -82,11 +82,11 @@ module _ (A : Attempt Effect → Attempt Effect → Type 0) (all : KeptByAll A) 
       → ((program : Program) → A (answers (with_process s pid (with_program s pid me program)) 0) (answers (with_process u pid (with_program u pid you program)) 0))
       → (path : Bytes) → A (execve s pid me program_of path) (execve u pid you program_of path)
   execve-both program_of walked bytes begins path =
-      walked (execve_walk path) (CallRests.execve_1 s pid me program_of) (CallRests.execve_1 u pid you program_of) (λ place found allowed.
-      all-bind A all (demand ENOENT (node_of place)) (demand ENOENT (node_of place)) refl (CallRests.execve_2 s pid me program_of) (CallRests.execve_2 u pid you program_of) (λ n.
+      walked (execve_walk path) (CallRemainders.execve_1 s pid me program_of) (CallRemainders.execve_1 u pid you program_of) (λ place found allowed.
+      all-bind A all (demand ENOENT (node_of place)) (demand ENOENT (node_of place)) refl (CallRemainders.execve_2 s pid me program_of) (CallRemainders.execve_2 u pid you program_of) (λ n.
       all-bind A all (demand EACCES (executable_bytes (node_at s.tree n))) (demand EACCES (executable_bytes (node_at u.tree n))) (ap (demand EACCES) (bytes n))
-      (CallRests.execve_3 s pid me program_of) (CallRests.execve_3 u pid you program_of) (λ text.
-      all-bind A all (demand ENOEXEC (program_of text)) (demand ENOEXEC (program_of text)) refl (CallRests.execve_4 s pid me) (CallRests.execve_4 u pid you) begins)))
+      (CallRemainders.execve_3 s pid me program_of) (CallRemainders.execve_3 u pid you program_of) (λ text.
+      all-bind A all (demand ENOEXEC (program_of text)) (demand ENOEXEC (program_of text)) refl (CallRemainders.execve_4 s pid me) (CallRemainders.execve_4 u pid you) begins)))
 
 -- two walks in sequence
 pub twice-alike : (A : Attempt Effect → Attempt Effect → Type 0) (s u : State) (pid : ℕ) (me you : Process)
@@ -105,7 +105,7 @@ starts-alike s u me you same opens (AtDescriptor d) path = λ i. if is_absolute 
 
 -- ---- other processes, in the same tree with the same open files
 
--- the caller is the same but for its promises, its program, its registers and its buffer
+-- the caller is the same except for its promises, its program, its registers and its buffer
 pub record SameOutside (me you : Process) : Type 0 where
   pub directory : you.directory ≡ me.directory
   pub descriptors : you.descriptors ≡ me.descriptors
@@ -147,7 +147,7 @@ module _ (A : Attempt Effect → Attempt Effect → Type 0) (R : State → State
     opens-same : (d : ℤ) → BothHave AreOnSame (open_file s me d) (open_file other you d)
     opens-same d = subst (BothHave AreOnSame (open_file s me d)) (sym (file-same d)) (both-have AreOnSame (open_file s me d) (λ v is. record { node = refl; mode = refl }))
 
-    -- walks end at the same places, which are judged alike
+    -- walks end at the same places, with the same decisions
     pub walked-same : (w : Walk) (g h : Place → Attempt Effect) → ((place : Place) → end_of s me w ≡ Ok place → judgement s.tree me.table place w.needed ≡ Allowed → A (g place) (h place))
         → A (walk s me w >>= (λ place. judge s me w place >> g place)) (walk other you w >>= (λ place. judge other you w place >> h place))
     walked-same w =
@@ -207,31 +207,31 @@ module _ (A : Attempt Effect → Attempt Effect → Type 0) (R : State → State
       listed k file (Some name) = o.does 0 _ _ _ (o.left s.tree _)
 
       pub others-files : ((d n : ℤ) → call ≡ TheCall.Write d n → (k : ℕ) (file : OpenFile) → open_file s me d ≡ Some (k, file) → writes file.mode ≡ true → (count : ℕ) → within 4096 n ≡ Some count
-          → A (CallRests.write_2 s pid me k file count) (CallRests.write_2 other pid you k file count))
-          → ((d n : ℤ) → call ≡ TheCall.Ftruncate d n → (k : ℕ) (file : OpenFile) → open_file s me d ≡ Some (k, file) → (size : ℕ) → A (CallRests.ftruncate_3 s pid me file size) (CallRests.ftruncate_3 other pid you file size))
+          → A (CallRemainders.write_2 s pid me k file count) (CallRemainders.write_2 other pid you k file count))
+          → ((d n : ℤ) → call ≡ TheCall.Ftruncate d n → (k : ℕ) (file : OpenFile) → open_file s me d ≡ Some (k, file) → (size : ℕ) → A (CallRemainders.ftruncate_3 s pid me file size) (CallRemainders.ftruncate_3 other pid you file size))
           → RespectsFiles B program_of s other pid me you call
       others-files written cut = record {
         opened = opens-same;
         full = refl;
-        reads = λ d n is v w opened may count. opened-same B program_of s other pid me you call (λ v x. A (CallRests.read_2 s pid me v.0 v.1 count) (CallRests.read_2 other pid you x.0 x.1 count)) d v w (file-same d) opened
-            (all-then A o.all _ _ refl (CallRests.read_3 s pid me v.0 v.1 count) (CallRests.read_3 other pid you v.0 v.1 count) (o.does 0 _ _ _ (o.left s.tree _)));
-        writes = λ d n is v w opened may count few. opened-same B program_of s other pid me you call (λ v x. A (CallRests.write_2 s pid me v.0 v.1 count) (CallRests.write_2 other pid you x.0 x.1 count)) d v w (file-same d) opened
+        reads = λ d n is v w opened may count. opened-same B program_of s other pid me you call (λ v x. A (CallRemainders.read_2 s pid me v.0 v.1 count) (CallRemainders.read_2 other pid you x.0 x.1 count)) d v w (file-same d) opened
+            (all-then A o.all _ _ refl (CallRemainders.read_3 s pid me v.0 v.1 count) (CallRemainders.read_3 other pid you v.0 v.1 count) (o.does 0 _ _ _ (o.left s.tree _)));
+        writes = λ d n is v w opened may count few. opened-same B program_of s other pid me you call (λ v x. A (CallRemainders.write_2 s pid me v.0 v.1 count) (CallRemainders.write_2 other pid you x.0 x.1 count)) d v w (file-same d) opened
             (written d n is v.0 v.1 opened.here may count few);
-        seeks = λ d by whence is v w opened. opened-same B program_of s other pid me you call (λ v x. A (CallRests.lseek_2 s pid me by whence v.0 v.1) (CallRests.lseek_2 other pid you by whence x.0 x.1)) d v w (file-same d) opened
-            (all-bind A o.all _ _ refl (CallRests.lseek_3 s pid me v.0 v.1) (CallRests.lseek_3 other pid you v.0 v.1) (λ offset. o.does 0 _ _ _ (o.left s.tree _)));
+        seeks = λ d by whence is v w opened. opened-same B program_of s other pid me you call (λ v x. A (CallRemainders.lseek_2 s pid me by whence v.0 v.1) (CallRemainders.lseek_2 other pid you by whence x.0 x.1)) d v w (file-same d) opened
+            (all-bind A o.all _ _ refl (CallRemainders.lseek_3 s pid me v.0 v.1) (CallRemainders.lseek_3 other pid you v.0 v.1) (λ offset. o.does 0 _ _ _ (o.left s.tree _)));
         reports = λ d is v w opened. opened-same B program_of s other pid me you call (λ v x. A (answers_bytes s 0 (status s.tree v.1.node)) (answers_bytes other 0 (status s.tree x.1.node))) d v w (file-same d) opened (o.does 0 _ _ _ (o.left s.tree s.files));
-        cuts = λ d n is v w opened size. opened-same B program_of s other pid me you call (λ v x. A (CallRests.ftruncate_3 s pid me v.1 size) (CallRests.ftruncate_3 other pid you x.1 size)) d v w (file-same d) opened (cut d n is v.0 v.1 opened.here size);
-        lists = λ d is v w opened. opened-same B program_of s other pid me you call (λ v x. A (CallRests.getdents_2 s pid me v.0 v.1) (CallRests.getdents_2 other pid you x.0 x.1)) d v w (file-same d) opened (listed v.0 v.1 _);
+        cuts = λ d n is v w opened size. opened-same B program_of s other pid me you call (λ v x. A (CallRemainders.ftruncate_3 s pid me v.1 size) (CallRemainders.ftruncate_3 other pid you x.1 size)) d v w (file-same d) opened (cut d n is v.0 v.1 opened.here size);
+        lists = λ d is v w opened. opened-same B program_of s other pid me you call (λ v x. A (CallRemainders.getdents_2 s pid me v.0 v.1) (CallRemainders.getdents_2 other pid you x.0 x.1)) d v w (file-same d) opened (listed v.0 v.1 _);
       }
 
       -- ---- checks for room that have the same result in related states
 
       module _ (roomy : (x y : State) (n : ℕ) → R x y → A (with_room x >>= (λ z. answers z n)) (with_room y >>= (λ z. answers z n))) where
-        opened-both : (f : OpenFlags) (n : ℕ) (t : Tree) → A (CallRests.open_7 s pid me (with_open_file s pid me f n t)) (CallRests.open_7 other pid you (with_open_file other pid you f n t))
+        opened-both : (f : OpenFlags) (n : ℕ) (t : Tree) → A (CallRemainders.open_7 s pid me (with_open_file s pid me f n t)) (CallRemainders.open_7 other pid you (with_open_file other pid you f n t))
         opened-both f n t =
             let fs : Numbered OpenFile = with_number s.files (least_free s.files) (new_open_file f n) in
             let more : Numbered Descriptor → Numbered Descriptor = λ ds. with_number ds (least_free ds) (record { file = least_free s.files; close_on_exec = f.close_on_exec }) in
-            subst (λ ds. A (CallRests.open_7 s pid me (with_open_file s pid me f n t)) (with_room (with_process (record other { tree = t; files = fs }) pid (record you { descriptors = more ds })) >>= (λ z. answers z (least_free ds))))
+            subst (λ ds. A (CallRemainders.open_7 s pid me (with_open_file s pid me f n t)) (with_room (with_process (record other { tree = t; files = fs }) pid (record you { descriptors = more ds })) >>= (λ z. answers z (least_free ds))))
             (sym o.same.descriptors) (roomy _ _ (least_free me.descriptors) (o.holds t fs (more me.descriptors)))
 
         pub others-room : RespectsRoom B program_of s other pid me you call
@@ -253,8 +253,8 @@ module _ (A : Attempt Effect → Attempt Effect → Type 0) (R : State → State
         others-files_roomy takes =
             others-files
             (λ d n is k file here may count few.
-            all-then A o.all _ _ refl (CallRests.write_3 s pid me k file count) (CallRests.write_3 other pid you k file count) (roomy _ _ count (written-both k file count (takes d n is count few))))
-            (λ d n is k file here size. all-then A o.all _ _ refl (CallRests.ftruncate_4 s pid me file size) (CallRests.ftruncate_4 other pid you file size) (roomy _ _ 0 (o.left _ s.files)))
+            all-then A o.all _ _ refl (CallRemainders.write_3 s pid me k file count) (CallRemainders.write_3 other pid you k file count) (roomy _ _ count (written-both k file count (takes d n is count few))))
+            (λ d n is k file here size. all-then A o.all _ _ refl (CallRemainders.ftruncate_4 s pid me file size) (CallRemainders.ftruncate_4 other pid you file size) (roomy _ _ 0 (o.left _ s.files)))
 
         -- all parts of the call respect the relation, if pledge, unveil and execve do
         pub others-respect : RespectsOwn B program_of s other pid me you call

@@ -8,9 +8,9 @@ use Rattle.std.proofs.lemmas.List.{length-map}
 use Rattle.pv_model.specs.Machine.{parent_of, adopt, is_unclaimed, adopter, end_process, Process, ProcessRecord, live, ended_record, State, live_process, process_at}
 use Rattle.pv_model.specs.Calls.Processes.{with_parent}
 use Rattle.pv_laws_states.specs.States.{IsRunning, IsPlaced, is_process_number, IsSolid}
-use Rattle.pv_laws_trees.proofs.Entries.{list_all-filter}
-use Rattle.pv_laws_trees.proofs.Generic.{filter-fewer}
-use Rattle.pv_laws_states.proofs.Members.{find_number_after, find_number_cases, find_number-list_all, live-found, found-live}
+use Rattle.pv_laws_trees.proofs.DirectoryEntries.{list_all-filter}
+use Rattle.pv_laws_trees.proofs.ListTests.{filter-fewer}
+use Rattle.pv_laws_states.proofs.ReferenceMembers.{find_number_after, find_number_cases, find_number-list_all, live-found, found-live}
 use Rattle.pv_laws_states.proofs.Processes.{find-put_same, find-put_other}
 use Rattle.pv_laws_states.proofs.ValidStates.{list_all-put_number, length-put_there, sorted-put_number}
 

@@ -12,12 +12,12 @@ use Rattle.pv_model.specs.declared.target.Target.TheVariants.{Directory as of_di
 use Rattle.pv_laws_states.specs.Held.{used}
 use Rattle.pv_laws_trees.specs.Preserved.{numbers_wanted, preserved}
 use Rattle.pv_laws_states.specs.States.{are_bytes, is_listed_name, IsOpenFile, is_target, is_table, IsRunning, IsPlaced, is_process_number, IsSolid, IsValid}
-use Rattle.pv_laws_trees.proofs.Entries.{reported, report}
-use Rattle.pv_laws_states.proofs.Members.{among-used, among-held_by, among-held_file, live-found}
-use Rattle.pv_laws_trees.proofs.Numbered.{keep-some, keep-passes, length-keep}
+use Rattle.pv_laws_trees.proofs.DirectoryEntries.{reported, report}
+use Rattle.pv_laws_states.proofs.ReferenceMembers.{among-used, among-held_by, among-held_file, live-found}
+use Rattle.pv_laws_trees.proofs.NumberedMaps.{keep-some, keep-passes, length-keep}
 use Rattle.pv_laws_states.proofs.Processes.{find-put_same, find-put_other, process_at-same, process_at-other}
-use Rattle.pv_laws_trees.proofs.Rooms.{smaller-fits, smaller-not_too_long, preserved-no_larger}
-use Rattle.pv_laws_states.proofs.Collect.{held_after, collect-well_formed, collect_once}
+use Rattle.pv_laws_trees.proofs.NodeRoom.{smaller-fits, smaller-not_too_long, preserved-no_larger}
+use Rattle.pv_laws_states.proofs.CollectedStates.{held_after, collect-well_formed, collect_once}
 use Rattle.pv_laws_trees.proofs.Collection.{wanted-held}
 
 -- ---- room
@@ -66,9 +66,9 @@ table-same t u (Some table) version same is = ap (λ b. nat_le (length table) 64
 held-stays : (s : State) (n : ℕ) → among (held_after s) n ≡ true → node_at (preserved s.tree (held_after s)) n ≡ node_at s.tree n
 held-stays s n is = keep-passes (among (numbers_wanted s.tree (held_after s))) s.tree.nodes n (wanted-held s.tree (held_after s) n is)
 
-pub collect-whole : (s : State) → IsSolid s → HasRoom s → IsValid (collect s)
+pub collect-valid : (s : State) → IsSolid s → HasRoom s → IsValid (collect s)
 unfolding collect
-collect-whole s solid room =
+collect-valid s solid room =
     let t : Tree = preserved s.tree (held_after s) in
     let fs : Numbered OpenFile = keep (among (used s)) s.files in
     record {
@@ -160,7 +160,7 @@ solid-with_process s pid p q is at running placed parent =
       processes = record {
         ascending = sorted-put_number pid (live q) s.processes ps.ascending;
         numbers = list_all-put_number (is_process_number s.last_process) pid (live q) s.processes
-            (Rattle.pv_laws_states.proofs.Members.find_number-list_all (is_process_number s.last_process) pid (live p) s.processes ps.numbers found) ps.numbers;
+            (Rattle.pv_laws_states.proofs.ReferenceMembers.find_number-list_all (is_process_number s.last_process) pid (live p) s.processes ps.numbers found) ps.numbers;
         count = subst (λ n. n ≤ 32) (sym (length-put_there pid (live q) (live p) s.processes ps.ascending found)) ps.count;
         last = ps.last;
         running = λ k r is'. with_process-cases (IsRunning r) s pid q k r is' (λ same value. subst IsRunning value running) (λ other was. ps.running k r was);

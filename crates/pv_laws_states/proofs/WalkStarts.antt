@@ -5,8 +5,8 @@ use Rattle.pv_model.specs.declared.call.Start.{Start}
 use Rattle.pv_model.specs.declared.call.Start.TheVariants.{WorkingDirectory, Descriptor as AtDescriptor}
 use Rattle.pv_model.specs.declared.errno.Errno.TheVariants.{EBADF, ENOTDIR}
 use Rattle.pv_model.specs.Machine.{◌>>◌, give, Bytes, directory_of, check_start, open_file, directory_of_file, start_directory, OpenFile, Process, State, is_directory_at, is_absolute}
-use Rattle.pv_laws_states.proofs.Attempts.{Leads, leads-following, leads-refuse_if, leads-demand}
-use Rattle.pv_laws_states.proofs.CallRests
+use Rattle.pv_laws_states.proofs.AttemptValues.{Leads, leads-following, leads-refuse_if, leads-demand}
+use Rattle.pv_laws_states.proofs.CallRemainders
 
 module _ (s : State) (pid : ℕ) (me : Process) where
   -- it is a directory if the working directory is one
@@ -21,7 +21,7 @@ module _ (s : State) (pid : ℕ) (me : Process) where
         | true ↦ λ here. here
         | false ↦
             leads-following (λ _. StartsWell there) (StartsWell there) (directory_of s pid me d) (give (tt {0}))
-            (leads-demand (λ _. StartsWell there) EBADF (open_file s me d) (CallRests.directory_of_1 s pid me) (λ (file : ℕ × OpenFile) is.
+            (leads-demand (λ _. StartsWell there) EBADF (open_file s me d) (CallRemainders.directory_of_1 s pid me) (λ (file : ℕ × OpenFile) is.
             leads-refuse_if (λ _. StartsWell there) ENOTDIR (not (is_directory_at s.tree file.1.node)) (give file.1.node) (λ dir here.
             ap (λ o. is_directory_at s.tree (directory_of_file me o)) is ∙ not-false (is_directory_at s.tree file.1.node) dir)))
             (λ well. well)

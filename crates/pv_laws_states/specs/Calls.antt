@@ -26,7 +26,7 @@ RefusedOnlyReports =
     (program_of : Bytes → Option Program) (s : State) (pid : ℕ) (call : Call) (e : Errno) (c : Cause)
     → (answer program_of s pid call).outcome ≡ Failed e c → OnlyReports s pid e (answer program_of s pid call).after
 
--- the rights of a process and what they apply to are unchanged
+-- the rights of a process and their objects are unchanged
 pub record SameRights (p q : Process) : Type 0 where
   pub promises : q.promises ≡ p.promises
   pub execpromises : q.execpromises ≡ p.execpromises
@@ -54,21 +54,21 @@ RefusedIsUnharmed =
     → (answer program_of s pid call).outcome ≡ Failed e c → IsUnharmed s pid (answer program_of s pid call).after
 
 -- a call that waits leaves the state unchanged
-abbrev pub BlockedLeaves : Type 0
-BlockedLeaves =
+abbrev pub BlockedLeavesState : Type 0
+BlockedLeavesState =
     (program_of : Bytes → Option Program) (s : State) (pid : ℕ) (call : Call)
     → (answer program_of s pid call).outcome ≡ Blocked → (answer program_of s pid call).after ≡ s
 
 -- the answer to a process that is not live: the state is unchanged
-pub record OfNobody (s : State) (pid : ℕ) (a : Answered) : Type 0 where
+pub record IsOfNoProcess (s : State) (pid : ℕ) (a : Answered) : Type 0 where
   pub not_live : process_at s pid ≡ None
   pub leaves : a.after ≡ s
   pub no_walks : a.walks ≡ 0
 
-abbrev pub GoneLeaves : Type 0
-GoneLeaves =
+abbrev pub GoneLeavesState : Type 0
+GoneLeavesState =
     (program_of : Bytes → Option Program) (s : State) (pid : ℕ) (call : Call)
-    → (answer program_of s pid call).outcome ≡ Gone → OfNobody s pid (answer program_of s pid call)
+    → (answer program_of s pid call).outcome ≡ Gone → IsOfNoProcess s pid (answer program_of s pid call)
 
 -- the calls that need no promise
 abbrev pub needs_nothing : Call → Bool
@@ -77,8 +77,8 @@ needs_nothing (Pledge promises execpromises) = true
 needs_nothing call = false
 
 -- these calls are answered under every set of promises
-abbrev pub AnsweredAlways : Type 0
-AnsweredAlways = (held : Option Promises) (call : Call) → IsTrue (needs_nothing call) → missing_promise held (needs call) ≡ None
+abbrev pub AlwaysAnswered : Type 0
+AlwaysAnswered = (held : Option Promises) (call : Call) → IsTrue (needs_nothing call) → missing_promise held (needs call) ≡ None
 
 -- under the empty set, every other call kills the process
 abbrev pub OthersKill : Type 0
@@ -99,8 +99,8 @@ NextNumber =
     → (answer program_of s pid Fork).outcome ≡ Value n → IsNewNumber s n (answer program_of s pid Fork).after
 
 -- a file length that the early test refuses makes the tree too long, if the file is referenced
-abbrev pub FarIsTooLong : Type 0
-FarIsTooLong =
+abbrev pub LargeIsTooLong : Type 0
+LargeIsTooLong =
     (t : Tree) (f : ℕ) (bytes : Bytes) (held : List ℕ)
     → IsTrue (is_file (node_at t f)) → IsTrue (among held f) → IsTrue (is_past_greatest t (length bytes))
     → IsTrue (is_too_long (preserved (with_content t f bytes) held))

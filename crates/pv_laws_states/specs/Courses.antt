@@ -1,4 +1,4 @@
--- Laws of the walks that calls make, and of what refuses calls there: unveil(2).
+-- Laws of the walks that calls make, and of the refusals of calls there: unveil(2).
 use Rattle.std.specs.Prelude.{◌≡◌, ◌⊎◌, ℕ, Bool, true, false, IsTrue, IsFalse, List, [], ◌∷◌, Option, None, Some, Ok}
 use Rattle.pv_model.specs.declared.call.Call.{Call}
 use Rattle.pv_model.specs.declared.call.Call.TheVariants.{Unveil}
@@ -19,7 +19,7 @@ is_of_table (ByUnveil entry) = true
 is_of_table Locked = true
 is_of_table cause = false
 
--- walks in sequence, each judged at its end
+-- walks in sequence, each checked at its end
 abbrev pub walks_in_sequence : State → Process → List Walk → Attempt (Unit {0})
 walks_in_sequence s me [] = give tt
 walks_in_sequence s me (w ∷ ws) = walk s me w >>= (λ place. judge s me w place >> walks_in_sequence s me ws)
@@ -35,15 +35,15 @@ IsStoppedEarly (done walks value) = ⊥
 IsStoppedEarly (refused walks errno cause) = (walks ≡ 0) × IsFalse (is_of_table cause)
 
 -- if a walk is refused, the call is refused; otherwise the table refuses nothing after the walks
-abbrev pub GoesAlong : Attempt (Unit {0}) → Attempt Effect → Type 0
-GoesAlong (done walks value) a = IsAfter walks a
-GoesAlong (refused walks errno cause) a = a ≡ refused walks errno cause
+abbrev pub IsOnCourse : Attempt (Unit {0}) → Attempt Effect → Type 0
+IsOnCourse (done walks value) a = IsAfter walks a
+IsOnCourse (refused walks errno cause) a = a ≡ refused walks errno cause
 
 -- each call other than unveil is refused before its first walk, or makes its walks
-abbrev pub CallsGoAlong : Type 0
-CallsGoAlong =
+abbrev pub CallsAreOnCourse : Type 0
+CallsAreOnCourse =
     (program_of : Bytes → Option Program) (s : State) (pid : ℕ) (me : Process) (call : Call) → IsFalse (is_unveil call)
-    → IsStoppedEarly (effect program_of s pid me call) ⊎ GoesAlong (walks_in_sequence s me (walks_of call)) (effect program_of s pid me call)
+    → IsStoppedEarly (effect program_of s pid me call) ⊎ IsOnCourse (walks_in_sequence s me (walks_of call)) (effect program_of s pid me call)
 
 -- no entry governs the place, or the entry that governs it lacks a permission
 abbrev pub IsRefusedAt : State → Process → Place → Perms → Option ℕ → Type 0

@@ -8,7 +8,7 @@ use Rattle.pv_laws_trees.specs.Preserved.{EachIsNamed}
 abbrev pub KeepsAllNamed : Type 0
 KeepsAllNamed = (s : State) → EachIsNamed s.tree → collect_nodes s ≡ s
 
--- the open files that descriptors of live processes refer to
+-- the open files to which descriptors of live processes refer
 abbrev pub used : State → List ℕ
 used s = flat_map (λ p. used_files p.1) (live_processes s.processes)
 
@@ -26,12 +26,12 @@ pub record IsCollected (s after : State) : Type 0 where
   pub last_process_stays : after.last_process ≡ s.last_process
 
 -- collection keeps exactly the open files in use and the wanted nodes
-abbrev pub KeepsExactly : Type 0
-KeepsExactly = (s : State) → IsCollected s (collect s)
+abbrev pub KeepsExactlyWanted : Type 0
+KeepsExactlyWanted = (s : State) → IsCollected s (collect s)
 
 -- collection is idempotent
-abbrev pub CollectsOnce : Type 0
-CollectsOnce = (s : State) → IsWellFormed s.tree → collect (collect s) ≡ collect s
+abbrev pub CollectionIsIdempotent : Type 0
+CollectionIsIdempotent = (s : State) → IsWellFormed s.tree → collect (collect s) ≡ collect s
 
 -- collection keeps a tree well-formed
 abbrev pub StaysWellFormed : Type 0

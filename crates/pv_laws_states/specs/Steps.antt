@@ -4,8 +4,8 @@ use Rattle.pv_model.specs.Machine.{Bytes, Program, ProcessRecord, live, ended_re
 use Rattle.pv_model.specs.Step.{run_then}
 
 -- a run over a concatenation is the concatenation of runs
-abbrev pub RunsJoin : Type 0
-RunsJoin =
+abbrev pub RunsConcatenate : Type 0
+RunsConcatenate =
     (program_of : Bytes → Option Program) (before after : List ℕ) (s : State)
     → run program_of (before ++ after) s ≡ run_then (run program_of before s) (run program_of after)
 
@@ -16,13 +16,13 @@ IsSameOutside (ended_record above status) (ended_record parent code) = (above �
 IsSameOutside _ _ = ⊥
 
 -- two process tables are equal except for the registers and buffers of all processes but one
-abbrev pub AreAlikeBut : ℕ → List (ℕ × ProcessRecord) → List (ℕ × ProcessRecord) → Type 0
-AreAlikeBut pid [] [] = Unit {0}
-AreAlikeBut pid (a ∷ rest) (b ∷ bs) = (a.0 ≡ b.0) × IsSameOutside a.1 b.1 × (b.0 ≡ pid → a.1 ≡ b.1) × AreAlikeBut pid rest bs
-AreAlikeBut pid _ _ = ⊥
+abbrev pub AreSameExceptInsides : ℕ → List (ℕ × ProcessRecord) → List (ℕ × ProcessRecord) → Type 0
+AreSameExceptInsides pid [] [] = Unit {0}
+AreSameExceptInsides pid (a ∷ rest) (b ∷ bs) = (a.0 ≡ b.0) × IsSameOutside a.1 b.1 × (b.0 ≡ pid → a.1 ≡ b.1) × AreSameExceptInsides pid rest bs
+AreSameExceptInsides pid _ _ = ⊥
 
 -- the lines of a step do not depend on the registers and buffers of other processes
 abbrev pub IgnoresOthers : Type 0
 IgnoresOthers =
-    (program_of : Bytes → Option Program) (s : State) (pid : ℕ) (others : List (ℕ × ProcessRecord)) → AreAlikeBut pid others s.processes
+    (program_of : Bytes → Option Program) (s : State) (pid : ℕ) (others : List (ℕ × ProcessRecord)) → AreSameExceptInsides pid others s.processes
     → (step program_of (record s { processes = others }) pid).lines ≡ (step program_of s pid).lines

@@ -1,6 +1,6 @@
 //! Laws of system calls.
 
-ghost use Rattle.pv_laws_states.specs.Calls.{RefusedOnlyReports, RefusedIsUnharmed, BlockedLeaves, GoneLeaves, AnsweredAlways, OthersKill, NextNumber, FarIsTooLong};
+ghost use Rattle.pv_laws_states.specs.Calls.{RefusedOnlyReports, RefusedIsUnharmed, BlockedLeavesState, GoneLeavesState, AlwaysAnswered, OthersKill, NextNumber, LargeIsTooLong};
 
 /// A refused call moves its caller to the next line with the error in its registers, and changes nothing else in the
 /// state.
@@ -15,17 +15,17 @@ pub fn refused_is_unharmed()
 
 /// A call that waits leaves the state unchanged.
 pub fn blocked_leaves_all()
-    ensures { BlockedLeaves }
+    ensures { BlockedLeavesState }
 {}
 
 /// If a call answers `Gone`, its process is not live and the state is unchanged.
 pub fn gone_leaves_all()
-    ensures { GoneLeaves }
+    ensures { GoneLeavesState }
 {}
 
 /// exit and pledge need no promise.
 pub fn answered_always()
-    ensures { AnsweredAlways }
+    ensures { AlwaysAnswered }
 {}
 
 /// Under the empty set of promises, every call other than exit and pledge kills the process.
@@ -41,5 +41,5 @@ pub fn next_number()
 /// If the early length test of write or ftruncate refuses a length, the resulting tree would contain a node that is too
 /// long.
 pub fn far_is_too_long()
-    ensures { FarIsTooLong }
+    ensures { LargeIsTooLong }
 {}

@@ -1,12 +1,12 @@
-//! Laws of the walks that calls make, and of what refuses calls there.
+//! Laws of the walks that calls make, and of the refusals of calls there.
 
-ghost use Rattle.pv_laws_states.specs.Courses.{CallsGoAlong, RefusalsNameTheEntry, RefusalsNameTheLock, LockRefusesUnveils};
+ghost use Rattle.pv_laws_states.specs.Courses.{CallsAreOnCourse, RefusalsNameTheEntry, RefusalsNameTheLock, LockRefusesUnveils};
 
 /// Each call other than unveil is refused before its first walk, and not by the table, or makes the walks of the one
-/// table of walks in order, each judged at its end for the permissions that it needs. If a walk is refused, so is the
-/// call; after the walks the table refuses nothing.
+/// table of walks in order, each checked at its end for the permissions that it needs. If a walk is refused, the call
+/// is refused; after the walks the table refuses nothing.
 pub fn calls_go_along()
-    ensures { CallsGoAlong }
+    ensures { CallsAreOnCourse }
 {}
 
 /// If a refusal names an entry of the table, or reports that there is no entry, it results from the place where the

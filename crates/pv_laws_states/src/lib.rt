@@ -5,9 +5,9 @@
 //!
 //! - `states`: the invariant of all states of a run, and that calls, steps and runs preserve it.
 //! - `held`: which nodes and open files are referenced, and which are collected.
-//! - `calls`: what refused, waiting and killed calls change, and process numbers. `courses`: the walks that calls make,
-//!   and what refuses calls there.
-//! - `steps`: concatenation of runs, and what the lines of a step do not depend on.
+//! - `calls`: the changes by refused, waiting and killed calls, and process numbers. `courses`: the walks that calls
+//!   make, and the refusals of calls there.
+//! - `steps`: concatenation of runs, and the independence of the lines of a step.
 #![tactic(auto)]
 
 pub mod calls;

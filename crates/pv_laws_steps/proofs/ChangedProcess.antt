@@ -9,8 +9,8 @@ use Rattle.std.proofs.lemmas.Bool.{eqb-true, ne_eqb}
 use Rattle.pv_model.specs.Machine.{is_empty, parent_of, adopt, is_unclaimed, adopter, end_process, statuses, among, used_files, held_by_process, collect, present, keep, Process, ProcessRecord, live, ended_record, State, live_process, process_at, with_process}
 use Rattle.pv_model.specs.Calls.Processes.{with_parent, adopt_orphans}
 use Rattle.pv_laws_trees.specs.Preserved.{preserved}
-use Rattle.pv_laws_states.proofs.Members.{all_of}
-use Rattle.pv_laws_steps.specs.Beside.{change_live, change_at, with_change, AppearsAlike}
+use Rattle.pv_laws_states.proofs.ReferenceMembers.{all_of}
+use Rattle.pv_laws_steps.specs.Beside.{change_live, change_at, with_change, HasSameReferences}
 
 -- a change that keeps the parent, whichever it is
 pub record KeepsParent (f : Process → Process) : Type 0 where
@@ -172,10 +172,10 @@ module _ (k : ℕ) (f : Process → Process) where
   -- the change keeps the references of each live process with the number
   abbrev pub Fits : List (ℕ × ProcessRecord) → Type 0
   Fits [] = Unit {0}
-  Fits ((j, live p) ∷ es) = (j ≡ k → AppearsAlike p (f p)) × Fits es
+  Fits ((j, live p) ∷ es) = (j ≡ k → HasSameReferences p (f p)) × Fits es
   Fits ((j, ended_record parent status) ∷ es) = Fits es
 
-  all-changed : (g : Process → List ℕ) → ((p : Process) → AppearsAlike p (f p) → g (f p) ≡ g p) → (es : List (ℕ × ProcessRecord)) → Fits es → all_of g (changed es) ≡ all_of g es
+  all-changed : (g : Process → List ℕ) → ((p : Process) → HasSameReferences p (f p) → g (f p) ≡ g p) → (es : List (ℕ × ProcessRecord)) → Fits es → all_of g (changed es) ≡ all_of g es
   all-changed g same [] fit = refl
   all-changed g same ((j, live p) ∷ es) fit = by (j == k) refl (all-changed g same es fit.1)
     where
@@ -188,10 +188,10 @@ module _ (k : ℕ) (f : Process → Process) where
       by true rest = rest
       by false rest = rest
 
-  held-alike : (p : Process) → AppearsAlike p (f p) → held_by_process (f p) ≡ held_by_process p
+  held-alike : (p : Process) → HasSameReferences p (f p) → held_by_process (f p) ≡ held_by_process p
   held-alike p is = ap₂ (λ d (hs : List ℕ). d ∷ hs) is.directory is.held
 
-  used-alike : (p : Process) → AppearsAlike p (f p) → used_files (f p) ≡ used_files p
+  used-alike : (p : Process) → HasSameReferences p (f p) → used_files (f p) ≡ used_files p
   used-alike p is = ap (λ ds. map (λ (d : Rattle.pv_model.specs.State.Descriptor). d.file) (present ds)) is.descriptors
 
   pub collect-changed : (s : State) → Fits s.processes → collect (with_change s k f) ≡ with_change (collect s) k f
@@ -202,7 +202,7 @@ module _ (k : ℕ) (f : Process → Process) where
 
   -- ---- the condition is preserved
 
-  fits-cons : (j : ℕ) (r : ProcessRecord) (es : List (ℕ × ProcessRecord)) → ((p : Process) → r ≡ live p → j ≡ k → AppearsAlike p (f p)) → Fits es → Fits ((j, r) ∷ es)
+  fits-cons : (j : ℕ) (r : ProcessRecord) (es : List (ℕ × ProcessRecord)) → ((p : Process) → r ≡ live p → j ≡ k → HasSameReferences p (f p)) → Fits es → Fits ((j, r) ∷ es)
   fits-cons j (live p) es alike fit = (alike p refl, fit)
   fits-cons j (ended_record parent status) es alike fit = fit
 
@@ -210,11 +210,11 @@ module _ (k : ℕ) (f : Process → Process) where
   fits-tail (j, live p) es fit = fit.1
   fits-tail (j, ended_record parent status) es fit = fit
 
-  fits-head : (e : ℕ × ProcessRecord) (es : List (ℕ × ProcessRecord)) → Fits (e ∷ es) → (p : Process) → e.1 ≡ live p → e.0 ≡ k → AppearsAlike p (f p)
-  fits-head (j, live q) es fit p is here = let same : q ≡ p = cc is in subst (λ (x : Process). AppearsAlike x (f x)) same (fit.0 here)
+  fits-head : (e : ℕ × ProcessRecord) (es : List (ℕ × ProcessRecord)) → Fits (e ∷ es) → (p : Process) → e.1 ≡ live p → e.0 ≡ k → HasSameReferences p (f p)
+  fits-head (j, live q) es fit p is here = let same : q ≡ p = cc is in subst (λ (x : Process). HasSameReferences x (f x)) same (fit.0 here)
   fits-head (j, ended_record parent status) es fit p is here = cc is
 
-  pub fits-put : (j : ℕ) (r : ProcessRecord) (es : List (ℕ × ProcessRecord)) → ((p : Process) → r ≡ live p → j ≡ k → AppearsAlike p (f p)) → Fits es → Fits (put nat_cmp j r es)
+  pub fits-put : (j : ℕ) (r : ProcessRecord) (es : List (ℕ × ProcessRecord)) → ((p : Process) → r ≡ live p → j ≡ k → HasSameReferences p (f p)) → Fits es → Fits (put nat_cmp j r es)
   fits-put j r [] alike fit = fits-cons j r [] alike tt
   fits-put j r (e ∷ es) alike fit = by (nat_cmp j e.0) refl (fits-put j r es alike (fits-tail e es fit))
     where
@@ -232,8 +232,8 @@ module _ (k : ℕ) (f : Process → Process) where
       by false rest = rest
 
   module _ (keeps : KeepsParent f) where
-    alike-parent : (p : Process) (n : ℕ) → AppearsAlike p (f p) → AppearsAlike (record p { parent = n }) (f (record p { parent = n }))
-    alike-parent p n is = subst (AppearsAlike (record p { parent = n })) (sym (keeps.whoever p n)) (record { directory = is.directory; descriptors = is.descriptors; held = is.held })
+    alike-parent : (p : Process) (n : ℕ) → HasSameReferences p (f p) → HasSameReferences (record p { parent = n }) (f (record p { parent = n }))
+    alike-parent p n is = subst (HasSameReferences (record p { parent = n })) (sym (keeps.whoever p n)) (record { directory = is.directory; descriptors = is.descriptors; held = is.held })
 
     fits-adopt : (old new : ℕ) (es : List (ℕ × ProcessRecord)) → Fits es → Fits (map (adopt old new) es)
     fits-adopt old new [] fit = tt

@@ -12,7 +12,7 @@ use Rattle.std.specs.Prelude.{true}
 use Rattle.pv_model.specs.declared.version.Version.TheVariants.{V1}
 use Rattle.pv_laws_states.specs.ExampleStates.{no_programs, state_after}
 use Rattle.pv_laws_states.proofs.ExampleStates.{or_first}
-use Rattle.pv_laws_steps.specs.Offsets.{GoesBy}
+use Rattle.pv_laws_steps.specs.Offsets.{DependsOnOffset}
 use Rattle.pv_laws_steps.specs.Writes.{LeavesBytes}
 use Rattle.pv_laws_steps.proofs.NextCalls.{goes-by_none, leaves-bytes}
 
@@ -54,7 +54,7 @@ unfolding machine_on_literals
 node-following = refl
 
 left-open : (d : ℤ) (m : ℕ) (file : OpenFile) → descriptor_of (TheCall.Read (pos 0) (pos 5)) ≡ Some d → open_file unlinking reader d ≡ Some (m, file)
-    → (¬ GoesBy unlinking 2 m) × (node_at (step no_programs unlinking 2).after.tree file.node ≡ node_at unlinking.tree file.node)
+    → (¬ DependsOnOffset unlinking 2 m) × (node_at (step no_programs unlinking 2).after.tree file.node ≡ node_at unlinking.tree file.node)
 left-open d m file own opened =
     let first : pos 0 ≡ d = cc own in
     let same : read_open ≡ file = ap or_none (sym reader-opened ∙ ap (open_file unlinking reader) first ∙ opened) in (
@@ -176,7 +176,7 @@ stays-within m file count opened counted =
     subst (λ (f : OpenFile). write_end asking_size 1 writer f count ≤ length (file_bytes asking_size f.node)) same
     (subst (λ (i : ℕ). write_end asking_size 1 writer written_open i ≤ length (file_bytes asking_size 2)) two (omega (arith, five-there)))
 
-left-written : (m : ℕ) (file : OpenFile) → open_file asking_size writer (pos 0) ≡ Some (m, file) → (¬ GoesBy asking_size 2 m) × LeavesBytes asking_size 2 file.node
+left-written : (m : ℕ) (file : OpenFile) → open_file asking_size writer (pos 0) ≡ Some (m, file) → (¬ DependsOnOffset asking_size 2 m) × LeavesBytes asking_size 2 file.node
 left-written m file opened =
     let call : Call = TheCall.Stat (codes "/x") in (
       goes-by_none asking_size 2 asker call asker-there asker-next refl m,

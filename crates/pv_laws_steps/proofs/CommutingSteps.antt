@@ -8,13 +8,13 @@ use Rattle.std.specs.declared.cmp.Ordering.TheVariants.{Less, Equal, Greater}
 use Rattle.std.proofs.lemmas.Bool.{and_parts, eqb-true, eq-eqb}
 use Rattle.pv_model.specs.Machine.{Bytes, Program, Process, ProcessRecord, live, State, process_at, with_process, step}
 use Rattle.pv_laws_states.specs.States.{IsValid}
-use Rattle.pv_laws_states.proofs.Members.{live-found}
+use Rattle.pv_laws_states.proofs.ReferenceMembers.{live-found}
 use Rattle.pv_laws_states.proofs.Processes.{number-itself}
 use Rattle.pv_laws_states.proofs.ProcessInsides.{not_before}
-use Rattle.pv_laws_steps.specs.Beside.{change_live, with_change, become, StepsBeside}
+use Rattle.pv_laws_steps.specs.Beside.{change_live, with_change, become, StepsWithOtherProcess}
 use Rattle.pv_laws_steps.specs.Commuting.{Commute, StaysInside}
 use Rattle.pv_laws_steps.proofs.ChangedProcess.{changed}
-use Rattle.pv_laws_steps.proofs.BesideSteps.{others-alter-nothing}
+use Rattle.pv_laws_steps.proofs.StepsOfOthers.{others-alter-nothing}
 
 -- ---- storing a process is a change of it
 
@@ -97,9 +97,9 @@ changes-commute j k f g apart (e ∷ es) = ap₂ (λ r (xs : List (ℕ × Proces
 
 module _ (program_of : Bytes → Option Program) (s : State) (whole : IsValid s) where
   -- a step after one of another process that stays inside its process
-  pub following-inside : (j k : ℕ) → j ≢ k → (is : StaysInside program_of s k) → StepsBeside k (become is.following) (step program_of s j) (step program_of (step program_of s k).after j)
+  pub following-inside : (j k : ℕ) → j ≢ k → (is : StaysInside program_of s k) → StepsWithOtherProcess k (become is.following) (step program_of s j) (step program_of (step program_of s k).after j)
   following-inside j k apart is =
-      subst (λ x. StepsBeside k (become is.following) (step program_of s j) (step program_of x j)) (sym (is.after ∙ with-is-change s k is.before is.following whole is.at is.parent))
+      subst (λ x. StepsWithOtherProcess k (become is.following) (step program_of s j) (step program_of x j)) (sym (is.after ∙ with-is-change s k is.before is.following whole is.at is.parent))
       (others-alter-nothing program_of s j k is.before is.following whole (λ same. apart (sym same)) is.at is.alike)
 
   pub inside-commute : (j k : ℕ) → j ≢ k → StaysInside program_of s j → StaysInside program_of s k → Commute program_of s j k

@@ -8,10 +8,10 @@ use Rattle.pv_laws_runs.specs.OfLawsAccess.Justice.{HasEffectNext}
 use Rattle.pv_laws_runs.proofs.OfLawsAccess.SimilarTrees.{GoesByLength, IsExact, IsFine}
 use Rattle.pv_laws_steps.specs.Beside.{with_change, become}
 use Rattle.pv_laws_steps.specs.Writes.{LeavesBytes}
-use Rattle.pv_laws_steps.proofs.ChangedPairs.{SteppedBeside}
-use Rattle.pv_laws_steps.proofs.BesideSteps.{others-alter-nothing}
-use Rattle.pv_laws_steps.proofs.InwardSteps.{alike-held}
-use Rattle.pv_laws_steps.proofs.OtherBytes.{fits-bytes, long-bytes, settled-bytes, whole-bytes, goes-along}
+use Rattle.pv_laws_steps.proofs.ChangedPairs.{SteppedPair}
+use Rattle.pv_laws_steps.proofs.StepsOfOthers.{others-alter-nothing}
+use Rattle.pv_laws_steps.proofs.InsideSteps.{alike-held}
+use Rattle.pv_laws_steps.proofs.OtherBytes.{fits-bytes, long-bytes, settled-bytes, valid-bytes, goes-along}
 use Rattle.pv_laws_steps.proofs.ExchangedSteps.{after_k}
 
 module _ (size : ℕ → ℕ) (fine : IsFine size) where
@@ -66,11 +66,11 @@ module _ (size : ℕ → ℕ) (fine : IsFine size) where
 
     -- the step of k follows the change of these bytes and of the inside of the other process
     pub passes-content : (a : Content s t k) (q : Process) → SameHolds p q
-        → SteppedBeside (λ z. put_content s t k a (with_change z j (become q))) (step program_of s k) (step program_of (put_content s t k a (with_change s j (become q))) k)
+        → SteppedPair (λ z. put_content s t k a (with_change z j (become q))) (step program_of s k) (step program_of (put_content s t k a (with_change s j (become q))) k)
     passes-content a q same =
         let s' : State = with_bytes s a.node a.bytes in
         let along = goes-along size fine program_of k a.node s a.bytes whole a.file a.long a.good a.leaves a.exact in
-        let inside = others-alter-nothing program_of s' k j p q (whole-bytes size fine s a.node a.bytes a.long whole a.file a.good) apart at (alike-held p q same) in
+        let inside = others-alter-nothing program_of s' k j p q (valid-bytes size fine s a.node a.bytes a.long whole a.file a.good) apart at (alike-held p q same) in
         record {
           outcome = inside.outcome ∙ along.outcome;
           lines = inside.lines ∙ along.lines;

@@ -8,7 +8,7 @@ use Rattle.pv_model.specs.declared.outcome.Outcome.TheVariants.{Killed}
 use Rattle.pv_model.specs.declared.promise.Promise.{Promise}
 use Rattle.pv_model.specs.Machine.{at_next_line, update_live, update, effect, Attempt, after_walks, ◌>>=◌, ◌>>◌, refuse_if, demand, Bytes, natural, is_past_greatest, with_content, Effect, answers, with_room, open_file, bytes_of, resize, collect, needs, at_number, calls_for, next, missing_promise, is_too_long, fits, is_file, OpenFile, Program, Process, State, writes, process_at, with_process, with_tree, step, file_bytes, node_at}
 use Rattle.pv_laws_states.specs.States.{is_byte, EncodesPrograms, IsValid}
-use Rattle.pv_laws_states.proofs.ByFile.{open_file-at, file-bytes}
+use Rattle.pv_laws_states.proofs.ValidByFile.{open_file-at, file-bytes}
 use Rattle.pv_laws_states.proofs.Processes.{update-with}
 use Rattle.pv_laws_states.proofs.ProcessInsides.{SameHolds, list_all-take, list_all-replicate, list_all-both}
 use Rattle.pv_laws_runs.specs.OfLawsAccess.Growth.{IsSameFile}
@@ -17,13 +17,13 @@ use Rattle.pv_laws_runs.proofs.OfLawsAccess.SimilarCalls.{size-length}
 use Rattle.pv_laws_steps.specs.Beside.{with_change, become}
 use Rattle.pv_laws_steps.specs.Commuting.{Commute}
 use Rattle.pv_laws_steps.specs.Growing.{KeepsBlocks, LeavesCut}
-use Rattle.pv_laws_steps.proofs.ChangedPairs.{SteppedBeside}
+use Rattle.pv_laws_steps.proofs.ChangedPairs.{SteppedPair}
 use Rattle.pv_laws_steps.proofs.ContentSteps.{Content, put_content, settled-content, settled-content_u, short-content, short-content_u, fit-content, fit-content_u, passes-content}
-use Rattle.pv_laws_steps.proofs.LeftOpenFiles.{OpenAlike, alike-open}
-use Rattle.pv_laws_steps.proofs.LoneSteps.{commute-where}
-use Rattle.pv_laws_steps.proofs.Orphans.{orphan}
+use Rattle.pv_laws_steps.proofs.KeptOpenFiles.{OpenAlike, alike-open}
+use Rattle.pv_laws_steps.proofs.IndependentSteps.{commute-where}
+use Rattle.pv_laws_steps.proofs.ParentIndependence.{orphan}
 use Rattle.pv_laws_steps.proofs.OtherBytes.{bytes-left, not_by-length, may-be_long}
-use Rattle.pv_laws_steps.proofs.ExchangedSteps.{acts, Two, two-after, two-refused, two-demand, after_k, whole-following, heir, quiet, quiet-following, passes-by, commute-steps, call-twice}
+use Rattle.pv_laws_steps.proofs.ExchangedSteps.{acts, Two, two-after, two-refused, two-demand, after_k, valid-following, heir, quiet, quiet-following, passes-by, commute-steps, call-twice}
 use Rattle.pv_laws_steps.proofs.WriteSteps.{roomy, written-file}
 
 module _ (program_of : Bytes → Option Program) (encodes : EncodesPrograms program_of) (s : State) (j k : ℕ) (p : Process) (whole : IsValid s) (apart : j ≢ k) (at : process_at s j ≡ Some p) where
@@ -34,7 +34,7 @@ module _ (program_of : Bytes → Option Program) (encodes : EncodesPrograms prog
   n = heir program_of encodes s j k p whole apart at
 
   whole_u : IsValid u
-  whole_u = whole-following program_of encodes s j k p whole apart at
+  whole_u = valid-following program_of encodes s j k p whole apart at
 
   abbrev now : Process
   now = at_next_line p
@@ -85,7 +85,7 @@ module _ (program_of : Bytes → Option Program) (encodes : EncodesPrograms prog
       ap collect (pushes a (with_process u j q) h ∙ ap (act a) (update-with u j h q))
       ∙ settled-content_u blocks blocks-fine s u k a (with_process u j (h q)) refl (quiet-following program_of encodes s j k p whole apart at (h q) same)
 
-  passes : (o : Option A) (q : Process) → SameHolds p q → SteppedBeside (λ z. acts act o (with_change z j (become q))) (step program_of s k) (step program_of (acts act o (with_change s j (become q))) k)
+  passes : (o : Option A) (q : Process) → SameHolds p q → SteppedPair (λ z. acts act o (with_change z j (become q))) (step program_of s k) (step program_of (acts act o (with_change s j (become q))) k)
   passes None q same = passes-by program_of encodes s j k p whole apart at q same
   passes (Some a) q same = passes-content blocks blocks-fine program_of encodes s j k p whole apart at a q same
 

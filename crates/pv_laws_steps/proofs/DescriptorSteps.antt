@@ -11,22 +11,22 @@ use Rattle.pv_model.specs.declared.outcome.Outcome.TheVariants.{Killed}
 use Rattle.pv_model.specs.declared.promise.Promise.{Promise}
 use Rattle.pv_model.specs.Machine.{Answered, at_next_line, effect, answer, answer_by_attempt, Attempt, done, refused, ◌>>=◌, ◌>>◌, refuse_if, demand, Bytes, with_result, Effect, returns, answers, errno_number, collect, among, needs, Numbered, at_number, with_number, without_number, least_free, calls_for, next, missing_promise, Descriptor, Program, Process, State, process_at, with_process, OpenFile, Stepped, step, step_by}
 use Rattle.pv_model.specs.Calls.Descriptors.{with_duplicate}
-use Rattle.pv_laws_trees.proofs.Numbered.{with_number-same_within, with_number-other_within, without_number-same, without_number-other, least_free-within, least_free-free, keep-some, keep-all}
+use Rattle.pv_laws_trees.proofs.NumberedMaps.{with_number-same_within, with_number-other_within, without_number-same, without_number-other, least_free-within, least_free-free, keep-some, keep-all}
 use Rattle.pv_laws_states.specs.Held.{used}
 use Rattle.pv_laws_states.specs.States.{EncodesPrograms, IsValid}
-use Rattle.pv_laws_states.proofs.Members.{among-used, used-among}
-use Rattle.pv_laws_states.proofs.Outcomes.{at_call}
+use Rattle.pv_laws_states.proofs.ReferenceMembers.{among-used, used-among}
+use Rattle.pv_laws_states.proofs.CallOutcomes.{at_call}
 use Rattle.pv_laws_states.proofs.Processes.{with_process-twice, process_at-same, files-update}
-use Rattle.pv_laws_states.proofs.Collect.{files-collect}
-use Rattle.pv_laws_runs.proofs.OfLawsAccess.Ends.{step-is}
+use Rattle.pv_laws_states.proofs.CollectedStates.{files-collect}
+use Rattle.pv_laws_runs.proofs.OfLawsAccess.ProcessesAfterEnds.{step-is}
 use Rattle.pv_laws_steps.specs.Beside.{with_change}
 use Rattle.pv_laws_steps.specs.Commuting.{Commute}
 use Rattle.pv_laws_steps.specs.Holding.{changes_descriptors, closes_number, HasOtherDescriptor, LeavesOpenFiles, LeavesTree}
 use Rattle.pv_laws_steps.proofs.ChangedProcess.{KeepsParent, process-changed}
 use Rattle.pv_laws_steps.proofs.ReferenceSteps.{gives, refused-commute}
 use Rattle.pv_laws_steps.proofs.OtherReferences.{UsesNoMore, KeepsNodes, SameUse, collect-use, use-left, found-same, change-is}
-use Rattle.pv_laws_steps.proofs.LoneSteps.{by-promise, commute-where}
-use Rattle.pv_laws_steps.proofs.Orphans.{orphan}
+use Rattle.pv_laws_steps.proofs.IndependentSteps.{by-promise, commute-where}
+use Rattle.pv_laws_steps.proofs.ParentIndependence.{orphan}
 use Rattle.pv_laws_steps.proofs.OwnSteps.{after_s, own-commute}
 use Rattle.pv_laws_steps.proofs.ExchangedSteps.{answer-held, answer-lacking, after_k, heir}
 

@@ -7,15 +7,15 @@ use Rattle.pv_model.specs.declared.outcome.Outcome.TheVariants.{Killed}
 use Rattle.pv_model.specs.declared.promise.Promise.{Promise}
 use Rattle.pv_model.specs.Machine.{at_next_line, effect, Attempt, done, after_walks, ◌>>=◌, ◌>>◌, give, refuse_if, demand, Bytes, directory_of, with_result, Effect, returns, answers, open_file_of, open_file, needs, at_number, calls_for, next, missing_promise, OpenFile, Descriptor, Program, Process, State, process_at, with_process, with_tree, step, Tree, is_directory_at}
 use Rattle.pv_laws_states.specs.States.{EncodesPrograms, IsValid}
-use Rattle.pv_laws_states.proofs.Outcomes.{at_call}
-use Rattle.pv_laws_runs.proofs.OfLawsAccess.Ends.{whole-in_order}
+use Rattle.pv_laws_states.proofs.CallOutcomes.{at_call}
+use Rattle.pv_laws_runs.proofs.OfLawsAccess.ProcessesAfterEnds.{valid-in_order}
 use Rattle.pv_laws_runs.proofs.OfLawsAccess.OtherOpenFiles.{others-files}
 use Rattle.pv_laws_steps.specs.Commuting.{Commute}
-use Rattle.pv_laws_steps.specs.Holding.{changes_directory, LeavesTree, LeavesWay}
+use Rattle.pv_laws_steps.specs.Holding.{changes_directory, LeavesTree, LeavesDestination}
 use Rattle.pv_laws_steps.proofs.ChangedProcess.{KeepsParent}
 use Rattle.pv_laws_steps.proofs.OtherReferences.{UsesNoMore}
-use Rattle.pv_laws_steps.proofs.LoneSteps.{commute-where}
-use Rattle.pv_laws_steps.proofs.Orphans.{orphan}
+use Rattle.pv_laws_steps.proofs.IndependentSteps.{commute-where}
+use Rattle.pv_laws_steps.proofs.ParentIndependence.{orphan}
 use Rattle.pv_laws_steps.proofs.OwnSteps.{Becomes, becomes-bind, becomes-then, becomes, becomes-there, become-commute, used-same, files-stay, own-commute}
 use Rattle.pv_laws_steps.proofs.ExchangedSteps.{after_k, heir}
 
@@ -85,7 +85,7 @@ module _ (program_of : Bytes → Option Program) (encodes : EncodesPrograms prog
   abbrev by_file : Tree → Option (ℕ × OpenFile) → Attempt ℕ
   by_file u o = demand EBADF o >>= (λ v. refuse_if ENOTDIR (not (is_directory_at u v.1.node)) >> give v.1.node)
 
-  directory-same : (d : ℤ) → LeavesWay program_of s p (TheCall.Fchdir d) k → by_file t.tree (open_file t p d) ≡ by_file s.tree (open_file s p d)
+  directory-same : (d : ℤ) → LeavesDestination program_of s p (TheCall.Fchdir d) k → by_file t.tree (open_file t p d) ≡ by_file s.tree (open_file s p d)
   directory-same (negsuc e) way = refl
   directory-same (pos e) way = by (at_number p.descriptors e) refl
     where
@@ -93,7 +93,7 @@ module _ (program_of : Bytes → Option Program) (encodes : EncodesPrograms prog
       found v is None none = let some : is_some (at_number s.files v.file) ≡ true = (whole.processes.placed j p at).opens e v is in let no : is_some (at_number s.files v.file) ≡ false = ap is_some none in cc
       found v is (Some file) there =
           let own : open_file s p (pos e) ≡ Some (v.file, file) = ap (open_file_of s) is ∙ ap (option_map (λ (o : OpenFile). (v.file, o))) there in
-          let left = others-files program_of s k (whole-in_order s whole) j p e v file apart at is there in
+          let left = others-files program_of s k (valid-in_order s whole) j p e v file apart at is there in
           let own_t : open_file t p (pos e) ≡ Some (v.file, left.0) = ap (open_file_of t) is ∙ ap (option_map (λ (o : OpenFile). (v.file, o))) left.1 in
           ap (by_file t.tree) own_t
           ∙ ap (λ m. after_walks 0 (refuse_if ENOTDIR (not (is_directory_at t.tree m)) >> give m)) left.2.node
@@ -104,7 +104,7 @@ module _ (program_of : Bytes → Option Program) (encodes : EncodesPrograms prog
       by None is = ap (λ o. by_file t.tree (open_file_of t o)) is ∙ sym (ap (λ o. by_file s.tree (open_file_of s o)) is)
       by (Some v) is = found v is (at_number s.files v.file) refl
 
-  call-enters : (call : Call) → changes_directory call ≡ true → LeavesWay program_of s p call k → Enters s t j n now (effect program_of (at_call s j p) j now call) (effect program_of (at_call t j (orphan n p)) j (orphan n now) call)
+  call-enters : (call : Call) → changes_directory call ≡ true → LeavesDestination program_of s p call k → Enters s t j n now (effect program_of (at_call s j p) j now call) (effect program_of (at_call t j (orphan n p)) j (orphan n now) call)
   call-enters (TheCall.Fchdir d) is way = fchdir-enters s t j n now program_of d (directory-same d way)
   call-enters (TheCall.Chdir path) is way = chdir-enters s t j n now way program_of path
   call-enters call is way = cc is
@@ -119,7 +119,7 @@ module _ (program_of : Bytes → Option Program) (encodes : EncodesPrograms prog
   fewer : (d : ℕ) → UsesNoMore p.descriptors (f d p).descriptors
   fewer d i v has = (i, v, has, refl)
 
-  directory-commutes : (call : Call) → next p ≡ calls_for call → changes_directory call ≡ true → LeavesTree program_of s j → LeavesWay program_of s p call k → missing_promise p.promises (needs call) ≡ None
+  directory-commutes : (call : Call) → next p ≡ calls_for call → changes_directory call ≡ true → LeavesTree program_of s j → LeavesDestination program_of s p call k → missing_promise p.promises (needs call) ≡ None
       → Commute program_of s j k
   directory-commutes call comes changes leaves way held =
       become-commute program_of encodes s j k p whole apart at call comes held (HasOther now) (call-enters call changes way)
@@ -130,6 +130,6 @@ module _ (program_of : Bytes → Option Program) (encodes : EncodesPrograms prog
       (files-stay program_of encodes s j k p whole apart at call comes held (f d) (keeps d) (fewer d) w 0 q is_given one two (used-same j (f d) (λ r. refl) s)))
 
 pub directories-commute : (program_of : Bytes → Option Program) → EncodesPrograms program_of → (s : State) (j k : ℕ) (p : Process) (call : Call) → IsValid s → j ≢ k → process_at s j ≡ Some p → next p ≡ calls_for call
-    → changes_directory call ≡ true → ((a : Promise) → (step program_of s j).outcome ≢ Killed a) → LeavesTree program_of s j → LeavesWay program_of s p call k → Commute program_of s j k
+    → changes_directory call ≡ true → ((a : Promise) → (step program_of s j).outcome ≢ Killed a) → LeavesTree program_of s j → LeavesDestination program_of s p call k → Commute program_of s j k
 directories-commute program_of encodes s j k p call whole apart at comes changes alive leaves way =
     commute-where program_of encodes s j k p call whole apart at comes alive (directory-commutes program_of encodes s j k p whole apart at call comes changes leaves way)

@@ -11,7 +11,7 @@ use Rattle.pv_laws_steps.specs.Asking.{LeavesNode}
 use Rattle.pv_laws_steps.specs.Commuting.{Commute}
 use Rattle.pv_laws_steps.specs.Entries.{changes_entries, IsIndependent}
 use Rattle.pv_laws_steps.specs.Growing.{LeavesContent}
-use Rattle.pv_laws_steps.specs.Offsets.{GoesBy, moves_offset}
+use Rattle.pv_laws_steps.specs.Offsets.{DependsOnOffset, moves_offset}
 use Rattle.pv_laws_steps.proofs.QuerySteps.{fstats-commute}
 use Rattle.pv_laws_steps.proofs.CutSteps.{cuts-commute}
 use Rattle.pv_laws_steps.proofs.NextCalls.{goes-by_none, leaves-content}
@@ -40,7 +40,7 @@ swapped program_of s j k is = record { first = is.second; second = is.first; aft
 
 module _ (program_of : Bytes → Option Program) (encodes : EncodesPrograms program_of) (s : State) (j k : ℕ) (p q : Process) (entries : Call) (whole : IsValid s) (apart : k ≢ j) (at : process_at s j ≡ Some p)
     (comes : next p ≡ calls_for entries) (changes : changes_entries entries ≡ true) (at_k : process_at s k ≡ Some q) (alive : (a : Promise) → (step program_of s k).outcome ≢ Killed a) where
-  away : (m : ℕ) → ¬ GoesBy s j m
+  away : (m : ℕ) → ¬ DependsOnOffset s j m
   away m = goes-by_none s j p entries at comes (plain entries changes).descriptor m
 
   left : (f : ℕ) → LeavesContent s j f

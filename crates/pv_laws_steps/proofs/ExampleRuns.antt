@@ -3,12 +3,12 @@ use Rattle.std.proofs.Common.{◌≡◌, ◌≢◌, ℕ, Option, Some, option_ma
 use Rattle.std.specs.FinMap.Entries.{find}
 use Rattle.std.specs.Ordering.{nat_cmp}
 use Rattle.pv_model.specs.Machine.{Numbered, at_number, machine_on_literals, OpenFile, Process, live, ended_record, process_at}
-use Rattle.pv_laws_steps.specs.Seen.{SeenRecord, own, live_other, ended_other, Seen, seen}
+use Rattle.pv_laws_steps.specs.Seen.{SeenRecord, own_record, live_other, ended_other, Seen, seen}
 use Rattle.pv_laws_steps.specs.Examples.{after_fork, after_getpid, before_lseek, after_lseek, SeenExamples}
 
 abbrev line_of : SeenRecord → ℕ
-line_of (own (live p)) = p.line
-line_of (own (ended_record parent status)) = 0
+line_of (own_record (live p)) = p.line
+line_of (own_record (ended_record parent status)) = 0
 line_of (live_other parent directory descriptors held) = 0
 line_of (ended_other parent status) = 0
 
@@ -16,9 +16,9 @@ other-child : process_at after_fork 2 ≢ process_at after_getpid 2
 unfolding machine_on_literals
 other-child same = let lines : Some 2 ≡ Some 3 = ap (option_map (λ (p : Process). p.line)) same in cc lines
 
-own-child : seen 2 after_fork ≢ seen 2 after_getpid
+own_record-child : seen 2 after_fork ≢ seen 2 after_getpid
 unfolding machine_on_literals
-own-child same = let lines : Some 2 ≡ Some 3 = ap (λ x. option_map line_of (find nat_cmp 2 x.records)) same in cc lines
+own_record-child same = let lines : Some 2 ≡ Some 3 = ap (λ x. option_map line_of (find nat_cmp 2 x.records)) same in cc lines
 
 abbrev offset_in : Numbered OpenFile → Option ℕ
 offset_in files = option_map (λ f. f.offset) (at_number files 0)
@@ -36,4 +36,4 @@ moved-file same = let offsets : Some 0 ≡ Some 1 = sym shared-offset ∙ ap (λ
 
 pub seen-happens : SeenExamples
 unfolding machine_on_literals
-seen-happens = record { alike = refl; other = other-child; own = own-child; before = refl; following = refl; left = refl; not_alike = moved-file; first = refl; second = refl }
+seen-happens = record { alike = refl; other = other-child; own = own_record-child; before = refl; following = refl; left = refl; not_alike = moved-file; first = refl; second = refl }

@@ -10,20 +10,20 @@ use Rattle.pv_model.specs.declared.outcome.Outcome.TheVariants.{Failed, Killed}
 use Rattle.pv_model.specs.declared.promise.Promise.{Promise}
 use Rattle.pv_model.specs.Machine.{Answered, answer, answer_of, answer_where, answer_by_attempt, at_next_line, with_front, update, effect, Attempt, done, refused, after_walks, ◌>>=◌, ◌>>◌, demand, Bytes, with_result, end_process, Effect, Reply, returns, returns_bytes, ends, waits, errno_number, collect, needs, calls_for, next, missing_promise, is_lenient, Program, Process, State, process_at, with_process, Stepped, step, step_by, buffer_of}
 use Rattle.pv_laws_states.specs.States.{EncodesPrograms, IsValid}
-use Rattle.pv_laws_states.proofs.BySteps.{step-keeps_whole}
-use Rattle.pv_laws_states.proofs.Outcomes.{at_call}
+use Rattle.pv_laws_states.proofs.ValidBySteps.{step-keeps_valid}
+use Rattle.pv_laws_states.proofs.CallOutcomes.{at_call}
 use Rattle.pv_laws_states.proofs.Processes.{process_at-same, update-with}
 use Rattle.pv_laws_states.proofs.ProcessInsides.{SameHolds, collect-same}
-use Rattle.pv_laws_runs.specs.OfLawsAccess.Growth.{IsLeftAlone}
-use Rattle.pv_laws_runs.proofs.OfLawsAccess.Ends.{step-is, whole-in_order}
+use Rattle.pv_laws_runs.specs.OfLawsAccess.Growth.{IsUnchangedExceptParent}
+use Rattle.pv_laws_runs.proofs.OfLawsAccess.ProcessesAfterEnds.{step-is, valid-in_order}
 use Rattle.pv_laws_runs.proofs.OfLawsAccess.ProgramImages.{others-keep}
 use Rattle.pv_laws_steps.specs.Beside.{with_change, become}
 use Rattle.pv_laws_steps.specs.Commuting.{Commute}
-use Rattle.pv_laws_steps.proofs.ChangedPairs.{SteppedBeside}
-use Rattle.pv_laws_steps.proofs.BesideSteps.{others-alter-nothing}
+use Rattle.pv_laws_steps.proofs.ChangedPairs.{SteppedPair}
+use Rattle.pv_laws_steps.proofs.StepsOfOthers.{others-alter-nothing}
 use Rattle.pv_laws_steps.proofs.CommutingSteps.{with-is-change}
-use Rattle.pv_laws_steps.proofs.InwardSteps.{alike-held}
-use Rattle.pv_laws_steps.proofs.Orphans.{orphan, orphaned, next-orphan}
+use Rattle.pv_laws_steps.proofs.InsideSteps.{alike-held}
+use Rattle.pv_laws_steps.proofs.ParentIndependence.{orphan, orphaned, next-orphan}
 use Rattle.pv_laws_steps.proofs.ReportedParts.{lines-reported}
 
 -- a change, or none
@@ -88,11 +88,11 @@ module _ (program_of : Bytes → Option Program) (encodes : EncodesPrograms prog
   abbrev pub after_k : State
   after_k = (step program_of s k).after
 
-  pub whole-following : IsValid after_k
-  whole-following = step-keeps_whole program_of encodes s k whole
+  pub valid-following : IsValid after_k
+  valid-following = step-keeps_valid program_of encodes s k whole
 
-  abbrev left : (q : Process) × (process_at after_k j ≡ Some q) × IsLeftAlone p q
-  left = others-keep program_of s k j p (whole-in_order s whole) apart at
+  abbrev left : (q : Process) × (process_at after_k j ≡ Some q) × IsUnchangedExceptParent p q
+  left = others-keep program_of s k j p (valid-in_order s whole) apart at
 
   -- the parent of the process after the step
   abbrev pub heir : ℕ
@@ -106,10 +106,10 @@ module _ (program_of : Bytes → Option Program) (encodes : EncodesPrograms prog
   quiet q same = collect-same s j p q whole.processes.ascending at same ∙ ap (λ z. with_process z j q) whole.collected
 
   pub quiet-following : (q : Process) → SameHolds (orphan heir p) q → collect (with_process after_k j q) ≡ with_process after_k j q
-  quiet-following q same = collect-same after_k j (orphan heir p) q whole-following.processes.ascending at-following same ∙ ap (λ z. with_process z j q) whole-following.collected
+  quiet-following q same = collect-same after_k j (orphan heir p) q valid-following.processes.ascending at-following same ∙ ap (λ z. with_process z j q) valid-following.collected
 
   -- the step of k follows changes inside the process
-  pub passes-by : (q : Process) → SameHolds p q → SteppedBeside (λ x. with_change x j (become q)) (step program_of s k) (step program_of (with_change s j (become q)) k)
+  pub passes-by : (q : Process) → SameHolds p q → SteppedPair (λ x. with_change x j (become q)) (step program_of s k) (step program_of (with_change s j (become q)) k)
   passes-by q same = let beside = others-alter-nothing program_of s k j p q whole apart at (alike-held p q same) in record { outcome = beside.outcome; lines = beside.lines; after = beside.after }
 
   module _ (A : Type 0) (act : A → State → State) where
@@ -125,7 +125,7 @@ module _ (program_of : Bytes → Option Program) (encodes : EncodesPrograms prog
 
     -- if the step of k follows the act, the steps commute
     pub commute-steps : StepsTwice (step program_of s j) (step program_of after_k j)
-        → ((o : Option A) (q : Process) → SameHolds p q → SteppedBeside (λ x. acts act o (with_change x j (become q))) (step program_of s k) (step program_of (acts act o (with_change s j (become q))) k))
+        → ((o : Option A) (q : Process) → SameHolds p q → SteppedPair (λ x. acts act o (with_change x j (become q))) (step program_of s k) (step program_of (acts act o (with_change s j (become q))) k))
         → Commute program_of s j k
     commute-steps twice passes =
         let q : Process = twice.following in
@@ -136,7 +136,7 @@ module _ (program_of : Bytes → Option Program) (encodes : EncodesPrograms prog
           second = record { outcome = ap (λ x. (step program_of x k).outcome) after_s ∙ by.outcome; lines = ap (λ x. (step program_of x k).lines) after_s ∙ by.lines };
           after =
               twice.other
-              ∙ ap (acts act twice.acted) (with-is-change after_k j (orphan heir p) (orphan heir q) whole-following at-following refl)
+              ∙ ap (acts act twice.acted) (with-is-change after_k j (orphan heir p) (orphan heir q) valid-following at-following refl)
               ∙ sym (ap (λ x. (step program_of x k).after) after_s ∙ by.after);
         }
 

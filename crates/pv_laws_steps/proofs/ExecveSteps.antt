@@ -6,14 +6,14 @@ use Rattle.pv_model.specs.declared.outcome.Outcome.TheVariants.{Killed}
 use Rattle.pv_model.specs.declared.promise.Promise.{Promise}
 use Rattle.pv_model.specs.Machine.{at_next_line, effect, Attempt, done, ◌>>=◌, ◌>>◌, Bytes, with_result, with_program, Effect, returns, needs, calls_for, next, missing_promise, Program, Process, State, process_at, with_process, with_tree, step}
 use Rattle.pv_laws_states.specs.States.{EncodesPrograms, IsValid}
-use Rattle.pv_laws_states.proofs.ByProcess.{preserved_descriptor}
+use Rattle.pv_laws_states.proofs.ValidByProcess.{preserved_descriptor}
 use Rattle.pv_laws_steps.specs.Beside.{become}
 use Rattle.pv_laws_steps.specs.Commuting.{Commute}
 use Rattle.pv_laws_steps.specs.Holding.{LeavesOpenFiles, LeavesTree}
 use Rattle.pv_laws_steps.proofs.ChangedProcess.{KeepsParent}
 use Rattle.pv_laws_steps.proofs.OtherReferences.{UsesNoMore}
-use Rattle.pv_laws_steps.proofs.LoneSteps.{commute-where}
-use Rattle.pv_laws_steps.proofs.Orphans.{orphan}
+use Rattle.pv_laws_steps.proofs.IndependentSteps.{commute-where}
+use Rattle.pv_laws_steps.proofs.ParentIndependence.{orphan}
 use Rattle.pv_laws_steps.proofs.OwnSteps.{Becomes, becomes-bind, becomes-then, becomes-there, become-commute, own-commute}
 use Rattle.pv_laws_steps.proofs.ExchangedSteps.{after_k, heir}
 

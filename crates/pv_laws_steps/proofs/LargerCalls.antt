@@ -8,7 +8,7 @@ use Rattle.pv_model.specs.declared.follow.Follow.TheVariants.{Last}
 use Rattle.pv_model.specs.declared.open_flags.OpenFlags.{OpenFlags}
 use Rattle.pv_model.specs.declared.place.Place.{Place}
 use Rattle.pv_model.specs.Machine.{effect, Attempt, done, ◌>>=◌, ◌>>◌, refuse_if, demand, Bytes, within, next_name, seek_base, list_name, is_past_greatest, with_content_of, with_content, write_end, after_write, with_open_file, statuses, executable_bytes, add_target, refuse_if_locked, unveil, Effect, returns, answers, answers_bytes, walk_from, with_room, descriptor_at, open_file, status, bytes_of, overwrite, resize, with_file, start_directory, with_number, least_free, read_permissions, OpenFile, Program, Process, State, reads, writes, with_process, with_tree, Entries, Node, file_node, Tree, node_at, entries_at, with_entry, without_entry, new_number, with_new_node, IsWellFormed, target_of, begins_walk, resolve, walk, judge, end_of, judgement, Walked, Walk, place_or_refusal}
-use Rattle.pv_laws_states.proofs.CallRests
+use Rattle.pv_laws_states.proofs.CallRemainders
 use Rattle.pv_laws_steps.proofs.LargerTrees.{enlarged, contains-alike, node-enlarged, entries-enlarged, directory-enlarged, parent-enlarged, new-enlarged, judgement-enlarged, target-enlarged, status-enlarged}
 use Rattle.pv_laws_steps.proofs.LargerTreeRoom.{well_formed-enlarged, length-second}
 use Rattle.pv_laws_steps.proofs.LargerWalks.{resolve-alike}
@@ -55,13 +55,13 @@ module _ (blocks inodes : ℕ) (s : State) (fine : IsWellFormed s.tree) (sized :
   unveil-follows None (Some permissions) = inr refl
   unveil-follows (Some path) None = inr refl
   unveil-follows (Some path) (Some text) =
-      all-bind B all (demand EINVAL (read_permissions text)) (demand EINVAL (read_permissions text)) refl (CallRests.unveil_1 s pid me path) (CallRests.unveil_1 u pid me path) (λ permissions.
-      all-then B all (refuse_if_locked me.locked) (refuse_if_locked me.locked) refl (walk_from s me.directory Last path >>= CallRests.unveil_2 s pid me permissions) (walk_from u me.directory Last path >>= CallRests.unveil_2 u pid me permissions) (
+      all-bind B all (demand EINVAL (read_permissions text)) (demand EINVAL (read_permissions text)) refl (CallRemainders.unveil_1 s pid me path) (CallRemainders.unveil_1 u pid me path) (λ permissions.
+      all-then B all (refuse_if_locked me.locked) (refuse_if_locked me.locked) refl (walk_from s me.directory Last path >>= CallRemainders.unveil_2 s pid me permissions) (walk_from u me.directory Last path >>= CallRemainders.unveil_2 u pid me permissions) (
       follows-walk blocks inodes (if begins_walk path then 1 else 0) (resolve s.tree Last me.directory path) (resolve u.tree Last me.directory path) (resolve-alike blocks inodes s.tree Last me.directory path)
-      (CallRests.unveil_2 s pid me permissions) (CallRests.unveil_2 u pid me permissions) (λ place.
+      (CallRemainders.unveil_2 s pid me permissions) (CallRemainders.unveil_2 u pid me permissions) (λ place.
       all-bind B all (add_target s pid me (target_of s.tree place) permissions) (add_target u pid me (target_of u.tree place) permissions)
       (ap (λ target. add_target s pid me target permissions) (target-enlarged blocks inodes s.tree place))
-      (CallRests.unveil_3 s pid me) (CallRests.unveil_3 u pid me) (λ table. (sized, λ all. refl)))))
+      (CallRemainders.unveil_3 s pid me) (CallRemainders.unveil_3 u pid me) (λ table. (sized, λ all. refl)))))
 
   reported : (n : ℕ) → B (answers_bytes s 0 (status s.tree n)) (answers_bytes u 0 (status u.tree n))
   reported n = (sized, λ all. ap (λ bytes. answers_bytes u 0 bytes) (status-enlarged blocks inodes s.tree n))
@@ -74,7 +74,7 @@ module _ (blocks inodes : ℕ) (s : State) (fine : IsWellFormed s.tree) (sized :
   tree-follows v w n same_blocks same_inodes is =
       follows-room blocks inodes (with_tree s v) (with_tree u w) n (within-sizes v same_blocks same_inodes) (λ counted. ap (λ (t : Tree). with_tree s t) (is counted))
 
-  less-follows : (p : ℕ × Bytes) → B (CallRests.less_3 s pid me p) (CallRests.less_3 u pid me p)
+  less-follows : (p : ℕ × Bytes) → B (CallRemainders.less_3 s pid me p) (CallRemainders.less_3 u pid me p)
   less-follows p = (sized, λ counted. ap (λ (t : Tree). done 0 (with_tree s t, returns 0)) (without-changed blocks inodes s.tree p.0 p.1 fine.numbers counted))
 
   -- ---- descriptors
@@ -100,7 +100,7 @@ module _ (blocks inodes : ℕ) (s : State) (fine : IsWellFormed s.tree) (sized :
   past-limit : (size : ℕ) → is_past_greatest s.tree size ≡ false → is_past_greatest u.tree size ≡ false
   past-limit size short = length-second s.tree.version size short
 
-  write_3-follows : (k : ℕ) (file : OpenFile) (count : ℕ) → B (CallRests.write_3 s pid me k file count) (CallRests.write_3 u pid me k file count)
+  write_3-follows : (k : ℕ) (file : OpenFile) (count : ℕ) → B (CallRemainders.write_3 s pid me k file count) (CallRemainders.write_3 u pid me k file count)
   write_3-follows k file zero = follows-room blocks inodes s u 0 sized (λ counted. refl)
   write_3-follows k file (suc n) =
       let f : ℕ = file.node in
@@ -126,14 +126,14 @@ module _ (blocks inodes : ℕ) (s : State) (fine : IsWellFormed s.tree) (sized :
   -- ---- open
 
   opened-follows : (g : OpenFlags) (n : ℕ) (v w : Tree) → v.blocks ≡ s.tree.blocks → v.inodes ≡ s.tree.inodes → (IsCounted v → w ≡ E v)
-      → B (CallRests.open_7 s pid me (with_open_file s pid me g n v)) (CallRests.open_7 u pid me (with_open_file u pid me g n w))
+      → B (CallRemainders.open_7 s pid me (with_open_file s pid me g n v)) (CallRemainders.open_7 u pid me (with_open_file u pid me g n w))
   opened-follows g n v w same_blocks same_inodes is =
       follows-room blocks inodes (with_open_file s pid me g n v) (with_open_file u pid me g n w) (least_free me.descriptors) (within-sizes v same_blocks same_inodes)
       (λ counted. ap (λ (t : Tree). with_open_file s pid me g n t) (is counted))
 
   -- a file that an open truncates or not
   truncated-follows : (g : OpenFlags) (n : ℕ) (b : Bool)
-      → B (CallRests.open_7 s pid me (with_open_file s pid me g n (if b then with_content s.tree n [] else s.tree))) (CallRests.open_7 u pid me (with_open_file u pid me g n (if b then with_content u.tree n [] else u.tree)))
+      → B (CallRemainders.open_7 s pid me (with_open_file s pid me g n (if b then with_content s.tree n [] else s.tree))) (CallRemainders.open_7 u pid me (with_open_file u pid me g n (if b then with_content u.tree n [] else u.tree)))
   truncated-follows g n true =
       let o : Option Node = node_at s.tree n in
       opened-follows g n (with_content s.tree n []) (with_content u.tree n []) (content-blocks s.tree n o []) (content-inodes s.tree n o [])
@@ -141,10 +141,10 @@ module _ (blocks inodes : ℕ) (s : State) (fine : IsWellFormed s.tree) (sized :
   truncated-follows g n false = opened-follows g n s.tree u.tree refl refl (λ counted. refl)
 
   created-follows : (g : OpenFlags) (p : ℕ × Bytes)
-      → B (CallRests.open_7 s pid me (with_open_file s pid me g (new_number s.tree) (with_new_node s.tree p.0 p.1 (file_node false [])))) (CallRests.open_7 u pid me (with_open_file u pid me g (new_number u.tree) (with_new_node u.tree p.0 p.1 (file_node false []))))
+      → B (CallRemainders.open_7 s pid me (with_open_file s pid me g (new_number s.tree) (with_new_node s.tree p.0 p.1 (file_node false [])))) (CallRemainders.open_7 u pid me (with_open_file u pid me g (new_number u.tree) (with_new_node u.tree p.0 p.1 (file_node false []))))
   created-follows g p =
       let node : Node = file_node false [] in
-      subst (λ k. B (CallRests.open_7 s pid me (with_open_file s pid me g (new_number s.tree) (with_new_node s.tree p.0 p.1 node))) (CallRests.open_7 u pid me (with_open_file u pid me g k (with_new_node u.tree p.0 p.1 node))))
+      subst (λ k. B (CallRemainders.open_7 s pid me (with_open_file s pid me g (new_number s.tree) (with_new_node s.tree p.0 p.1 node))) (CallRemainders.open_7 u pid me (with_open_file u pid me g k (with_new_node u.tree p.0 p.1 node))))
       (sym (new-enlarged blocks inodes s.tree))
       (opened-follows g (new_number s.tree) (with_new_node s.tree p.0 p.1 node) (with_new_node u.tree p.0 p.1 node) refl refl (new-changed blocks inodes s.tree p.0 p.1 node fine.numbers))
 
@@ -158,22 +158,22 @@ module _ (blocks inodes : ℕ) (s : State) (fine : IsWellFormed s.tree) (sized :
     files = record {
       opened = λ d. both-have AreOnSame (open_file s me d) (λ v is. record { node = refl; mode = refl });
       full = refl;
-      reads = λ d n is v w opened may count. opened-same C program_of s u pid me me call (λ v w. B (CallRests.read_2 s pid me v.0 v.1 count) (CallRests.read_2 u pid me w.0 w.1 count)) d v w refl opened
-          (all-then B all _ _ (ap (refuse_if EISDIR) (directory-enlarged blocks inodes s.tree v.1.node)) (CallRests.read_3 s pid me v.0 v.1 count) (CallRests.read_3 u pid me v.0 v.1 count)
+      reads = λ d n is v w opened may count. opened-same C program_of s u pid me me call (λ v w. B (CallRemainders.read_2 s pid me v.0 v.1 count) (CallRemainders.read_2 u pid me w.0 w.1 count)) d v w refl opened
+          (all-then B all _ _ (ap (refuse_if EISDIR) (directory-enlarged blocks inodes s.tree v.1.node)) (CallRemainders.read_3 s pid me v.0 v.1 count) (CallRemainders.read_3 u pid me v.0 v.1 count)
           (sized, λ all. ap (λ o. read_by v.0 v.1 (take count (drop v.1.offset (bytes_of o)))) (at v.1.node)));
-      writes = λ d n is v w opened may count few. opened-same C program_of s u pid me me call (λ v w. B (CallRests.write_2 s pid me v.0 v.1 count) (CallRests.write_2 u pid me w.0 w.1 count)) d v w refl opened
+      writes = λ d n is v w opened may count few. opened-same C program_of s u pid me me call (λ v w. B (CallRemainders.write_2 s pid me v.0 v.1 count) (CallRemainders.write_2 u pid me w.0 w.1 count)) d v w refl opened
           (follows-limit blocks inodes EFBIG refl (is_past_greatest s.tree (write_end s pid me v.1 count)) (is_past_greatest u.tree (write_end u pid me v.1 count))
           (λ short. ap (is_past_greatest u.tree) (end-enlarged v.1 count) ∙ past-limit (write_end s pid me v.1 count) short)
-          (CallRests.write_3 s pid me v.0 v.1 count) (CallRests.write_3 u pid me v.0 v.1 count) (write_3-follows v.0 v.1 count));
-      seeks = λ d by whence is v w opened. opened-same C program_of s u pid me me call (λ v w. B (CallRests.lseek_2 s pid me by whence v.0 v.1) (CallRests.lseek_2 u pid me by whence w.0 w.1)) d v w refl opened
+          (CallRemainders.write_3 s pid me v.0 v.1 count) (CallRemainders.write_3 u pid me v.0 v.1 count) (write_3-follows v.0 v.1 count));
+      seeks = λ d by whence is v w opened. opened-same C program_of s u pid me me call (λ v w. B (CallRemainders.lseek_2 s pid me by whence v.0 v.1) (CallRemainders.lseek_2 u pid me by whence w.0 w.1)) d v w refl opened
           (all-bind B all (demand EINVAL (within 2147483647 (pos (seek_base s pid me v.1 whence) +ℤ by))) (demand EINVAL (within 2147483647 (pos (seek_base u pid me v.1 whence) +ℤ by)))
-          (ap (λ n. demand EINVAL (within 2147483647 (pos n +ℤ by))) (seek-enlarged v.1 whence)) (CallRests.lseek_3 s pid me v.0 v.1) (CallRests.lseek_3 u pid me v.0 v.1) (λ offset. (sized, λ all. refl)));
+          (ap (λ n. demand EINVAL (within 2147483647 (pos n +ℤ by))) (seek-enlarged v.1 whence)) (CallRemainders.lseek_3 s pid me v.0 v.1) (CallRemainders.lseek_3 u pid me v.0 v.1) (λ offset. (sized, λ all. refl)));
       reports = λ d is v w opened. opened-same C program_of s u pid me me call (λ v w. B (answers_bytes s 0 (status s.tree v.1.node)) (answers_bytes u 0 (status u.tree w.1.node))) d v w refl opened (reported v.1.node);
-      cuts = λ d n is v w opened size. opened-same C program_of s u pid me me call (λ v w. B (CallRests.ftruncate_3 s pid me v.1 size) (CallRests.ftruncate_3 u pid me w.1 size)) d v w refl opened
-          (follows-limit blocks inodes EFBIG refl (is_past_greatest s.tree size) (is_past_greatest u.tree size) (past-limit size) (CallRests.ftruncate_4 s pid me v.1 size) (CallRests.ftruncate_4 u pid me v.1 size)
+      cuts = λ d n is v w opened size. opened-same C program_of s u pid me me call (λ v w. B (CallRemainders.ftruncate_3 s pid me v.1 size) (CallRemainders.ftruncate_3 u pid me w.1 size)) d v w refl opened
+          (follows-limit blocks inodes EFBIG refl (is_past_greatest s.tree size) (is_past_greatest u.tree size) (past-limit size) (CallRemainders.ftruncate_4 s pid me v.1 size) (CallRemainders.ftruncate_4 u pid me v.1 size)
           (content-follows v.1.node (λ old. resize old size) 0));
-      lists = λ d is v w opened. opened-same C program_of s u pid me me call (λ v w. B (CallRests.getdents_2 s pid me v.0 v.1) (CallRests.getdents_2 u pid me w.0 w.1)) d v w refl opened
-          (subst (λ (es : Entries). B (CallRests.getdents_2 s pid me v.0 v.1) (list_name u pid me v.0 v.1 (next_name v.1.listed es))) (sym (entries v.1.node)) (listed v.0 v.1 (next_name v.1.listed (entries_at s.tree v.1.node))));
+      lists = λ d is v w opened. opened-same C program_of s u pid me me call (λ v w. B (CallRemainders.getdents_2 s pid me v.0 v.1) (CallRemainders.getdents_2 u pid me w.0 w.1)) d v w refl opened
+          (subst (λ (es : Entries). B (CallRemainders.getdents_2 s pid me v.0 v.1) (list_name u pid me v.0 v.1 (next_name v.1.listed es))) (sym (entries v.1.node)) (listed v.0 v.1 (next_name v.1.listed (entries_at s.tree v.1.node))));
     }
 
     respects : Respects C program_of s u pid me me call

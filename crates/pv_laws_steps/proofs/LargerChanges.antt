@@ -3,7 +3,7 @@ use Rattle.std.proofs.Common.{◌≡◌, ℕ, suc, ◌-◌, ◌≤◌, length, O
 use Rattle.std.specs.FinMap.Entries.{put, where_key}
 use Rattle.pv_model.specs.declared.version.Version.TheVariants.{V2}
 use Rattle.pv_model.specs.Machine.{Bytes, with_content_of, Numbered, Entries, Node, directory_node, file_node, link_node, Tree, entries_at, new_number, with_node, with_entry, without_entry, with_new_node}
-use Rattle.pv_laws_trees.proofs.Entries.{by_name, is_other}
+use Rattle.pv_laws_trees.proofs.DirectoryEntries.{by_name, is_other}
 use Rattle.pv_laws_steps.proofs.PaddedMaps.{with-padded, length-with_number_le}
 use Rattle.pv_laws_steps.proofs.LargerTrees.{enlarged, entries-enlarged, new-enlarged}
 

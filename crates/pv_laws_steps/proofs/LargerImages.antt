@@ -7,9 +7,9 @@ use Rattle.pv_model.specs.Machine.{Bytes, lines_of, program_of, schedule_of_line
 use Rattle.pv_model.specs.RunFault.{of_boot, of_image, of_schedule}
 use Rattle.pv_model.specs.Start.{program_in, init_of}
 use Rattle.pv_laws_states.specs.States.{are_bytes, IsValid}
-use Rattle.pv_laws_runs.proofs.Ranges.{program_of-encodes}
+use Rattle.pv_laws_runs.proofs.ProgramRanges.{program_of-encodes}
 use Rattle.pv_laws_runs.proofs.RunPremises.{image-start}
-use Rattle.pv_laws_runs.proofs.StartingStates.{reached-whole}
+use Rattle.pv_laws_runs.proofs.StartingStates.{reached-valid}
 use Rattle.pv_laws_steps.specs.Larger.{IsLarger, IsInLarger}
 use Rattle.pv_laws_steps.specs.Images.{StartsOnLarger}
 use Rattle.pv_laws_steps.proofs.LargerRuns.{init-alike, larger-keeps_traces}
@@ -49,5 +49,5 @@ pub larger-images : (image larger schedule : Bytes) (old new : Tree) (started : 
     → image_started image schedule ≡ Ok started → StartsOnLarger started larger schedule
 unfolding image_started
 larger-images image larger schedule old new started all held other is_larger is =
-    starts-alike old new is_larger started (reached-whole image started.state (image-start image schedule started all is)) larger schedule other
+    starts-alike old new is_larger started (reached-valid image started.state (image-start image schedule started all is)) larger schedule other
     (sym (ap (λ r. and_then of_image r (λ t. started_on t (lines_of schedule))) held) ∙ is)

@@ -9,10 +9,10 @@ use Rattle.pv_model.specs.Machine.{Bytes, among, named_tree, keep_if, is_too_lon
 use Rattle.pv_model.specs.Start.{init_of}
 use Rattle.pv_model.specs.Step.{init_program}
 use Rattle.pv_laws_states.specs.States.{EncodesPrograms, IsValid}
-use Rattle.pv_laws_states.proofs.BySteps.{step-keeps_whole}
-use Rattle.pv_laws_trees.proofs.Entries.{by_name}
-use Rattle.pv_laws_trees.proofs.Numbered.{same_numbered, at_number-keep}
-use Rattle.pv_laws_steps.specs.Larger.{IsLarger, ReportsNoLimit, is_limit_word, HasRoomAlso, IsInLarger, StepsDifferInSizes, RunsDifferInSizes, TracesAreEqual}
+use Rattle.pv_laws_states.proofs.ValidBySteps.{step-keeps_valid}
+use Rattle.pv_laws_trees.proofs.DirectoryEntries.{by_name}
+use Rattle.pv_laws_trees.proofs.NumberedMaps.{same_numbered, at_number-keep}
+use Rattle.pv_laws_steps.specs.Larger.{IsLarger, ReportsNoLimit, is_limit_word, LargerTreeHasRoom, IsInLarger, StepsDifferInSizes, RunsDifferInSizes, TracesAreEqual}
 use Rattle.pv_laws_steps.proofs.LargerTrees.{enlarged, node-enlarged, named-enlarged}
 use Rattle.pv_laws_steps.proofs.LargerTreeRoom.{numbers-enlarged, fits-enlarged, short-enlarged}
 use Rattle.pv_laws_steps.proofs.LargerAttempts.{enlarge, IsWithin}
@@ -48,7 +48,7 @@ in_larger : (P : State → State → Type 0) → ((blocks inodes : ℕ) (s : Sta
 in_larger P by s u whole larger =
     subst (P s) (sym (in_larger-is s u whole.tree.well_formed.numbers larger)) (by u.tree.blocks u.tree.inodes s whole (larger.tree.blocks, larger.tree.inodes))
 
-pub larger-has_room : (old new : Tree) → IsLarger old new → length old.nodes ≡ suc old.inodes → HasRoomAlso old new
+pub larger-has_room : (old new : Tree) → IsLarger old new → length old.nodes ≡ suc old.inodes → LargerTreeHasRoom old new
 larger-has_room old new larger numbers =
     let same = larger-is old new numbers larger in
     record {
@@ -68,7 +68,7 @@ module _ (program_of : Bytes → Option Program) (encodes : EncodesPrograms prog
         outcome = both.outcome;
         lines = both.lines;
         after = subst (IsInLarger after) (sym both.after)
-            (enlarge-in_larger blocks inodes after (step-keeps_whole program_of encodes s pid whole).tree.well_formed.numbers (within-step blocks inodes program_of encodes s pid whole sized));
+            (enlarge-in_larger blocks inodes after (step-keeps_valid program_of encodes s pid whole).tree.well_formed.numbers (within-step blocks inodes program_of encodes s pid whole sized));
       }
 
   pub larger-keeps_steps : (s u : State) (pid : ℕ) → IsValid s → IsInLarger s u → ReportsNoLimit (step program_of s pid).lines → StepsDifferInSizes (step program_of s pid) (step program_of u pid)
@@ -82,7 +82,7 @@ module _ (program_of : Bytes → Option Program) (encodes : EncodesPrograms prog
       let test : Line → Bool = λ l. Rattle.std.specs.Prelude.not (is_limit_word l.word) in
       let parts = and_parts (list_all test now.lines) (list_all test (run program_of pids now.after).lines) (sym (list_all-append test now.lines (run program_of pids now.after).lines) ∙ none) in
       let first = larger-keeps_steps s u pid whole larger parts.0 in
-      let rest = larger-keeps_runs pids now.after (step program_of u pid).after (step-keeps_whole program_of encodes s pid whole) first.after parts.1 in
+      let rest = larger-keeps_runs pids now.after (step program_of u pid).after (step-keeps_valid program_of encodes s pid whole) first.after parts.1 in
       record { lines = ap₂ (λ (xs ys : List Line). xs ++ ys) first.lines rest.lines; final = rest.final }
 
   -- ---- final texts and trees
@@ -100,7 +100,7 @@ module _ (program_of : Bytes → Option Program) (encodes : EncodesPrograms prog
       let both = larger-keeps_runs pids s u whole larger none in
       record {
         text = ap trace_bytes both.lines;
-        nodes = named-alike (run program_of pids s).final (run program_of pids u).final (Rattle.pv_laws_states.proofs.BySteps.run-keeps_whole program_of encodes pids s whole) both.final;
+        nodes = named-alike (run program_of pids s).final (run program_of pids u).final (Rattle.pv_laws_states.proofs.ValidBySteps.run-keeps_valid program_of encodes pids s whole) both.final;
       }
 
 -- ---- first states

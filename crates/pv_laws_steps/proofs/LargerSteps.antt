@@ -11,13 +11,13 @@ use Rattle.pv_model.specs.declared.outcome.Cause.TheVariants.{Promise as ByPromi
 use Rattle.pv_model.specs.declared.outcome.Outcome.TheVariants.{Failed}
 use Rattle.pv_model.specs.Machine.{Answered, answer, answer_of, answer_where, answer_by_attempt, at_next_line, with_front, update, effect, Attempt, done, refused, Bytes, with_result, end_process, Effect, returns, returns_bytes, ends, waits, errno_number, collect, needs, Next, inside, calls_for, next, missing_promise, Program, Process, State, process_at, step, step_of, step_by, Line, Word, line, call_word, nami_word, walked_paths, promise_words, unveil_words, moved_words, end_words, call_lines}
 use Rattle.pv_laws_states.specs.States.{EncodesPrograms, IsValid}
-use Rattle.pv_laws_states.proofs.Attempts.{Leads}
-use Rattle.pv_laws_states.proofs.BySteps.{good-effect, IsGoodNext, good-next}
+use Rattle.pv_laws_states.proofs.AttemptValues.{Leads}
+use Rattle.pv_laws_states.proofs.ValidBySteps.{good-effect, IsGoodNext, good-next}
 use Rattle.pv_laws_states.proofs.ValidEnds.{tree-end}
-use Rattle.pv_laws_states.proofs.Outcomes.{at_call, by_answer}
+use Rattle.pv_laws_states.proofs.CallOutcomes.{at_call, by_answer}
 use Rattle.pv_laws_states.proofs.Processes.{process_at-same, tree-update}
-use Rattle.pv_laws_states.proofs.Replies.{IsEffect, whole-at_call}
-use Rattle.pv_laws_steps.proofs.ChangedPairs.{moved, FitsCollect, ByChange, SteppedBeside, IsApartTo, step-beside_to}
+use Rattle.pv_laws_states.proofs.ValidReplies.{IsEffect, valid-at_call}
+use Rattle.pv_laws_steps.proofs.ChangedPairs.{moved, FitsCollect, ByChange, SteppedPair, IsApartTo, step-in_both_to}
 use Rattle.pv_laws_steps.specs.Larger.{is_limit, is_limit_word, ReportsNoLimit}
 use Rattle.pv_laws_steps.proofs.LargerCalls.{effect-follows}
 use Rattle.pv_laws_steps.proofs.LargerAttempts.{enlarge, IsWithin, Follows, collect-within, collect-enlarge}
@@ -149,11 +149,11 @@ module _ (blocks inodes : ℕ) where
       seen = λ x y is. ap (λ z. process_at z pid) is;
     }
 
-    pub step-alike : ReportsNoLimit (step program_of s pid).lines → SteppedBeside (enlarge blocks inodes) (step program_of s pid) (step program_of u pid)
+    pub step-alike : ReportsNoLimit (step program_of s pid).lines → SteppedPair (enlarge blocks inodes) (step program_of s pid) (step program_of u pid)
     step-alike none =
         let last : State = (step program_of s pid).after in
-        step-beside_to (enlarge blocks inodes) Any pid last (ByChange (enlarge blocks inodes)) (apart last) program_of s tt
+        step-in_both_to (enlarge blocks inodes) Any pid last (ByChange (enlarge blocks inodes)) (apart last) program_of s tt
         (λ p call at comes held.
-        let good = good-effect program_of encodes (now p) pid (at_next_line p) call (whole-at_call s pid p whole at) (process_at-same s pid (at_next_line p)) (subst (IsGoodNext p) comes (good-next p (whole.processes.running pid p at))) in
+        let good = good-effect program_of encodes (now p) pid (at_next_line p) call (valid-at_call s pid p whole at) (process_at-same s pid (at_next_line p)) (subst (IsGoodNext p) comes (good-next p (whole.processes.running pid p at))) in
         (moved-alike (now p) (tried p call) (effect program_of (enlarge blocks inodes (now p)) pid (at_next_line p) call) (follows p call) good (λ walks errno cause is. step-reported p call walks errno cause at comes held none is), any-collect (tried p call)))
         refl

@@ -10,7 +10,7 @@ use Rattle.std.proofs.lemmas.List.Sums.{sum_by-cons}
 use Rattle.pv_model.specs.declared.version.Version.{Version}
 use Rattle.pv_model.specs.declared.version.Version.TheVariants.{V1, V2}
 use Rattle.pv_model.specs.Machine.{Bytes, is_empty, present, node_length, need, greatest_length, is_too_long, fits, Node, directory_node, file_node, link_node, Tree, root, greatest_name, entries_of, names_in, names_of, is_name_byte, is_name, is_node, IsReached, from_root, by_entry, IsWellFormed}
-use Rattle.pv_laws_trees.proofs.Places.{list_all-weaker}
+use Rattle.pv_laws_trees.proofs.WalkPlaces.{list_all-weaker}
 use Rattle.pv_laws_steps.proofs.PaddedMaps.{present-padded}
 use Rattle.pv_laws_steps.proofs.LargerNeeds.{needs-five_times}
 use Rattle.pv_laws_steps.proofs.LargerTrees.{enlarged, node-enlarged, entries-enlarged, directory-enlarged, found-enlarged, parent-enlarged, numbered-enlarged}

@@ -10,10 +10,10 @@ use Rattle.pv_model.specs.declared.version.Version.TheVariants.{V2}
 use Rattle.pv_model.specs.Machine.{Bytes, contains_directory, status, numbered, Node, Tree, node_at, entries_of, entries_at, is_directory, is_directory_at, find_entry, parent, named_numbers, new_number, IsWellFormed, IsAtOrAbove, Table, entry_for, target_of, Governs, own, from_above, directory_rights, governing_entry, judge_entry, judgement}
 use Rattle.pv_model.specs.Effect.{status_of}
 use Rattle.pv_model.specs.Tree.{itself, above as is_above}
-use Rattle.pv_model.proofs.Rights.{rights_agree}
+use Rattle.pv_model.proofs.GoverningEntries.{rights_agree}
 use Rattle.pv_laws_trees.proofs.Ancestors.{ancestors-above}
-use Rattle.pv_laws_trees.proofs.Entries.{by_name}
-use Rattle.pv_laws_trees.proofs.Places.{parent-alike}
+use Rattle.pv_laws_trees.proofs.DirectoryEntries.{by_name}
+use Rattle.pv_laws_trees.proofs.WalkPlaces.{parent-alike}
 use Rattle.pv_laws_steps.proofs.PaddedMaps.{padded, at-padded, numbered-padded, free-dropped}
 
 -- two options that have the same values are equal

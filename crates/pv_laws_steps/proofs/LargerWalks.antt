@@ -6,7 +6,7 @@ use Rattle.pv_model.specs.declared.follow.Follow.{Follow}
 use Rattle.pv_model.specs.declared.version.Version.{Version}
 use Rattle.pv_model.specs.declared.version.Version.TheVariants.{V1, V2}
 use Rattle.pv_model.specs.Machine.{Bytes, is_empty, Node, directory_node, file_node, link_node, Tree, root, greatest_name, node_at, find_entry, parent, Walked, components, weight, is_absolute, follows_last, end_mark, resolve}
-use Rattle.pv_model.specs.Walk.{Onward, PastLink, enter, enter_parent, ends_in_slash, is_dot, is_dot_dot, at_node, at_entry, along, no_link_left, through_link, walk}
+use Rattle.pv_model.specs.Walk.{Onward, PastLink, enter, enter_parent, ends_in_slash, is_dot, is_dot_dot, at_node, at_entry, along, no_link_left, through_link, walk_with_links}
 use Rattle.pv_laws_steps.proofs.LargerTrees.{enlarged, node-enlarged, found-enlarged, parent-enlarged}
 
 -- two walks have the same result, unless the first finds something too long
@@ -87,17 +87,17 @@ module _ (blocks inodes : ℕ) (t : Tree) (last : Bool) where
       (alike-cond (is_dot_dot component) _ _ _ _ (parent-alike f g ons (parent t at))
       (looked-alike b c f g pasts ons at component rest mark (parent t at) (find_entry t at component)))))
 
-  walk-alike : (links : ℕ) (ps : List Bytes) (mark : Bool) → OnAlike (walk t last links ps mark) (walk u last links ps mark)
-  walk-alike zero ps mark = along-alike (no_link_left t last) (no_link_left u last) (λ text rest mark at. inr refl) ps mark
-  walk-alike (suc links) ps mark =
-      along-alike (through_link t last (walk t last links)) (through_link u last (walk u last links))
+  walk_with_links-alike : (links : ℕ) (ps : List Bytes) (mark : Bool) → OnAlike (walk_with_links t last links ps mark) (walk_with_links u last links ps mark)
+  walk_with_links-alike zero ps mark = along-alike (no_link_left t last) (no_link_left u last) (λ text rest mark at. inr refl) ps mark
+  walk_with_links-alike (suc links) ps mark =
+      along-alike (through_link t last (walk_with_links t last links)) (through_link u last (walk_with_links u last links))
       (λ text rest mark at.
       alike-cond (nat_lt 1024 (weight (components text ++ rest))) _ _ _ _ (inr refl)
-      (walk-alike links (components text ++ rest) (mark || (is_empty rest && ends_in_slash text)) (if is_absolute text then root else at))) ps mark
+      (walk_with_links-alike links (components text ++ rest) (mark || (is_empty rest && ends_in_slash text)) (if is_absolute text then root else at))) ps mark
 
 pub resolve-alike : (blocks inodes : ℕ) (t : Tree) (follow : Follow) (start : ℕ) (path : Bytes) → GoesAlike (resolve t follow start path) (resolve (enlarged blocks inodes t) follow start path)
 unfolding resolve
 resolve-alike blocks inodes t follow start path =
     alike-cond (is_empty path) _ _ _ _ (inr refl)
     (alike-cond (nat_lt 1023 (length path)) _ _ _ _ (inr refl)
-    (walk-alike blocks inodes t (follows_last follow) 32 (components path) (end_mark follow path) (if is_absolute path then root else start)))
+    (walk_with_links-alike blocks inodes t (follows_last follow) 32 (components path) (end_mark follow path) (if is_absolute path then root else start)))

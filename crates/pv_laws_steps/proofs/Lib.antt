@@ -1,39 +1,39 @@
 -- Lemmas about single steps.
--- - Dependence: Insides (lists of processes that differ inside), AgreeingStates (states that agree in what a step depends on),
---   ValidInsides (validity when insides are replaced), SeenSteps (steps in such states).
+-- - Dependence: ProcessInsides (lists of processes that differ inside), AgreeingStates (states that agree in the part
+--   on which a step depends), ValidInsides (validity when insides are replaced), DependentSteps (steps in such states).
 -- - Two states at once: ChangedPairs (attempts, answers and steps, for any relation of states), ReportedParts (the
---   lines of a call), ChangedProcess, BesideCalls, RoomCalls and BesideSteps (another process differs), RelabelledCalls
---   (the caller differs), Shifts and ShiftCalls (an open file differs), OtherBytes and ContentSteps (the bytes of a
---   file differ), OtherReferences and RoomApart (references differ), NextCalls and LeftOpenFiles (the effects of the
---   next call).
--- - Commuting steps: CommutingSteps, InwardSteps, ReorderedRuns, ExchangedSteps, Orphans; and for kinds of calls
---   LoneSteps, QuerySteps, OffsetSteps, WriteSteps, CutSteps, EntrySteps, ReferenceSteps and OwnSteps (references
---   change), DescriptorSteps, DirectorySteps, UnveilSteps, ExecveSteps.
+--   lines of a call), ChangedProcess, CallsOfOthers, RoomCalls and StepsOfOthers (another process differs),
+--   CallsWithOtherTables (the caller differs), ChangedOffsets and OffsetCalls (an open file differs), OtherBytes and
+--   ContentSteps (the bytes of a file differ), OtherReferences and RoomRefusals (references differ), NextCalls and
+--   KeptOpenFiles (the effects of the next call).
+-- - Commuting steps: CommutingSteps, InsideSteps, ReorderedRuns, ExchangedSteps, ParentIndependence; and for kinds of
+--   calls IndependentSteps, QuerySteps, OffsetSteps, WriteSteps, CutSteps, EntrySteps, ReferenceSteps and OwnSteps
+--   (references change), DescriptorSteps, DirectorySteps, UnveilSteps, ExecveSteps.
 -- - Larger images: PaddedMaps, LargerNeeds, LargerTrees, LargerTreeRoom, LargerChanges, LargerWalks, LargerAttempts,
 --   LargerCalls, LargerSteps, LargerRuns, LargerImages.
--- - Examples by computation: ExampleRuns, CommuteExampleRuns, HoldingExamples, GrowingExamples, EntryExamples,
+-- - Examples by computation: ExampleRuns, CommuteExampleRuns, UnveilExampleRuns, GrowthExampleRuns, EntryExamples,
 --   FullImageExampleRuns.
-pub mod Insides
+pub mod ProcessInsides
 pub mod AgreeingStates
 pub mod ValidInsides
-pub mod SeenSteps
+pub mod DependentSteps
 pub mod ExampleRuns
 -- ---- commuting steps
 pub mod ChangedPairs
 pub mod ChangedProcess
-pub mod BesideCalls
+pub mod CallsOfOthers
 pub mod RoomCalls
-pub mod BesideSteps
-pub mod Shifts
-pub mod ShiftCalls
+pub mod StepsOfOthers
+pub mod ChangedOffsets
+pub mod OffsetCalls
 pub mod CommutingSteps
 pub mod OtherReferences
-pub mod InwardSteps
-pub mod Orphans
+pub mod InsideSteps
+pub mod ParentIndependence
 pub mod ReportedParts
 pub mod ExchangedSteps
-pub mod LoneSteps
-pub mod LeftOpenFiles
+pub mod IndependentSteps
+pub mod KeptOpenFiles
 pub mod QuerySteps
 pub mod ReferenceSteps
 pub mod OwnSteps
@@ -42,17 +42,17 @@ pub mod OffsetSteps
 pub mod OtherBytes
 pub mod ContentSteps
 pub mod WriteSteps
-pub mod RoomApart
+pub mod RoomRefusals
 pub mod DirectorySteps
 pub mod UnveilSteps
 pub mod ExecveSteps
 pub mod CutSteps
-pub mod RelabelledCalls
+pub mod CallsWithOtherTables
 pub mod NextCalls
 pub mod EntrySteps
 pub mod CommuteExampleRuns
-pub mod HoldingExamples
-pub mod GrowingExamples
+pub mod UnveilExampleRuns
+pub mod GrowthExampleRuns
 pub mod EntryExamples
 pub mod ReorderedRuns
 -- ---- larger images

@@ -4,7 +4,7 @@ use Rattle.pv_model.specs.declared.call.Call.{Call}
 use Rattle.pv_model.specs.Machine.{calls_for, next, Process, State, process_at, descriptor_of}
 use Rattle.pv_laws_runs.specs.OfLawsAccess.Justice.{reads_bytes, changes_bytes, asks_size}
 use Rattle.pv_laws_steps.specs.Growing.{LeavesContent}
-use Rattle.pv_laws_steps.specs.Offsets.{GoesBy}
+use Rattle.pv_laws_steps.specs.Offsets.{DependsOnOffset}
 use Rattle.pv_laws_steps.specs.Writes.{LeavesBytes}
 
 module _ (s : State) (pid : ℕ) (p : Process) (call : Call) (at : process_at s pid ≡ Some p) (comes : next p ≡ calls_for call) where
@@ -17,7 +17,7 @@ module _ (s : State) (pid : ℕ) (p : Process) (call : Call) (at : process_at s 
       let is : call ≡ made = cc asked in sym is
 
   -- a call without a descriptor uses no open file
-  pub goes-by_none : descriptor_of call ≡ None → (k : ℕ) → ¬ GoesBy s pid k
+  pub goes-by_none : descriptor_of call ≡ None → (k : ℕ) → ¬ DependsOnOffset s pid k
   goes-by_none none k goes =
       let bad : None ≡ Some goes.named.d = sym none ∙ ap descriptor_of (sym (same-call goes.named.p goes.named.call goes.named.at goes.named.next_is)) ∙ goes.named.own in cc bad
 

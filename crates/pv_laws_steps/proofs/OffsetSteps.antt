@@ -11,23 +11,23 @@ use Rattle.pv_model.specs.declared.promise.Promise.{Promise}
 use Rattle.pv_model.specs.Machine.{at_next_line, update, effect, Attempt, ◌>>=◌, ◌>>◌, refuse_if, demand, Bytes, within, seek_base, next_name, list_name, Effect, answers, answers_bytes, open_file_of, open_file, with_file, bytes_of, collect, needs, at_number, calls_for, next, missing_promise, OpenFile, Descriptor, Program, Process, State, reads, process_at, with_process, step, Node, node_at, is_directory, entries_of}
 use Rattle.pv_model.specs.Calls.Descriptors.{if_mode}
 use Rattle.pv_laws_states.specs.States.{EncodesPrograms, IsValid}
-use Rattle.pv_laws_states.proofs.ByFile.{open_file-at}
+use Rattle.pv_laws_states.proofs.ValidByFile.{open_file-at}
 use Rattle.pv_laws_states.proofs.Processes.{update-with}
-use Rattle.pv_laws_states.proofs.CallRests
+use Rattle.pv_laws_states.proofs.CallRemainders
 use Rattle.pv_laws_states.proofs.ProcessInsides.{SameHolds}
 use Rattle.pv_laws_runs.specs.OfLawsAccess.Growth.{IsSameFile}
 use Rattle.pv_laws_runs.proofs.OfLawsAccess.CallEffects.{open_file_for-is}
-use Rattle.pv_laws_runs.proofs.OfLawsAccess.Ends.{whole-in_order}
+use Rattle.pv_laws_runs.proofs.OfLawsAccess.ProcessesAfterEnds.{valid-in_order}
 use Rattle.pv_laws_runs.proofs.OfLawsAccess.OtherOpenFiles.{others-files}
 use Rattle.pv_laws_steps.specs.Beside.{with_change, become}
 use Rattle.pv_laws_steps.specs.Commuting.{Commute}
-use Rattle.pv_laws_steps.specs.Offsets.{with_file_change, GoesBy, moves_offset, LeavesOpenFile}
-use Rattle.pv_laws_steps.proofs.ChangedPairs.{SteppedBeside, collected-update}
+use Rattle.pv_laws_steps.specs.Offsets.{with_file_change, DependsOnOffset, moves_offset, LeavesOpenFile}
+use Rattle.pv_laws_steps.proofs.ChangedPairs.{SteppedPair, collected-update}
 use Rattle.pv_laws_steps.proofs.ChangedProcess.{process-changed}
-use Rattle.pv_laws_steps.proofs.LoneSteps.{commute-where}
-use Rattle.pv_laws_steps.proofs.Orphans.{orphan}
-use Rattle.pv_laws_steps.proofs.ShiftCalls.{shifts, HasFile, step-shifted}
-use Rattle.pv_laws_steps.proofs.Shifts.{shifted-itself, shift-apart, change-nothing, put-is_change}
+use Rattle.pv_laws_steps.proofs.IndependentSteps.{commute-where}
+use Rattle.pv_laws_steps.proofs.ParentIndependence.{orphan}
+use Rattle.pv_laws_steps.proofs.OffsetCalls.{shifts, HasFile, step-shifted}
+use Rattle.pv_laws_steps.proofs.ChangedOffsets.{shifted-itself, shift-apart, change-nothing, put-is_change}
 use Rattle.pv_laws_steps.proofs.ExchangedSteps.{acts, Two, two-bind, two-then, two-demand, after_k, heir, quiet, quiet-following, passes-by, commute-steps, call-twice}
 
 -- ---- a step and an open file that it does not use
@@ -36,7 +36,7 @@ module _ (program_of : Bytes → Option Program) (s : State) (k : ℕ) where
   abbrev t : State
   t = (step program_of s k).after
 
-  stays-where : (m : ℕ) (file : OpenFile) → at_number s.files m ≡ Some file → ¬ GoesBy s k m → (left : OpenFile) → at_number t.files m ≡ Some left → IsSameFile file left → left ≡ file
+  stays-where : (m : ℕ) (file : OpenFile) → at_number s.files m ≡ Some file → ¬ DependsOnOffset s k m → (left : OpenFile) → at_number t.files m ≡ Some left → IsSameFile file left → left ≡ file
   stays-where m file at away left there same =
       let g : OpenFile → OpenFile = λ f. record f { append = file.append; offset = file.offset; listed = file.listed } in
       let beside = step-shifted m g (λ f. record { node = refl; mode = refl }) program_of s k (ap is_some at) away in
@@ -46,12 +46,12 @@ module _ (program_of : Bytes → Option Program) (s : State) (k : ℕ) where
       let is : left ≡ g left = cc both in
       is ∙ (λ i. record { node = same.node i; mode = same.mode i; append = file.append; offset = file.offset; listed = file.listed })
 
-  module _ (j : ℕ) (p : Process) (whole : IsValid s) (apart : j ≢ k) (at : process_at s j ≡ Some p) (d : ℤ) (away : (m : ℕ) (file : OpenFile) → open_file s p d ≡ Some (m, file) → ¬ GoesBy s k m) where
+  module _ (j : ℕ) (p : Process) (whole : IsValid s) (apart : j ≢ k) (at : process_at s j ≡ Some p) (d : ℤ) (away : (m : ℕ) (file : OpenFile) → open_file s p d ≡ Some (m, file) → ¬ DependsOnOffset s k m) where
     -- the open file of another process's descriptor
     pub same-open : open_file t p d ≡ open_file s p d
     same-open = of d away
       where
-        of : (d : ℤ) → ((m : ℕ) (file : OpenFile) → open_file s p d ≡ Some (m, file) → ¬ GoesBy s k m) → open_file t p d ≡ open_file s p d
+        of : (d : ℤ) → ((m : ℕ) (file : OpenFile) → open_file s p d ≡ Some (m, file) → ¬ DependsOnOffset s k m) → open_file t p d ≡ open_file s p d
         of (negsuc e) away = refl
         of (pos e) away = by (at_number p.descriptors e) refl
           where
@@ -59,7 +59,7 @@ module _ (program_of : Bytes → Option Program) (s : State) (k : ℕ) where
             found x is None none = let some : is_some (at_number s.files x.file) ≡ true = (whole.processes.placed j p at).opens e x is in let no : is_some (at_number s.files x.file) ≡ false = ap is_some none in cc
             found x is (Some file) there =
                 let own : open_file s p (pos e) ≡ Some (x.file, file) = ap (open_file_of s) is ∙ ap (option_map (λ (f : OpenFile). (x.file, f))) there in
-                let left = others-files program_of s k (whole-in_order s whole) j p e x file apart at is there in
+                let left = others-files program_of s k (valid-in_order s whole) j p e x file apart at is there in
                 let same : left.0 ≡ file = stays-where x.file file there (away x.file file own) left.0 left.1 left.2 in
                 ap (open_file_of t) is ∙ ap (option_map (λ (f : OpenFile). (x.file, f))) (left.1 ∙ ap Some same) ∙ sym own
 
@@ -79,7 +79,7 @@ pub record Shift (s t : State) (k : ℕ) : Type 0 where
   pub listed : Option Bytes
   pub there : HasFile number s
   pub following : HasFile number t
-  pub away : ¬ GoesBy s k number
+  pub away : ¬ DependsOnOffset s k number
 
 abbrev pub shift : (s t : State) (k : ℕ) → Shift s t k → State → State
 shift s t k a x = with_file_change x a.number (appear a.offset a.listed)
@@ -88,7 +88,7 @@ pub keeps-file : (offset : ℕ) (listed : Option Bytes) (f : OpenFile) → IsSam
 keeps-file offset listed f = record { node = refl; mode = refl }
 
 -- after the change, another process uses the same open files
-pub goes-as_before : (s : State) (j k m : ℕ) (f : Process → Process) → j ≢ k → GoesBy (with_change s j f) k m → GoesBy s k m
+pub goes-as_before : (s : State) (j k m : ℕ) (f : Process → Process) → j ≢ k → DependsOnOffset (with_change s j f) k m → DependsOnOffset s k m
 goes-as_before s j k m f apart goes = record {
   named = record {
     p = goes.named.p;
@@ -132,7 +132,7 @@ module _ (program_of : Bytes → Option Program) (encodes : EncodesPrograms prog
   two-still : (m : ℕ) (bytes : Bytes) → T (answers_bytes x m bytes) (answers_bytes y m bytes)
   two-still m bytes = record { both = (refl, refl, tt, (None, now, itself, refl, refl)) }
 
-  module _ (m : ℕ) (file : OpenFile) (there : at_number s.files m ≡ Some file) (following : at_number u.files m ≡ Some file) (away : ¬ GoesBy s k m) (same : node_at u.tree file.node ≡ node_at s.tree file.node) where
+  module _ (m : ℕ) (file : OpenFile) (there : at_number s.files m ≡ Some file) (following : at_number u.files m ≡ Some file) (away : ¬ DependsOnOffset s k m) (same : node_at u.tree file.node ≡ node_at s.tree file.node) where
     act-of : (offset : ℕ) (listed : Option Bytes) → A
     act-of offset listed = record { number = m; offset = offset; listed = listed; there = ap is_some there; following = ap is_some following; away = away }
 
@@ -157,14 +157,14 @@ module _ (program_of : Bytes → Option Program) (encodes : EncodesPrograms prog
     abbrev read_by : Option Node → State → ℕ → Attempt Effect
     read_by w z count = refuse_if EISDIR (is_directory w) >> answers_bytes (with_file z m (record file { offset = file.offset + length (taken w count) })) (length (taken w count)) (taken w count)
 
-    read-counted : (count : ℕ) → T (CallRests.read_2 x j now m file count) (CallRests.read_2 y j (orphan n now) m file count)
+    read-counted : (count : ℕ) → T (CallRemainders.read_2 x j now m file count) (CallRemainders.read_2 y j (orphan n now) m file count)
     read-counted count =
         subst (λ w. T (read_by (node_at s.tree file.node) x count) (read_by w y count)) (sym same)
         (two-then A (shift s u k) s u j n now (refuse_if EISDIR (is_directory (node_at s.tree file.node))) _ _
         (two-bytes (file.offset + length (taken (node_at s.tree file.node) count)) file.listed (length (taken (node_at s.tree file.node) count)) (taken (node_at s.tree file.node) count)))
 
-    read-rest : (c : ℤ) → T (CallRests.read_1 x j now c (m, file)) (CallRests.read_1 y j (orphan n now) c (m, file))
-    read-rest c = two-bind A (shift s u k) s u j n now (demand EINVAL (within 4096 c)) (CallRests.read_2 x j now m file) (CallRests.read_2 y j (orphan n now) m file) read-counted
+    read-rest : (c : ℤ) → T (CallRemainders.read_1 x j now c (m, file)) (CallRemainders.read_1 y j (orphan n now) c (m, file))
+    read-rest c = two-bind A (shift s u k) s u j n now (demand EINVAL (within 4096 c)) (CallRemainders.read_2 x j now m file) (CallRemainders.read_2 y j (orphan n now) m file) read-counted
 
     -- lseek(2)
     abbrev seek_by : Bool → ℕ → State → ℤ → Attempt Effect
@@ -175,7 +175,7 @@ module _ (program_of : Bytes → Option Program) (encodes : EncodesPrograms prog
     base-same Current = refl
     base-same End = ap (λ w. length (bytes_of w)) same
 
-    lseek-rest : (by : ℤ) (whence : Whence) → T (CallRests.lseek_1 x j now by whence (m, file)) (CallRests.lseek_1 y j (orphan n now) by whence (m, file))
+    lseek-rest : (by : ℤ) (whence : Whence) → T (CallRemainders.lseek_1 x j now by whence (m, file)) (CallRemainders.lseek_1 y j (orphan n now) by whence (m, file))
     lseek-rest by whence =
         let dir : Bool = is_directory (node_at s.tree file.node) in
         let base : ℕ = seek_base x j now file whence in
@@ -192,12 +192,12 @@ module _ (program_of : Bytes → Option Program) (encodes : EncodesPrograms prog
     abbrev list_by : Option Node → State → Process → Attempt Effect
     list_by w z me = refuse_if EINVAL (not (is_directory w)) >> list_name z j me m file (next_name file.listed (entries_of w))
 
-    getdents-rest : T (CallRests.getdents_1 x j now (m, file)) (CallRests.getdents_1 y j (orphan n now) (m, file))
+    getdents-rest : T (CallRemainders.getdents_1 x j now (m, file)) (CallRemainders.getdents_1 y j (orphan n now) (m, file))
     getdents-rest =
         subst (λ w. T (list_by (node_at s.tree file.node) x now) (list_by w y (orphan n now))) (sym same)
         (two-then A (shift s u k) s u j n now (refuse_if EINVAL (not (is_directory (node_at s.tree file.node)))) _ _ (listed-two (next_name file.listed (entries_of (node_at s.tree file.node)))))
 
-  module _ (d : ℤ) (leaves : (m : ℕ) (file : OpenFile) → open_file s p d ≡ Some (m, file) → (¬ GoesBy s k m) × (node_at u.tree file.node ≡ node_at s.tree file.node)) where
+  module _ (d : ℤ) (leaves : (m : ℕ) (file : OpenFile) → open_file s p d ≡ Some (m, file) → (¬ DependsOnOffset s k m) × (node_at u.tree file.node ≡ node_at s.tree file.node)) where
     opened : open_file u p d ≡ open_file s p d
     opened = same-open program_of s k j p whole apart at d (λ m file is. (leaves m file is).0)
 
@@ -207,7 +207,7 @@ module _ (program_of : Bytes → Option Program) (encodes : EncodesPrograms prog
     -- a call that continues with its open file
     abbrev GoesOn : (ℕ × OpenFile → Attempt Effect) → (ℕ × OpenFile → Attempt Effect) → Type 0
     GoesOn G H =
-        (m : ℕ) (file : OpenFile) → at_number s.files m ≡ Some file → at_number u.files m ≡ Some file → ¬ GoesBy s k m → node_at u.tree file.node ≡ node_at s.tree file.node → T (G (m, file)) (H (m, file))
+        (m : ℕ) (file : OpenFile) → at_number s.files m ≡ Some file → at_number u.files m ≡ Some file → ¬ DependsOnOffset s k m → node_at u.tree file.node ≡ node_at s.tree file.node → T (G (m, file)) (H (m, file))
 
     goes-on : (G H : ℕ × OpenFile → Attempt Effect) → GoesOn G H → (m : ℕ) (file : OpenFile) → open_file s p d ≡ Some (m, file) → T (G (m, file)) (H (m, file))
     goes-on G H is m file own = let left = leaves m file own in is m file (open_file-at s p d m file own) (past-at m file own) left.0 left.1
@@ -225,10 +225,10 @@ module _ (program_of : Bytes → Option Program) (encodes : EncodesPrograms prog
 
   moves-two : (call : Call) → moves_offset call ≡ true → LeavesOpenFile program_of s p call k → T (effect program_of x j now call) (effect program_of y j (orphan n now) call)
   unfolding effect
-  moves-two (TheCall.Read d c) moves leaves = by-file d (λ m file own. leaves d m file refl own) reads (CallRests.read_1 x j now c) (CallRests.read_1 y j (orphan n now) c) (λ m file there following away same. read-rest m file there following away same c)
+  moves-two (TheCall.Read d c) moves leaves = by-file d (λ m file own. leaves d m file refl own) reads (CallRemainders.read_1 x j now c) (CallRemainders.read_1 y j (orphan n now) c) (λ m file there following away same. read-rest m file there following away same c)
   moves-two (TheCall.Lseek d by whence) moves leaves =
-      any-file d (λ m file own. leaves d m file refl own) (CallRests.lseek_1 x j now by whence) (CallRests.lseek_1 y j (orphan n now) by whence) (λ m file there following away same. lseek-rest m file there following away same by whence)
-  moves-two (TheCall.Getdents d) moves leaves = any-file d (λ m file own. leaves d m file refl own) (CallRests.getdents_1 x j now) (CallRests.getdents_1 y j (orphan n now)) (λ m file there following away same. getdents-rest m file there following away same)
+      any-file d (λ m file own. leaves d m file refl own) (CallRemainders.lseek_1 x j now by whence) (CallRemainders.lseek_1 y j (orphan n now) by whence) (λ m file there following away same. lseek-rest m file there following away same by whence)
+  moves-two (TheCall.Getdents d) moves leaves = any-file d (λ m file own. leaves d m file refl own) (CallRemainders.getdents_1 x j now) (CallRemainders.getdents_1 y j (orphan n now)) (λ m file there following away same. getdents-rest m file there following away same)
   moves-two call moves leaves = cc moves
 
   -- ---- the state after the change
@@ -246,7 +246,7 @@ module _ (program_of : Bytes → Option Program) (encodes : EncodesPrograms prog
       ∙ ap (shifts a.number g) (ap collect (update-with u j h q) ∙ quiet-following program_of encodes s j k p whole apart at (h q) same)
 
   passes : (o : Option A) (q : Process) → SameHolds p q
-      → SteppedBeside (λ x. acts (shift s u k) o (with_change x j (become q))) (step program_of s k) (step program_of (acts (shift s u k) o (with_change s j (become q))) k)
+      → SteppedPair (λ x. acts (shift s u k) o (with_change x j (become q))) (step program_of s k) (step program_of (acts (shift s u k) o (with_change s j (become q))) k)
   passes None q same = passes-by program_of encodes s j k p whole apart at q same
   passes (Some a) q same =
       let inside = passes-by program_of encodes s j k p whole apart at q same in

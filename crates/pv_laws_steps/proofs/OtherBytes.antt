@@ -7,18 +7,18 @@ use Rattle.pv_model.specs.declared.perms.Perms.{Perms}
 use Rattle.pv_model.specs.declared.place.Place.{Place}
 use Rattle.pv_model.specs.Machine.{Bytes, is_past_greatest, with_content_of, with_content, bytes_of, start_directory, collect, Numbered, greatest_length, is_too_long, fits, is_file, Program, Process, State, with_tree, step, change_file, file_bytes, with_bytes, place_found, places, IsAllowed, Justifies, read_by_descriptor, read_by_execve, Node, directory_node, file_node, link_node, node_at, walks_of}
 use Rattle.pv_model.specs.Touch.{Touch, change_by_descriptor, change_by_open, entry_by_place, report_by_descriptor, report_by_place, gain_by_open}
-use Rattle.pv_laws_trees.proofs.Changes.{node_at-same, cases_name}
-use Rattle.pv_laws_trees.proofs.Numbered.{at_number-below}
-use Rattle.pv_laws_trees.proofs.Rooms.{length-within}
+use Rattle.pv_laws_trees.proofs.TreeChanges.{node_at-same, cases_name}
+use Rattle.pv_laws_trees.proofs.NumberedMaps.{at_number-below}
+use Rattle.pv_laws_trees.proofs.NodeRoom.{length-within}
 use Rattle.pv_laws_states.specs.States.{are_bytes, IsValid}
 use Rattle.pv_laws_states.proofs.GrownTrees.{tree-content, carries-content, ready-tree}
-use Rattle.pv_laws_states.proofs.Replies.{whole-collect}
+use Rattle.pv_laws_states.proofs.ValidReplies.{valid-collect}
 use Rattle.pv_laws_runs.specs.OfLawsAccess.Justice.{ChangesBytes, HasEffectNext}
 use Rattle.pv_laws_runs.proofs.OfLawsAccess.ChangedTrees.{file-collect}
 use Rattle.pv_laws_runs.proofs.OfLawsAccess.JustifiedChanges.{files-changed}
 use Rattle.pv_laws_runs.proofs.OfLawsAccess.JustifiedReads.{near-or_read}
 use Rattle.pv_laws_runs.proofs.OfLawsAccess.SimilarTrees.{GoesByLength, IsExact, IsFine, blocks, blocks-fine, past-alike, near-view, AreNear, near-at, near_state, IsNear, near-collect, fits-near, too_long-near, near-bytes, same-but_file, resolve-near, judgement-near}
-use Rattle.pv_laws_steps.specs.Growing.{LeavesContent, ContentsAlterNothing}
+use Rattle.pv_laws_steps.specs.Growing.{LeavesContent, ContentsDoNotMatter}
 use Rattle.pv_laws_steps.specs.Writes.{LeavesBytes}
 
 -- the bytes of the file are the new ones
@@ -99,11 +99,11 @@ module _ (size : ℕ → ℕ) (fine : IsFine size) where
         let same : file_bytes (collect other) f ≡ b = ap bytes_of (file-collect other f still) ∙ bytes-there z f b file in
         sym (same-but_file size f (collect z) (collect other) both) ∙ ap (λ (y : State). with_bytes y f (file_bytes (collect other) f)) collected ∙ ap (with_bytes z f) same
 
-    pub whole-bytes : IsValid z → is_file (node_at z.tree f) ≡ true → are_bytes b ≡ true → IsValid other
-    whole-bytes whole file good =
+    pub valid-bytes : IsValid z → is_file (node_at z.tree f) ≡ true → are_bytes b ≡ true → IsValid other
+    valid-bytes whole file good =
         let settled = settled-bytes whole.collected file in
         subst IsValid settled
-        (whole-collect other
+        (valid-collect other
         (ready-tree z whole (with_content z.tree f b) (tree-content z.tree whole.tree f b good) (carries-content z.tree whole.tree f b good) (record {
           fits = ap (λ (y : State). fits y.tree) settled ∙ fits-bytes ∙ whole.fits;
           not_too_long = ap (λ (y : State). is_too_long y.tree) settled ∙ long-bytes ∙ whole.not_too_long;
@@ -166,10 +166,10 @@ module _ (size : ℕ → ℕ) (fine : IsFine size) where
             let file' : is_file (node_at s'.tree f) ≡ true = still-file s f b long ∙ file in
             let there' : is_file (node_at t'.tree f) ≡ true =
             near-view size is_file (node_at t.tree f) (node_at t'.tree f) (λ executable old new same. refl) (near-at size f t.tree.nodes t'.tree.nodes near.nodes f) ∙ there in
-            ap (with_bytes t f) (bytes-left program_of k f s' (whole-bytes s f b long whole file good) file' there' (λ is. leaves.1 (changes-near s k f b long is)) ∙ bytes-there s f b file)
+            ap (with_bytes t f) (bytes-left program_of k f s' (valid-bytes s f b long whole file good) file' there' (λ is. leaves.1 (changes-near s k f b long is)) ∙ bytes-there s f b file)
 
 -- a step that leaves the content of a file alone follows a change of the bytes to any that need the same number of blocks
-pub contents-alter-nothing : ContentsAlterNothing
+pub contents-alter-nothing : ContentsDoNotMatter
 contents-alter-nothing program_of s pid f bytes whole file good long leaves =
     let along = goes-along blocks blocks-fine program_of pid f s bytes whole file long good leaves.0 (λ by. absurd (not_by-length s pid f leaves by)) in
     record { outcome = along.outcome; lines = along.lines; after = along.after }

@@ -8,23 +8,23 @@ use Rattle.pv_model.specs.declared.call.Call.{Call}
 use Rattle.pv_model.specs.Machine.{at_next_line, effect, Attempt, done, refused, Bytes, Effect, returns, returns_bytes, ends, waits, among, held_by_process, collect, needs, Numbered, at_number, with_number, least_free, present, keep, calls_for, next, missing_promise, OpenFile, Descriptor, Program, Process, ProcessRecord, live, ended_record, State, process_at, with_process, step, Tree, root, named_numbers, IsWellFormed}
 use Rattle.pv_laws_trees.specs.Preserved.{preserved, numbers_wanted}
 use Rattle.pv_laws_trees.proofs.Collection.{wanted-is, in_turn}
-use Rattle.pv_laws_trees.proofs.Numbered.{at_number-keep, keep_if-some, keep-keep, keep-agree, with_number-other_within, least_free-within, least_free-free}
-use Rattle.pv_laws_trees.proofs.Generic.{implied}
+use Rattle.pv_laws_trees.proofs.NumberedMaps.{at_number-keep, keep_if-some, keep-keep, keep-agree, with_number-other_within, least_free-within, least_free-free}
+use Rattle.pv_laws_trees.proofs.ListTests.{implied}
 use Rattle.pv_laws_states.specs.Held.{used}
 use Rattle.pv_laws_states.specs.States.{EncodesPrograms, IsValid, is_call}
-use Rattle.pv_laws_states.proofs.Attempts.{Leads}
-use Rattle.pv_laws_states.proofs.BySteps.{good-effect, IsGoodNext, good-next}
+use Rattle.pv_laws_states.proofs.AttemptValues.{Leads}
+use Rattle.pv_laws_states.proofs.ValidBySteps.{good-effect, IsGoodNext, good-next}
 use Rattle.pv_laws_states.proofs.ValidEnds.{tree-end}
-use Rattle.pv_laws_states.proofs.Members.{all_of, live-found, among-used, used-among}
-use Rattle.pv_laws_states.proofs.Outcomes.{at_call}
+use Rattle.pv_laws_states.proofs.ReferenceMembers.{all_of, live-found, among-used, used-among}
+use Rattle.pv_laws_states.proofs.CallOutcomes.{at_call}
 use Rattle.pv_laws_states.proofs.Processes.{process_at-same, process_at-other}
-use Rattle.pv_laws_states.proofs.Replies.{IsEffect, whole-at_call}
-use Rattle.pv_laws_states.proofs.Collect.{files-collect, processes-collect, held_after, collect_once}
+use Rattle.pv_laws_states.proofs.ValidReplies.{IsEffect, valid-at_call}
+use Rattle.pv_laws_states.proofs.CollectedStates.{files-collect, processes-collect, held_after, collect_once}
 use Rattle.pv_laws_states.proofs.ValidStates.{sorted-put_number}
-use Rattle.pv_laws_runs.proofs.OfLawsAccess.Ends.{process_at-collect}
+use Rattle.pv_laws_runs.proofs.OfLawsAccess.ProcessesAfterEnds.{process_at-collect}
 use Rattle.pv_laws_steps.specs.Beside.{with_change}
-use Rattle.pv_laws_steps.proofs.ChangedPairs.{moved, step-beside_to, SteppedTo, FitsCollect}
-use Rattle.pv_laws_steps.proofs.BesideCalls.{changes}
+use Rattle.pv_laws_steps.proofs.ChangedPairs.{moved, step-in_both_to, SteppedTo, FitsCollect}
+use Rattle.pv_laws_steps.proofs.CallsOfOthers.{changes}
 use Rattle.pv_laws_steps.proofs.CommutingSteps.{put-changes}
 use Rattle.pv_laws_steps.proofs.ChangedProcess.{KeepsParent, changed, process-changed, with-changed, end-changed}
 
@@ -171,7 +171,7 @@ module _ (program_of : Bytes → Option Program) (encodes : EncodesPrograms prog
       → effect program_of (with_change (at_call s k me) j f) k (at_next_line me) call ≡ moved (changes j f) (λ x. Unit {0}) (effect program_of (at_call s k me) k (at_next_line me) call))
       → ((x : State) → x.processes ≡ last.processes → collect x ≡ last → NoMore j f x) → SteppedTo (ToCollect j f) (step program_of s k) (step program_of (with_change s j f) k)
   step-to_collect rows less =
-      step-beside_to (changes j f) (λ x. IsWellFormed x.tree) k last (ToCollect j f) (record {
+      step-in_both_to (changes j f) (λ x. IsWellFormed x.tree) k last (ToCollect j f) (record {
         there = λ x. process-changed j f x k apart;
         put = λ x q. with-changed j f x k q apart;
         fit_put = λ x q fit. fit;
@@ -183,7 +183,7 @@ module _ (program_of : Bytes → Option Program) (encodes : EncodesPrograms prog
       }) program_of s whole.tree.well_formed
       (λ me call at comes held.
       let good : is_call call ≡ true = subst (IsGoodNext me) comes (good-next me (whole.processes.running k me at)) in
-      let whole_x : IsValid (at_call s k me) = whole-at_call s k me whole at in (
+      let whole_x : IsValid (at_call s k me) = valid-at_call s k me whole at in (
         same-moved (effect program_of (at_call s k me) k (at_next_line me) call) (rows me at call comes held),
         sound-effect (at_call s k me) (effect program_of (at_call s k me) k (at_next_line me) call) whole_x
             (good-effect program_of encodes (at_call s k me) k (at_next_line me) call whole_x (process_at-same s k (at_next_line me)) good),

@@ -7,24 +7,24 @@ use Rattle.pv_model.specs.declared.call.Call.{Call}
 use Rattle.pv_model.specs.Machine.{Answered, at_next_line, effect, Attempt, done, refused, after_walks, ◌>>=◌, ◌>>◌, Bytes, with_result, Effect, returns, among, used_files, held_by_process, collect, needs, at_number, keep, calls_for, next, missing_promise, OpenFile, Program, Process, State, live_process, process_at, with_process, with_tree, Stepped, step, Node, Tree, node_at, is_directory, is_directory_at}
 use Rattle.pv_laws_trees.specs.Preserved.{numbers_wanted}
 use Rattle.pv_laws_trees.proofs.Collection.{wanted-held}
-use Rattle.pv_laws_trees.proofs.Numbered.{keep-some}
+use Rattle.pv_laws_trees.proofs.NumberedMaps.{keep-some}
 use Rattle.pv_laws_states.specs.Held.{used}
 use Rattle.pv_laws_states.specs.States.{EncodesPrograms, IsValid}
-use Rattle.pv_laws_states.proofs.BySteps.{step-keeps_whole}
-use Rattle.pv_laws_states.proofs.Members.{among-held_by, among-held_file, held_cases}
-use Rattle.pv_laws_states.proofs.Outcomes.{at_call}
+use Rattle.pv_laws_states.proofs.ValidBySteps.{step-keeps_valid}
+use Rattle.pv_laws_states.proofs.ReferenceMembers.{among-held_by, among-held_file, held_cases}
+use Rattle.pv_laws_states.proofs.CallOutcomes.{at_call}
 use Rattle.pv_laws_states.proofs.Processes.{process_at-same, with_process-twice}
-use Rattle.pv_laws_states.proofs.Collect.{held_after, tree-collect, files-collect}
-use Rattle.pv_laws_runs.proofs.OfLawsAccess.Ends.{whole-in_order, not_next, process_at-collect}
+use Rattle.pv_laws_states.proofs.CollectedStates.{held_after, tree-collect, files-collect}
+use Rattle.pv_laws_runs.proofs.OfLawsAccess.ProcessesAfterEnds.{valid-in_order, not_next, process_at-collect}
 use Rattle.pv_laws_steps.specs.Beside.{with_change}
 use Rattle.pv_laws_steps.specs.Commuting.{Commute}
 use Rattle.pv_laws_steps.specs.Holding.{LeavesOpenFiles, LeavesTree}
 use Rattle.pv_laws_steps.proofs.ChangedProcess.{KeepsParent, process-changed}
 use Rattle.pv_laws_steps.proofs.ReferenceSteps.{Gives, gives, refused-commute, given-commute}
 use Rattle.pv_laws_steps.proofs.OtherReferences.{found-same, UsesNoMore, NoMore, all-changed, used-before, change-is, step-to_collect}
-use Rattle.pv_laws_steps.proofs.Orphans.{orphan, orphaned, next-orphan}
-use Rattle.pv_laws_steps.proofs.RoomApart.{held-there, in-order, goes-along}
-use Rattle.pv_laws_steps.proofs.ExchangedSteps.{after_k, whole-following, at-following, heir}
+use Rattle.pv_laws_steps.proofs.ParentIndependence.{orphan, orphaned, next-orphan}
+use Rattle.pv_laws_steps.proofs.RoomRefusals.{held-there, in-order, goes-along}
+use Rattle.pv_laws_steps.proofs.ExchangedSteps.{after_k, valid-following, at-following, heir}
 
 -- ---- the effect of such a call
 
@@ -76,7 +76,7 @@ module _ (program_of : Bytes → Option Program) (encodes : EncodesPrograms prog
   t = after_k program_of encodes s j k p whole apart at
 
   abbrev whole_t : IsValid t
-  whole_t = whole-following program_of encodes s j k p whole apart at
+  whole_t = valid-following program_of encodes s j k p whole apart at
 
   abbrev n : ℕ
   n = heir program_of encodes s j k p whole apart at
@@ -135,7 +135,7 @@ module _ (program_of : Bytes → Option Program) (encodes : EncodesPrograms prog
       u = with_change t j f
 
       whole_u : IsValid (collect u)
-      whole_u = subst IsValid after_t (step-keeps_whole program_of encodes t j whole_t)
+      whole_u = subst IsValid after_t (step-keeps_valid program_of encodes t j whole_t)
 
       at_u : process_at (collect u) j ≡ Some (f (orphan n p))
       at_u = process_at-collect u j ∙ ap (λ z. process_at z j) (sym (change-is j f t whole_t.processes.ascending (orphan n p) at_t)) ∙ process_at-same t j (f (orphan n p))
@@ -214,4 +214,4 @@ module _ (program_of : Bytes → Option Program) (encodes : EncodesPrograms prog
         given-commute program_of encodes s j k p whole apart at call comes held f keeps w value gives_s gives_t is
         (step-to_collect program_of encodes s whole j k other f keeps
         (λ me at_k made comes_k held_k.
-        goes-along program_of s whole j k other f keeps (subst IsValid is (step-keeps_whole program_of encodes s j whole)) (λ same. not_next s (whole-in_order s whole) j p at (sym same)) me at_k made comes_k) less)
+        goes-along program_of s whole j k other f keeps (subst IsValid is (step-keeps_valid program_of encodes s j whole)) (λ same. not_next s (valid-in_order s whole) j p at (sym same)) me at_k made comes_k) less)

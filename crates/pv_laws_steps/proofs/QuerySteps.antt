@@ -9,11 +9,11 @@ use Rattle.pv_model.specs.declared.promise.Promise.{Promise}
 use Rattle.pv_model.specs.Machine.{at_next_line, effect, Attempt, done, ◌>>=◌, demand, Bytes, Effect, returns, returns_bytes, answers_bytes, open_file, status, needs, calls_for, next, missing_promise, OpenFile, Program, Process, State, process_at, with_process, with_tree, step, node_at}
 use Rattle.pv_model.specs.Effect.{status_of}
 use Rattle.pv_laws_states.specs.States.{EncodesPrograms, IsValid}
-use Rattle.pv_laws_steps.specs.Asking.{asks_tree, LeavesNode}
+use Rattle.pv_laws_steps.specs.Asking.{queries_tree, LeavesNode}
 use Rattle.pv_laws_steps.specs.Commuting.{Commute}
-use Rattle.pv_laws_steps.proofs.LeftOpenFiles.{OpenAlike, alike-open}
-use Rattle.pv_laws_steps.proofs.LoneSteps.{no_act, alone-passes, commute-where}
-use Rattle.pv_laws_steps.proofs.Orphans.{orphan}
+use Rattle.pv_laws_steps.proofs.KeptOpenFiles.{OpenAlike, alike-open}
+use Rattle.pv_laws_steps.proofs.IndependentSteps.{no_act, alone-passes, commute-where}
+use Rattle.pv_laws_steps.proofs.ParentIndependence.{orphan}
 use Rattle.pv_laws_steps.proofs.ExchangedSteps.{Two, two-bind, two-then, two-refused, after_k, at-following, heir, commute-steps, call-twice}
 
 module _ (program_of : Bytes → Option Program) (encodes : EncodesPrograms program_of) (s : State) (j k : ℕ) (p : Process) (whole : IsValid s) (apart : j ≢ k) (at : process_at s j ≡ Some p) where
@@ -107,7 +107,7 @@ module _ (program_of : Bytes → Option Program) (encodes : EncodesPrograms prog
 
   ruleset parts = (same-bind, two-then, reported)
 
-  asks-two : (call : Call) → asks_tree call ≡ true → T (effect program_of x j now call) (effect program_of y' j (orphan n now) call)
+  asks-two : (call : Call) → queries_tree call ≡ true → T (effect program_of x j now call) (effect program_of y' j (orphan n now) call)
   unfolding effect
   asks-two (TheCall.Stat path) is = search parts depth 20
   asks-two (TheCall.Lstat path) is = search parts depth 20
@@ -117,7 +117,7 @@ module _ (program_of : Bytes → Option Program) (encodes : EncodesPrograms prog
       (fstat-two program_of encodes s j k p whole apart at d (λ m file own. ap (λ z. node_at z file.node) tree))
   asks-two call is = cc is
 
-  pub asking-commutes : (call : Call) → next p ≡ calls_for call → asks_tree call ≡ true → missing_promise p.promises (needs call) ≡ None → Commute program_of s j k
+  pub asking-commutes : (call : Call) → next p ≡ calls_for call → queries_tree call ≡ true → missing_promise p.promises (needs call) ≡ None → Commute program_of s j k
   asking-commutes call comes asks held =
       commute-steps program_of encodes s j k p whole apart at ⊥ no_act
       (call-twice program_of encodes s j k p whole apart at ⊥ no_act (λ a z. absurd a) (λ a q h same. absurd a) (λ a q h same. absurd a) call comes held
@@ -125,7 +125,7 @@ module _ (program_of : Bytes → Option Program) (encodes : EncodesPrograms prog
       (alone-passes program_of encodes s j k p whole apart at)
 
 pub asks-commute : (program_of : Bytes → Option Program) → EncodesPrograms program_of → (s : State) (j k : ℕ) (p : Process) (call : Call) → IsValid s → j ≢ k → process_at s j ≡ Some p → next p ≡ calls_for call
-    → asks_tree call ≡ true → ((a : Promise) → (step program_of s j).outcome ≢ Killed a) → (step program_of s k).after.tree ≡ s.tree → Commute program_of s j k
+    → queries_tree call ≡ true → ((a : Promise) → (step program_of s j).outcome ≢ Killed a) → (step program_of s k).after.tree ≡ s.tree → Commute program_of s j k
 asks-commute program_of encodes s j k p call whole apart at comes asks alive tree =
     commute-where program_of encodes s j k p call whole apart at comes alive (asking-commutes program_of encodes s j k p whole apart at tree call comes asks)
 

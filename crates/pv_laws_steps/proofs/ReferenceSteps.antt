@@ -6,17 +6,17 @@ use Rattle.pv_model.specs.declared.outcome.Cause.{Cause}
 use Rattle.pv_model.specs.declared.outcome.Outcome.TheVariants.{Value}
 use Rattle.pv_model.specs.Machine.{Answered, answer, answer_by_attempt, at_next_line, effect, Attempt, done, refused, Bytes, with_result, Effect, returns, collect, needs, calls_for, next, missing_promise, Program, Process, State, process_at, with_process, Stepped, step, step_by, buffer_of}
 use Rattle.pv_laws_states.specs.States.{EncodesPrograms, IsValid}
-use Rattle.pv_laws_states.proofs.BySteps.{step-keeps_whole}
-use Rattle.pv_laws_states.proofs.Outcomes.{at_call}
+use Rattle.pv_laws_states.proofs.ValidBySteps.{step-keeps_valid}
+use Rattle.pv_laws_states.proofs.CallOutcomes.{at_call}
 use Rattle.pv_laws_states.proofs.Processes.{process_at-same, update-with}
-use Rattle.pv_laws_runs.proofs.OfLawsAccess.Ends.{step-is, process_at-collect}
+use Rattle.pv_laws_runs.proofs.OfLawsAccess.ProcessesAfterEnds.{step-is, process_at-collect}
 use Rattle.pv_laws_steps.specs.Beside.{with_change}
 use Rattle.pv_laws_steps.specs.Commuting.{Commute}
 use Rattle.pv_laws_steps.proofs.ChangedPairs.{SteppedTo}
 use Rattle.pv_laws_steps.proofs.ChangedProcess.{KeepsParent}
 use Rattle.pv_laws_steps.proofs.OtherReferences.{change-is, ToCollect}
-use Rattle.pv_laws_steps.proofs.LoneSteps.{no_act, alone-passes}
-use Rattle.pv_laws_steps.proofs.Orphans.{orphan}
+use Rattle.pv_laws_steps.proofs.IndependentSteps.{no_act, alone-passes}
+use Rattle.pv_laws_steps.proofs.ParentIndependence.{orphan}
 use Rattle.pv_laws_steps.proofs.ReportedParts.{lines-reported}
 use Rattle.pv_laws_steps.proofs.ExchangedSteps.{answer-held, Two, after_k, heir, commute-steps, call-twice}
 
@@ -88,8 +88,8 @@ module _ (program_of : Bytes → Option Program) (encodes : EncodesPrograms prog
     buffer-same = gives_t.buffer ∙ ap (λ (r : Process). r.buffer) (keeps.whoever p n) ∙ sym gives_s.buffer
 
     -- the state after both steps, in the opposite order, is collected
-    whole-both : IsValid (step program_of (with_change s j f) k).after
-    whole-both = step-keeps_whole program_of encodes (with_change s j f) k (subst IsValid settled (step-keeps_whole program_of encodes s j whole))
+    valid-both : IsValid (step program_of (with_change s j f) k).after
+    valid-both = step-keeps_valid program_of encodes (with_change s j f) k (subst IsValid settled (step-keeps_valid program_of encodes s j whole))
 
     pub given-commute : Commute program_of s j k
     given-commute = record {
@@ -103,5 +103,5 @@ module _ (program_of : Bytes → Option Program) (encodes : EncodesPrograms prog
       second = record { outcome = ap (λ x. (step program_of x k).outcome) settled ∙ beside.outcome; lines = ap (λ x. (step program_of x k).lines) settled ∙ beside.lines };
       after =
           ap (λ (w : Stepped). w.after) gives_t.calls ∙ ap (λ (a : Answered). a.after) gives_t.answered
-          ∙ sym beside.after ∙ whole-both.collected ∙ sym (ap (λ x. (step program_of x k).after) settled);
+          ∙ sym beside.after ∙ valid-both.collected ∙ sym (ap (λ x. (step program_of x k).after) settled);
     }

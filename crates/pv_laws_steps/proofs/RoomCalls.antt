@@ -13,25 +13,25 @@ use Rattle.pv_model.specs.declared.open_flags.OpenFlags.{OpenFlags}
 use Rattle.pv_model.specs.declared.place.Place.{Place}
 use Rattle.pv_model.specs.Machine.{effect, Attempt, ◌>>=◌, Bytes, with_descriptor, with_content, new_open_file, write_place, same_node, Effect, answers, with_room, node_of, name_of, start_directory, bytes_of, overwrite, among, Numbered, at_number, with_number, least_free, entry_length, is_file, OpenFile, Program, Process, State, process_at, Entries, Node, directory_node, file_node, link_node, Tree, node_at, entries_of, entries_at, is_directory, is_directory_at, find_entry, named_numbers, new_number, with_new_node, with_entry, without_entry, resolve, follow_of, end_of, Walk, walks_of, open_walk, rename_walk, with_process}
 use Rattle.pv_laws_trees.specs.Room.{IsNoLonger, IsNoLarger}
-use Rattle.pv_laws_trees.proofs.Changes.{node_at-same, node_at-other, directory-below, entries-good, shape-without_entry, found-with, with_entry-stays, without_entry-stays, cases_name}
-use Rattle.pv_laws_trees.proofs.Entries.{by_name, report}
+use Rattle.pv_laws_trees.proofs.TreeChanges.{node_at-same, node_at-other, directory-below, entries-good, shape-without_entry, found-with, with_entry-stays, without_entry-stays, cases_name}
+use Rattle.pv_laws_trees.proofs.DirectoryEntries.{by_name, report}
 use Rattle.pv_laws_trees.proofs.NewNodes.{entry-stays, stays-new, named-new}
-use Rattle.pv_laws_trees.proofs.Numbered.{at_number-below, with_number-same_within, with_number-other_within, least_free-within, least_free-free, length-drop_one}
-use Rattle.pv_laws_trees.proofs.Rooms.{no_larger-without}
+use Rattle.pv_laws_trees.proofs.NumberedMaps.{at_number-below, with_number-same_within, with_number-other_within, least_free-within, least_free-free, length-drop_one}
+use Rattle.pv_laws_trees.proofs.NodeRoom.{no_larger-without}
 use Rattle.pv_laws_trees.proofs.Trees.{IsOrdered, ordered, among-entry, entry-among}
-use Rattle.pv_laws_trees.proofs.Generic.{not-there}
+use Rattle.pv_laws_trees.proofs.ListTests.{not-there}
 use Rattle.pv_laws_states.specs.States.{is_text, is_call, IsValid}
-use Rattle.pv_laws_states.proofs.Attempts.{Leads}
-use Rattle.pv_laws_states.proofs.ByFile.{open_file-at}
-use Rattle.pv_laws_states.proofs.ByTree.{FineName, named-place, place-there, fine-place}
+use Rattle.pv_laws_states.proofs.AttemptValues.{Leads}
+use Rattle.pv_laws_states.proofs.ValidByFile.{open_file-at}
+use Rattle.pv_laws_states.proofs.ValidByTree.{FineName, named-place, place-there, fine-place}
 use Rattle.pv_laws_states.proofs.GrownTrees.{carries-entries}
-use Rattle.pv_laws_states.proofs.CallRests
+use Rattle.pv_laws_states.proofs.CallRemainders
 use Rattle.pv_laws_states.proofs.ChangedStates.{IsFinePlace, resolve-fine, my-placed, file_or_directory}
 use Rattle.pv_laws_states.proofs.WalkStarts.{StartsWell, leads-start}
 use Rattle.pv_laws_access.proofs.ChangedTrees.{entries-content}
 use Rattle.pv_laws_steps.specs.Beside.{with_change}
-use Rattle.pv_laws_steps.proofs.ChangedPairs.{IsBeside, Beside}
-use Rattle.pv_laws_steps.proofs.BesideCalls.{changes, CallsLeave, own-beside, leave-beside}
+use Rattle.pv_laws_steps.proofs.ChangedPairs.{AreChangedPair, ChangedPair}
+use Rattle.pv_laws_steps.proofs.CallsOfOthers.{changes, CallsLeave, own-in_both, leave-in_both}
 use Rattle.pv_laws_steps.proofs.ChangedProcess.{KeepsParent, changed}
 use Rattle.pv_laws_states.proofs.RespectedParts.{OthersRespect, others-processes, others-files, others-tree, same-own}
 use Rattle.pv_laws_states.proofs.RelatedCalls.{OpensAt, RespectsRoom, call-both}
@@ -237,13 +237,13 @@ module _ (k : ℕ) (f : Process → Process) (s : State) (pid : ℕ) (me : Proce
         no_larger-along s.tree between renamed
         (no_larger-replaced between q.0 q.1 n m (between-directory q.0 into.directory) (entries-good between q.0 good.each_node).0 has) less
 
-    moved-by : (there : Option ℕ) → FineName s.tree q there → same_node there n ≡ false → A (CallRests.move_5 s pid me n p.0 p.1 q.0 q.1) (CallRests.move_5 u pid me n p.0 p.1 q.0 q.1)
+    moved-by : (there : Option ℕ) → FineName s.tree q there → same_node there n ≡ false → A (CallRemainders.move_5 s pid me n p.0 p.1 q.0 q.1) (CallRemainders.move_5 u pid me n p.0 p.1 q.0 q.1)
     moved-by None into other = rooms.room renamed s.files 0 (goes-on renamed (names-moved into))
     moved-by (Some m) into other = rooms.smaller renamed 0 (smaller-moved m into (λ same. let is = eq-eqb m n same in cc (sym is ∙ other)))
 
   -- ---- bytes
 
-  written-known : (m : ℕ) (file : OpenFile) (count : ℕ) → at_number s.files m ≡ Some file → A (CallRests.write_3 s pid me m file count) (CallRests.write_3 u pid me m file count)
+  written-known : (m : ℕ) (file : OpenFile) (count : ℕ) → at_number s.files m ≡ Some file → A (CallRemainders.write_3 s pid me m file count) (CallRemainders.write_3 u pid me m file count)
   written-known m file zero is = rooms.room s.tree s.files 0 (goes-on s.tree names-same)
   written-known m file (suc n) is =
       let bytes : Bytes = take (suc n) me.buffer in
@@ -267,14 +267,14 @@ module _ (k : ℕ) (f : Process → Process) (s : State) (pid : ℕ) (me : Proce
     good-as c is = subst (λ c. is_call c ≡ true) is good
 
     made : (w : Walk) (node : Node) → walks_of call ≡ w ∷ [] → w.start ≡ WorkingDirectory → entries_of (Some node) ≡ [] → (place : Place) → end_of s me w ≡ Ok place → is_some (node_of place) ≡ false
-        → (p : ℕ × Bytes) → name_of place ≡ Some p → A (CallRests.make_3 s pid me node p) (CallRests.make_3 u pid me node p)
+        → (p : ℕ × Bytes) → name_of place ≡ Some p → A (CallRemainders.make_3 s pid me node p) (CallRemainders.make_3 u pid me node p)
     made w node walks here bare place found free p named =
         let from : resolve s.tree w.follow me.directory w.path ≡ Ok place = ap (λ x. resolve s.tree w.follow (start_directory s me x w.path) w.path) (sym here) ∙ found in
         let fine = free-name place p (fine-place s pid me whole at w.follow w.path place (text-of w walks) from) named (not-there (node_of place) free) in
         rooms.room (with_new_node s.tree p.0 p.1 node) s.files 0 (goes-on (with_new_node s.tree p.0 p.1 node) (names-new p fine node bare))
 
     linked : (path new : Bytes) → call ≡ TheCall.Link path new → (place : Place) → end_of s me (new_link_walk new) ≡ Ok place → is_some (node_of place) ≡ false → (n : ℕ) (p : ℕ × Bytes) → name_of place ≡ Some p
-        → A (CallRests.link_6 s pid me n p) (CallRests.link_6 u pid me n p)
+        → A (CallRemainders.link_6 s pid me n p) (CallRemainders.link_6 u pid me n p)
     linked path new is place found free n p named =
         let text = (and_parts (is_text path) (is_text new) (good-as (TheCall.Link path new) is)).1 in
         let fine = free-name place p (fine-place s pid me whole at Keep new place text found) named (not-there (node_of place) free) in
@@ -283,7 +283,7 @@ module _ (k : ℕ) (f : Process → Process) (s : State) (pid : ℕ) (me : Proce
 
     moved : (path new : Bytes) → call ≡ TheCall.Rename path new → (old_place new_place : Place) → end_of s me (rename_walk path) ≡ Ok old_place → end_of s me (rename_walk new) ≡ Ok new_place
         → (n : ℕ) (p q : ℕ × Bytes) → node_of old_place ≡ Some n → name_of old_place ≡ Some p → name_of new_place ≡ Some q → same_node (node_of new_place) n ≡ false
-        → A (CallRests.move_5 s pid me n p.0 p.1 q.0 q.1) (CallRests.move_5 u pid me n p.0 p.1 q.0 q.1)
+        → A (CallRemainders.move_5 s pid me n p.0 p.1 q.0 q.1) (CallRemainders.move_5 u pid me n p.0 p.1 q.0 q.1)
     moved path new is old_place new_place old_found found n p q there old_named named other =
         let both = and_parts (is_text path) (is_text new) (good-as (TheCall.Rename path new) is) in
         moved-by n p q (subst (FineName s.tree p) there (named-place s.tree old_place p (fine-place s pid me whole at Keep path old_place both.0 old_found) old_named))
@@ -317,8 +317,8 @@ module _ (k : ℕ) (f : Process → Process) (s : State) (pid : ℕ) (me : Proce
           processes = others-processes A S s (changed k f s.processes) pid me me o program_of call;
           own = same-own A S s (changed k f s.processes) pid me o puts program_of call;
           files = others-files A S s (changed k f s.processes) pid me me o program_of call
-              (λ d n is m file here may count few. all-then A o.all _ _ refl (CallRests.write_3 s pid me m file count) (CallRests.write_3 u pid me m file count) (written-known m file count (open_file-at s me d m file here)))
-              (λ d n is m file here size. all-then A o.all _ _ refl (CallRests.ftruncate_4 s pid me file size) (CallRests.ftruncate_4 u pid me file size) (rooms.room _ s.files 0 (goes-on _ (names-content file.node _))));
+              (λ d n is m file here may count few. all-then A o.all _ _ refl (CallRemainders.write_3 s pid me m file count) (CallRemainders.write_3 u pid me m file count) (written-known m file count (open_file-at s me d m file here)))
+              (λ d n is m file here size. all-then A o.all _ _ refl (CallRemainders.ftruncate_4 s pid me file size) (CallRemainders.ftruncate_4 u pid me file size) (rooms.room _ s.files 0 (goes-on _ (names-content file.node _))));
           tree = others-tree A S s (changed k f s.processes) pid me me o program_of call;
           room = room;
         })
@@ -326,12 +326,12 @@ module _ (k : ℕ) (f : Process → Process) (s : State) (pid : ℕ) (me : Proce
 -- the change applies after a call, and its check for room has the same result
 pub record CallsFit (k : ℕ) (f : Process → Process) (s : State) (pid : ℕ) (me : Process) (Fit : State → Type 0) : Type 0 where
   pub leave : CallsLeave k f s pid me Fit
-  pub rooms : RoomsKnown k f s pid me (Beside (changes k f) Fit)
+  pub rooms : RoomsKnown k f s pid me (ChangedPair (changes k f) Fit)
 
 -- so both calls do the same, up to the change
 pub calls-fit : (k : ℕ) (f : Process → Process) → KeepsParent f → (s : State) (pid : ℕ) (me : Process) → IsValid s → process_at s pid ≡ Some me → pid ≢ k → suc s.last_process ≢ k
     → (Fit : State → Type 0) → CallsFit k f s pid me Fit → (program_of : Bytes → Option Program) (call : Call) → is_call call ≡ true
-    → Beside (changes k f) Fit (effect program_of s pid me call) (effect program_of (with_change s k f) pid me call)
+    → ChangedPair (changes k f) Fit (effect program_of s pid me call) (effect program_of (with_change s k f) pid me call)
 calls-fit k f keeps s pid me whole at other next_other Fit fits program_of call good =
-    call-known k f s pid me whole at (Beside (changes k f) Fit) (IsBeside (changes k f) Fit) (leave-beside k f keeps s pid me other next_other Fit fits.leave)
-    (own-beside k f keeps s pid me other next_other Fit fits.leave) fits.rooms program_of call good
+    call-known k f s pid me whole at (ChangedPair (changes k f) Fit) (AreChangedPair (changes k f) Fit) (leave-in_both k f keeps s pid me other next_other Fit fits.leave)
+    (own-in_both k f keeps s pid me other next_other Fit fits.leave) fits.rooms program_of call good

@@ -17,26 +17,26 @@ use Rattle.pv_model.specs.declared.perms.Perms.{Perms}
 use Rattle.pv_model.specs.declared.promise.Promise.{Promise}
 use Rattle.pv_model.specs.declared.target.Target.{Target}
 use Rattle.pv_model.specs.Machine.{Answered, answer, answer_by_attempt, at_next_line, effect, Attempt, done, refused, ◌>>=◌, ◌>>◌, give, refuse, Bytes, with_result, entries_of_table, add_target, Effect, returns, answers, errno_number, among, held_by_process, held_by_table, collect, needs, at_number, covers, calls_for, next, missing_promise, OpenFile, Program, Process, State, process_at, with_process, with_tree, Stepped, step, step_by, Tree, root, named_numbers, node_at, Table, same_target, entry_for, permissions_at, with_permissions, target_directory}
-use Rattle.pv_model.specs.Calls.Restraints.{add_entry}
+use Rattle.pv_model.specs.Calls.Restraints.{add_table_entry}
 use Rattle.pv_laws_trees.specs.Preserved.{numbers_wanted}
 use Rattle.pv_laws_trees.proofs.Collection.{only_nodes_all, wanted-is}
-use Rattle.pv_laws_trees.proofs.Numbered.{keep-some}
+use Rattle.pv_laws_trees.proofs.NumberedMaps.{keep-some}
 use Rattle.pv_laws_states.specs.Held.{used}
 use Rattle.pv_laws_states.specs.States.{EncodesPrograms, IsValid}
-use Rattle.pv_laws_states.proofs.Members.{among-held_by, among-held_file, held_cases}
-use Rattle.pv_laws_states.proofs.Outcomes.{at_call}
+use Rattle.pv_laws_states.proofs.ReferenceMembers.{among-held_by, among-held_file, held_cases}
+use Rattle.pv_laws_states.proofs.CallOutcomes.{at_call}
 use Rattle.pv_laws_states.proofs.Processes.{process_at-same, tree-update}
 use Rattle.pv_laws_states.proofs.ChangedStates.{same-directory}
-use Rattle.pv_laws_states.proofs.Collect.{held_after, tree-collect}
-use Rattle.pv_laws_runs.proofs.OfLawsAccess.Ends.{step-is}
+use Rattle.pv_laws_states.proofs.CollectedStates.{held_after, tree-collect}
+use Rattle.pv_laws_runs.proofs.OfLawsAccess.ProcessesAfterEnds.{step-is}
 use Rattle.pv_laws_steps.specs.Beside.{with_change}
 use Rattle.pv_laws_steps.specs.Commuting.{Commute}
 use Rattle.pv_laws_steps.specs.Holding.{LeavesTree}
 use Rattle.pv_laws_steps.proofs.ChangedProcess.{KeepsParent, process-changed}
 use Rattle.pv_laws_steps.proofs.ReferenceSteps.{gives}
 use Rattle.pv_laws_steps.proofs.OtherReferences.{found-same, UsesNoMore, change-is}
-use Rattle.pv_laws_steps.proofs.LoneSteps.{by-promise, commute-where}
-use Rattle.pv_laws_steps.proofs.Orphans.{orphan}
+use Rattle.pv_laws_steps.proofs.IndependentSteps.{by-promise, commute-where}
+use Rattle.pv_laws_steps.proofs.ParentIndependence.{orphan}
 use Rattle.pv_laws_steps.proofs.OwnSteps.{Becomes, becomes-bind, becomes-then, becomes-there, become-commute, used-same, files-stay, own-commute}
 use Rattle.pv_laws_steps.proofs.ExchangedSteps.{answer-held, answer-lacking, after_k, heir}
 
@@ -117,7 +117,7 @@ module _ (s t : State) (j n : ℕ) (now : Process) (tree : t.tree ≡ s.tree) wh
       lengthens true = record { by = refl }
       lengthens false = unveils (entries_of_table now.table ++ (target, permissions) ∷ []) (longer-holds now.table target permissions)
 
-      by : (o : Option ℕ) → entry_for (entries_of_table now.table) target ≡ o → U (add_entry (entries_of_table now.table) target permissions o >>= given_x) (add_entry (entries_of_table now.table) target permissions o >>= given_y)
+      by : (o : Option ℕ) → entry_for (entries_of_table now.table) target ≡ o → U (add_table_entry (entries_of_table now.table) target permissions o >>= given_x) (add_table_entry (entries_of_table now.table) target permissions o >>= given_y)
       by None found = lengthens (nat_le UNVEILS (length (entries_of_table now.table)))
       by (Some i) found = narrows i found (covers (permissions_at (entries_of_table now.table) i) permissions)
 

@@ -7,9 +7,9 @@ use Rattle.std.proofs.lemmas.Bool.{cases_eq}
 use Rattle.pv_model.specs.declared.limits.TheConstants.{PROCESSES}
 use Rattle.pv_model.specs.Machine.{parent_of, Process, ProcessRecord, live, ended_record, State, live_process, process_at}
 use Rattle.pv_laws_states.specs.States.{IsRunning, IsPlaced, is_process_number, AreProcesses, IsValid}
-use Rattle.pv_laws_states.proofs.Members.{live-found}
-use Rattle.pv_laws_steps.specs.Beside.{change_live, with_change, AppearsAlike, become}
-use Rattle.pv_laws_steps.proofs.BesideSteps.{fits-become}
+use Rattle.pv_laws_states.proofs.ReferenceMembers.{live-found}
+use Rattle.pv_laws_steps.specs.Beside.{change_live, with_change, HasSameReferences, become}
+use Rattle.pv_laws_steps.proofs.StepsOfOthers.{fits-become}
 use Rattle.pv_laws_steps.proofs.ChangedProcess.{changed, change_of, change-itself, find-changed, length-changed, lives-changed, process-changed, collect-changed}
 
 -- ---- numbers
@@ -26,7 +26,7 @@ numbers-changed : (k : ℕ) (f : Process → Process) (test : ℕ → Bool) (es 
 numbers-changed k f test [] = refl
 numbers-changed k f test (e ∷ es) = ap (λ b. test e.0 && b) (numbers-changed k f test es)
 
-module _ (s : State) (k : ℕ) (p q : Process) (whole : IsValid s) (at : process_at s k ≡ Some p) (alike : AppearsAlike p q) (running : IsRunning q) (placed : IsPlaced s.tree s.files q) where
+module _ (s : State) (k : ℕ) (p q : Process) (whole : IsValid s) (at : process_at s k ≡ Some p) (alike : HasSameReferences p q) (running : IsRunning q) (placed : IsPlaced s.tree s.files q) where
   abbrev f : Process → Process
   f = become q
 
@@ -86,8 +86,8 @@ module _ (s : State) (k : ℕ) (p q : Process) (whole : IsValid s) (at : process
             (λ r there is. ps.ended j parent status (there ∙ ap Some (ended-of_change j r parent status is))) (ended_record parent status) found refl;
       }
 
-  pub whole-changed : IsValid u
-  whole-changed = record {
+  pub valid-changed : IsValid u
+  valid-changed = record {
     tree = whole.tree;
     files = whole.files;
     processes = processes-changed;

@@ -9,11 +9,11 @@ use Rattle.pv_model.specs.declared.promise.Promise.{Promise}
 use Rattle.pv_model.specs.Machine.{at_next_line, update_live, update, effect, Attempt, after_walks, ◌>>=◌, ◌>>◌, give, refuse_if, demand, Bytes, within, is_past_greatest, with_content, write_end, after_write, write, Effect, answers, with_room, open_file, with_file, overwrite, collect, needs, at_number, calls_for, next, missing_promise, rounded_up, greatest_length, is_too_long, fits, is_file, OpenFile, Program, Process, State, writes, process_at, with_process, with_tree, step, file_bytes, with_bytes, node_at, is_directory_at}
 use Rattle.pv_model.specs.Calls.Descriptors.{if_mode}
 use Rattle.pv_laws_states.specs.States.{is_byte, EncodesPrograms, IsOpenFile, IsValid}
-use Rattle.pv_laws_states.proofs.ByFile.{open_file-at, file-bytes}
-use Rattle.pv_laws_states.proofs.ByProcess.{within-limit}
-use Rattle.pv_laws_states.proofs.ByTree.{all-overwrite}
+use Rattle.pv_laws_states.proofs.ValidByFile.{open_file-at, file-bytes}
+use Rattle.pv_laws_states.proofs.ValidByProcess.{within-limit}
+use Rattle.pv_laws_states.proofs.ValidByTree.{all-overwrite}
 use Rattle.pv_laws_states.proofs.Processes.{update-with}
-use Rattle.pv_laws_states.proofs.CallRests
+use Rattle.pv_laws_states.proofs.CallRemainders
 use Rattle.pv_laws_states.proofs.ProcessInsides.{SameHolds, list_all-take}
 use Rattle.pv_laws_states.proofs.ChangedStates.{my-running}
 use Rattle.pv_laws_runs.specs.OfLawsAccess.Growth.{IsSameFile}
@@ -22,18 +22,18 @@ use Rattle.pv_laws_runs.proofs.OfLawsAccess.CallEffects.{open_file_for-is}
 use Rattle.pv_laws_runs.proofs.OfLawsAccess.SimilarTrees.{GoesByLength, IsExact, IsFine, as_is, as_is-fine, blocks, blocks-fine}
 use Rattle.pv_laws_steps.specs.Beside.{with_change, become}
 use Rattle.pv_laws_steps.specs.Commuting.{Commute}
-use Rattle.pv_laws_steps.specs.Offsets.{with_file_change, GoesBy}
+use Rattle.pv_laws_steps.specs.Offsets.{with_file_change, DependsOnOffset}
 use Rattle.pv_laws_steps.specs.Growing.{EndsInBlocks, LeavesGrowing}
 use Rattle.pv_laws_steps.specs.Writes.{LeavesWrite, StaysWithin}
-use Rattle.pv_laws_steps.proofs.ChangedPairs.{SteppedBeside}
+use Rattle.pv_laws_steps.proofs.ChangedPairs.{SteppedPair}
 use Rattle.pv_laws_steps.proofs.ContentSteps.{Content, put_content, settled-content, settled-content_u, short-content, short-content_u, fit-content, fit-content_u, passes-content}
-use Rattle.pv_laws_steps.proofs.LoneSteps.{commute-where}
+use Rattle.pv_laws_steps.proofs.IndependentSteps.{commute-where}
 use Rattle.pv_laws_steps.proofs.OffsetSteps.{same-open, goes-as_before}
-use Rattle.pv_laws_steps.proofs.Orphans.{orphan}
+use Rattle.pv_laws_steps.proofs.ParentIndependence.{orphan}
 use Rattle.pv_laws_steps.proofs.OtherBytes.{bytes-left, not_by-length, may-be_long}
-use Rattle.pv_laws_steps.proofs.ShiftCalls.{HasFile, step-shifted}
-use Rattle.pv_laws_steps.proofs.Shifts.{put-is_change, collect-shifted}
-use Rattle.pv_laws_steps.proofs.ExchangedSteps.{acts, Two, two-demand, after_k, whole-following, heir, quiet, quiet-following, passes-by, commute-steps, call-twice}
+use Rattle.pv_laws_steps.proofs.OffsetCalls.{HasFile, step-shifted}
+use Rattle.pv_laws_steps.proofs.ChangedOffsets.{put-is_change, collect-shifted}
+use Rattle.pv_laws_steps.proofs.ExchangedSteps.{acts, Two, two-demand, after_k, valid-following, heir, quiet, quiet-following, passes-by, commute-steps, call-twice}
 
 -- ---- overwritten bytes
 
@@ -60,7 +60,7 @@ record Writing (size : ℕ → ℕ) (fine : IsFine size) (s t : State) (k : ℕ)
   number : ℕ
   offset : ℕ
   there : HasFile number s
-  away : ¬ GoesBy s k number
+  away : ¬ DependsOnOffset s k number
 
 abbrev writing : (size : ℕ → ℕ) (fine : IsFine size) (s t : State) (k : ℕ) → Writing size fine s t k → State → State
 writing size fine s t k a x = with_file_change (put_content size fine s t k a.content x) a.number (at_offset a.offset)
@@ -68,7 +68,7 @@ writing size fine s t k a x = with_file_change (put_content size fine s t k a.co
 keeps-file : (offset : ℕ) (f : OpenFile) → IsSameFile f (at_offset offset f)
 keeps-file offset f = record { node = refl; mode = refl }
 
-goes-as_it_did : (s : State) (f : ℕ) (b : Bytes) (k m : ℕ) → GoesBy (with_bytes s f b) k m → GoesBy s k m
+goes-as_it_did : (s : State) (f : ℕ) (b : Bytes) (k m : ℕ) → DependsOnOffset (with_bytes s f b) k m → DependsOnOffset s k m
 goes-as_it_did s f b k m goes = record {
   named = record {
     p = goes.named.p;
@@ -103,7 +103,7 @@ module _ (size : ℕ → ℕ) (fine : IsFine size) (program_of : Bytes → Optio
   n = heir program_of encodes s j k p whole apart at
 
   whole_u : IsValid u
-  whole_u = whole-following program_of encodes s j k p whole apart at
+  whole_u = valid-following program_of encodes s j k p whole apart at
 
   abbrev now : Process
   now = at_next_line p
@@ -158,7 +158,7 @@ module _ (size : ℕ → ℕ) (fine : IsFine size) (program_of : Bytes → Optio
   -- ---- the step of k follows the change
 
   passes : (o : Option A) (q : Process) → SameHolds p q
-      → SteppedBeside (λ z. acts (writing size fine s u k) o (with_change z j (become q))) (step program_of s k) (step program_of (acts (writing size fine s u k) o (with_change s j (become q))) k)
+      → SteppedPair (λ z. acts (writing size fine s u k) o (with_change z j (become q))) (step program_of s k) (step program_of (acts (writing size fine s u k) o (with_change s j (become q))) k)
   passes None q same = passes-by program_of encodes s j k p whole apart at q same
   passes (Some a) q same =
       let c = a.content in
@@ -255,9 +255,9 @@ module _ (size : ℕ → ℕ) (fine : IsFine size) (program_of : Bytes → Optio
 
       -- a write with room that ends within the limits
       does : (z : State) (me : Process) (count : ℕ) → is_past_greatest z.tree (write_end z j me file count) ≡ false → is_too_long (collect (after_write z j me m file count)).tree ≡ false
-          → fits (collect (after_write z j me m file count)).tree ≡ true → CallRests.write_2 z j me m file count ≡ answers (after_write z j me m file count) count
+          → fits (collect (after_write z j me m file count)).tree ≡ true → CallRemainders.write_2 z j me m file count ≡ answers (after_write z j me m file count) count
       does z me count near short fit =
-          ap (λ b. refuse_if EFBIG b >> CallRests.write_3 z j me m file count) near ∙ ap (after_walks 0) (roomy (after_write z j me m file count) count short fit)
+          ap (λ b. refuse_if EFBIG b >> CallRemainders.write_3 z j me m file count) near ∙ ap (after_walks 0) (roomy (after_write z j me m file count) count short fit)
 
       end-same : (count : ℕ) → write_end u j p file count ≡ write_end s j p file count
       end-same zero = refl
@@ -283,30 +283,30 @@ module _ (size : ℕ → ℕ) (fine : IsFine size) (program_of : Bytes → Optio
       settled-y : collect y ≡ y
       settled-y = quiet-following program_of encodes s j k p whole apart at (orphan n now) (next-holds (orphan n p))
 
-      counted : (count : ℕ) → Ends count → T (CallRests.write_2 x j now m file count) (CallRests.write_2 y j (orphan n now) m file count)
+      counted : (count : ℕ) → Ends count → T (CallRemainders.write_2 x j now m file count) (CallRemainders.write_2 y j (orphan n now) m file count)
       counted zero ends =
-          subst (λ a. T a (CallRests.write_2 y j (orphan n now) m file 0)) (sym (does x now 0 (low-s 0 ends) (ap (λ (z : State). is_too_long z.tree) settled-x ∙ whole.not_too_long) (ap (λ (z : State). fits z.tree) settled-x ∙ whole.fits)))
+          subst (λ a. T a (CallRemainders.write_2 y j (orphan n now) m file 0)) (sym (does x now 0 (low-s 0 ends) (ap (λ (z : State). is_too_long z.tree) settled-x ∙ whole.not_too_long) (ap (λ (z : State). fits z.tree) settled-x ∙ whole.fits)))
           (subst (λ b. T (answers x 0) b) (sym (does y (orphan n now) 0 (low-u 0 ends) (ap (λ (z : State). is_too_long z.tree) settled-y ∙ whole_u.not_too_long) (ap (λ (z : State). fits z.tree) settled-y ∙ whole_u.fits)))
           (record { both = (refl, refl, tt, (None, now, itself now, refl, refl)) }))
       counted (suc i) ends =
           let a : A = act-of i ends in
           let one : collect (written x old (suc i)) ≡ writing size fine s u k a x = ap collect (put-s i ends) ∙ settled-act a x refl settled-x in
           let two : collect (written y (file_bytes u file.node) (suc i)) ≡ writing size fine s u k a y = ap collect (put-u i ends) ∙ settled-act_u a y refl settled-y in
-          subst (λ b. T b (CallRests.write_2 y j (orphan n now) m file (suc i)))
+          subst (λ b. T b (CallRemainders.write_2 y j (orphan n now) m file (suc i)))
           (sym (does x now (suc i) (low-s (suc i) ends) (ap (λ (z : State). is_too_long z.tree) one ∙ short-content size fine s u k a.content ∙ whole.not_too_long) (ap (λ (z : State). fits z.tree) one ∙ fit-content size fine s u k a.content ∙ whole.fits)))
           (subst (λ b. T (answers (written x old (suc i)) (suc i)) b)
           (sym (does y (orphan n now) (suc i) (low-u (suc i) ends) (ap (λ (z : State). is_too_long z.tree) two ∙ short-content_u size fine s u k a.content ∙ whole_u.not_too_long) (ap (λ (z : State). fits z.tree) two ∙ fit-content_u size fine s u k a.content ∙ whole_u.fits)))
           (record { both = (refl, refl, tt, (Some a, now, itself now, put-s i ends, put-u i ends)) }))
 
-      rest : T (CallRests.write_1 x j now c (m, file)) (CallRests.write_1 y j (orphan n now) c (m, file))
+      rest : T (CallRemainders.write_1 x j now c (m, file)) (CallRemainders.write_1 y j (orphan n now) c (m, file))
       rest =
-          two-demand A (writing size fine s u k) s u j n now EINVAL (within 4096 c) (CallRests.write_2 x j now m file) (CallRests.write_2 y j (orphan n now) m file) (λ count some.
+          two-demand A (writing size fine s u k) s u j n now EINVAL (within 4096 c) (CallRemainders.write_2 x j now m file) (CallRemainders.write_2 y j (orphan n now) m file) (λ count some.
           counted count (within-limit 4096 c count some, stays m file count own some))
 
     performed : T (write x j now d c) (write y j (orphan n now) d c)
     performed =
-        subst (λ o. T (demand EBADF (if_mode writes (open_file s p d)) >>= CallRests.write_1 x j now c) (demand EBADF (if_mode writes o) >>= CallRests.write_1 y j (orphan n now) c)) (sym opened)
-        (two-demand A (writing size fine s u k) s u j n now EBADF (if_mode writes (open_file s p d)) (CallRests.write_1 x j now c) (CallRests.write_1 y j (orphan n now) c) (λ v own.
+        subst (λ o. T (demand EBADF (if_mode writes (open_file s p d)) >>= CallRemainders.write_1 x j now c) (demand EBADF (if_mode writes o) >>= CallRemainders.write_1 y j (orphan n now) c)) (sym opened)
+        (two-demand A (writing size fine s u k) s u j n now EBADF (if_mode writes (open_file s p d)) (CallRemainders.write_1 x j now c) (CallRemainders.write_1 y j (orphan n now) c) (λ v own.
         let both = open_file_for-is s j p writes d v.0 v.1 own in
         rest v.0 v.1 both.0 both.1))
 

@@ -10,18 +10,18 @@ use Rattle.pv_laws_states.specs.States.{EncodesPrograms, IsValid}
 use Rattle.pv_laws_steps.specs.Commuting.{Commute}
 
 -- the calls that query the tree, and change nothing outside their process
-abbrev pub asks_tree : Call → Bool
-asks_tree (Stat path) = true
-asks_tree (Lstat path) = true
-asks_tree (Readlink path) = true
-asks_tree (Fstat d) = true
-asks_tree call = false
+abbrev pub queries_tree : Call → Bool
+queries_tree (Stat path) = true
+queries_tree (Lstat path) = true
+queries_tree (Readlink path) = true
+queries_tree (Fstat d) = true
+queries_tree call = false
 
 -- such a call that does not kill commutes with a step of another process that leaves the tree unchanged
-abbrev pub AskingStepsCommute : Type 0
-AskingStepsCommute =
+abbrev pub QueryingStepsCommute : Type 0
+QueryingStepsCommute =
     (program_of : Bytes → Option Program) → EncodesPrograms program_of → (s : State) (j k : ℕ) (p : Process) (call : Call) → IsValid s → j ≢ k → process_at s j ≡ Some p → next p ≡ calls_for call
-    → IsTrue (asks_tree call) → ((a : Promise) → (step program_of s j).outcome ≢ Killed a) → (step program_of s k).after.tree ≡ s.tree
+    → IsTrue (queries_tree call) → ((a : Promise) → (step program_of s j).outcome ≢ Killed a) → (step program_of s k).after.tree ≡ s.tree
     → Commute program_of s j k
 
 -- the step of process k leaves the node of descriptor d of p unchanged

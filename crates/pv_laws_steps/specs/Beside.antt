@@ -15,7 +15,7 @@ abbrev pub with_change : State → ℕ → (Process → Process) → State
 with_change s k f = record s { processes = map (change_at k f) s.processes }
 
 -- two processes have the same references: directory, descriptors, and the nodes of their tables
-pub record AppearsAlike (p q : Process) : Type 0 where
+pub record HasSameReferences (p q : Process) : Type 0 where
   pub directory : q.directory ≡ p.directory
   pub descriptors : q.descriptors ≡ p.descriptors
   pub held : held_by_table q.table ≡ held_by_table p.table
@@ -25,13 +25,13 @@ abbrev pub become : Process → Process → Process
 become q p = record q { parent = p.parent }
 
 -- two steps have the same outcome and lines, and the next states differ only by this change inside process k
-pub record StepsBeside (k : ℕ) (f : Process → Process) (a b : Stepped) : Type 0 where
+pub record StepsWithOtherProcess (k : ℕ) (f : Process → Process) (a b : Stepped) : Type 0 where
   pub outcome : b.outcome ≡ a.outcome
   pub lines : b.lines ≡ a.lines
   pub after : b.after ≡ with_change a.after k f
 
 -- a step does not depend on another process's restraints, program, line, registers or buffer
-abbrev pub OthersAlterNothing : Type 0
-OthersAlterNothing =
-    (program_of : Bytes → Option Program) (s : State) (pid k : ℕ) (p q : Process) → IsValid s → k ≢ pid → process_at s k ≡ Some p → AppearsAlike p q
-    → StepsBeside k (become q) (step program_of s pid) (step program_of (with_change s k (become q)) pid)
+abbrev pub OthersDoNotMatter : Type 0
+OthersDoNotMatter =
+    (program_of : Bytes → Option Program) (s : State) (pid k : ℕ) (p q : Process) → IsValid s → k ≢ pid → process_at s k ≡ Some p → HasSameReferences p q
+    → StepsWithOtherProcess k (become q) (step program_of s pid) (step program_of (with_change s k (become q)) pid)

@@ -9,14 +9,14 @@ use Rattle.pv_model.specs.declared.instruction.Operand.TheVariants.{Number}
 use Rattle.pv_model.specs.declared.open_flags.Mode.TheVariants.{Read as Reading, Write as Writing, ReadWrite}
 use Rattle.pv_model.specs.declared.outcome.Outcome.TheVariants.{Value, Text}
 use Rattle.pv_model.specs.Machine.{calls_for, next, Program, Process, State, process_at, step, run, file_bytes, at_number, root, find_entry}
-use Rattle.pv_laws_steps.specs.Commuting.{IsAlone}
+use Rattle.pv_laws_steps.specs.Commuting.{IsOwnStepAlone}
 use Rattle.pv_model.specs.declared.instruction.Instruction.TheVariants.{Close}
 use Rattle.pv_model.specs.declared.errno.Errno.TheVariants.{ENOENT}
 use Rattle.pv_model.specs.declared.instruction.Instruction.TheVariants.{Chdir, Fchdir, Rmdir}
 use Rattle.pv_model.specs.declared.outcome.Cause.TheVariants.{Plain}
 use Rattle.pv_model.specs.declared.outcome.Outcome.TheVariants.{Failed}
 use Rattle.pv_laws_states.specs.ExampleStates.{no_programs, state_after, flags, making}
-use Rattle.pv_laws_steps.specs.Holding.{LeavesOpenFiles, LeavesTree, LeavesWay}
+use Rattle.pv_laws_steps.specs.Holding.{LeavesOpenFiles, LeavesTree, LeavesDestination}
 use Rattle.pv_laws_steps.specs.Offsets.{LeavesOpenFile}
 use Rattle.pv_laws_steps.specs.Writes.{LeavesWrite, StaysWithin}
 
@@ -31,7 +31,7 @@ sharing = Open (codes "/x") making ∷ Fork ∷ Lseek (Number (pos 0)) (Number (
 pub record OrderExamples : Type 0 where
   pub process : Process
   pub there : process_at (state_after apart (1 ∷ [])) 1 ≡ Some process
-  pub lone : IsAlone process (next process)
+  pub lone : IsOwnStepAlone process (next process)
   pub other : IsTrue (is_some (process_at (state_after apart (1 ∷ [])) 2))
   pub first : (step no_programs (state_after sharing (1 ∷ 1 ∷ [])) 1).outcome ≡ Value 1
   pub second : (step no_programs (state_after sharing (1 ∷ 1 ∷ 2 ∷ [])) 1).outcome ≡ Value 2
@@ -39,16 +39,16 @@ pub record OrderExamples : Type 0 where
 -- ---- offsets of open files
 
 -- a process creates and opens a file and forks; then it reads, and the child does something else
-abbrev pub reading_beside : List Instruction → Program
-reading_beside others = Open (codes "/x") (flags ReadWrite true) ∷ Fork ∷ JumpIfZero 0 6 ∷ Read (Number (pos 0)) (Number (pos 5)) ∷ Exit (Number (pos 0)) ∷ others
+abbrev pub reading_and_other : List Instruction → Program
+reading_and_other others = Open (codes "/x") (flags ReadWrite true) ∷ Fork ∷ JumpIfZero 0 6 ∷ Read (Number (pos 0)) (Number (pos 5)) ∷ Exit (Number (pos 0)) ∷ others
 
 -- the child removes the file's name
 abbrev pub unlinking : State
-unlinking = state_after (reading_beside (Unlink (codes "/x") ∷ [])) (replicate 3 1 ++ 2 ∷ [])
+unlinking = state_after (reading_and_other (Unlink (codes "/x") ∷ [])) (replicate 3 1 ++ 2 ∷ [])
 
 -- the child writes to the file, which is node 2, through an open file of its own
 abbrev pub writing_there : Program
-writing_there = reading_beside (Open (codes "/x") (flags Writing false) ∷ Write (Number (pos 1)) (Number (pos 5)) ∷ [])
+writing_there = reading_and_other (Open (codes "/x") (flags Writing false) ∷ Write (Number (pos 1)) (Number (pos 5)) ∷ [])
 
 -- a process lists a directory, and its child creates a name there
 abbrev pub making_a_name : Program
@@ -71,12 +71,12 @@ pub record OffsetExamples : Type 0 where
 -- ---- descriptors
 
 -- a process creates and opens a file and forks; then it closes its descriptor, and the child does something else
-abbrev pub closing_beside : List Instruction → Program
-closing_beside others = Open (codes "/x") (flags ReadWrite true) ∷ Fork ∷ JumpIfZero 0 6 ∷ Close (Number (pos 0)) ∷ Exit (Number (pos 0)) ∷ others
+abbrev pub closing_and_other : List Instruction → Program
+closing_and_other others = Open (codes "/x") (flags ReadWrite true) ∷ Fork ∷ JumpIfZero 0 6 ∷ Close (Number (pos 0)) ∷ Exit (Number (pos 0)) ∷ others
 
 -- the child closes its descriptor for the open file too
 abbrev pub closing_both : State
-closing_both = state_after (closing_beside (Close (Number (pos 0)) ∷ [])) (replicate 3 1 ++ 2 ∷ [])
+closing_both = state_after (closing_and_other (Close (Number (pos 0)) ∷ [])) (replicate 3 1 ++ 2 ∷ [])
 
 -- after a fork, a process closes the only descriptor for an open file, and its child opens another file
 abbrev pub closing_and_opening : Program
@@ -131,7 +131,7 @@ pub record DirectoryExamples : Type 0 where
   pub there : process_at entering_open 1 ≡ Some process
   pub next_is : next process ≡ calls_for (TheCall.Fchdir (pos 0))
   pub leaves : LeavesTree no_programs entering_open 1
-  pub way : LeavesWay no_programs entering_open process (TheCall.Fchdir (pos 0)) 2
+  pub way : LeavesDestination no_programs entering_open process (TheCall.Fchdir (pos 0)) 2
   pub removes : (step no_programs entering_open 2).outcome ≡ Value 0
   -- a chdir after the rmdir does not find the name
   pub entered : (step no_programs (state_after (entering (Chdir (codes "/d"))) (replicate 4 1 ++ 2 ∷ [])) 1).outcome ≡ Value 0
@@ -144,8 +144,8 @@ pub record DirectoryExamples : Type 0 where
 
 -- a process creates a file of five bytes and forks; then it overwrites the first of them, and the child does something
 -- else
-abbrev pub writing_beside : List Instruction → Program
-writing_beside others =
+abbrev pub writing_and_other : List Instruction → Program
+writing_and_other others =
     Open (codes "/x") (flags ReadWrite true)
     ∷ Put (codes "hello")
     ∷ Write (Number (pos 0)) (Number (pos 5))
@@ -158,11 +158,11 @@ writing_beside others =
 
 -- the child asks for the file's size
 abbrev pub asking_size : State
-asking_size = state_after (writing_beside (Stat (codes "/x") ∷ [])) (replicate 6 1 ++ 2 ∷ [])
+asking_size = state_after (writing_and_other (Stat (codes "/x") ∷ [])) (replicate 6 1 ++ 2 ∷ [])
 
 -- the child writes to the same bytes, through an open file of its own
 abbrev pub writing_both : Program
-writing_both = writing_beside (Open (codes "/x") (flags Writing false) ∷ Put (codes "HE") ∷ Write (Number (pos 1)) (Number (pos 2)) ∷ [])
+writing_both = writing_and_other (Open (codes "/x") (flags Writing false) ∷ Put (codes "HE") ∷ Write (Number (pos 1)) (Number (pos 2)) ∷ [])
 
 -- a write that extends its file, and a child that seeks to the file's end through an open file of its own
 abbrev pub growing : Program

@@ -1,5 +1,5 @@
--- Two states that agree in what a step depends on, and two that do not. They show that the law is not vacuous and that
--- its premise matters.
+-- Two states that agree in the part on which a step depends, and two that do not. They show that the law is not vacuous
+-- and that its premise matters.
 use Rattle.std.specs.Prelude.{◌≡◌, ◌≢◌, [], ◌∷◌}
 use Rattle.pv_model.specs.declared.outcome.Outcome.TheVariants.{Value}
 use Rattle.pv_model.specs.Machine.{State, process_at, step}

@@ -9,7 +9,7 @@ use Rattle.pv_model.specs.Machine.{Bytes, within, natural, write_end, open_file,
 use Rattle.pv_laws_states.specs.States.{are_bytes, EncodesPrograms, IsValid}
 use Rattle.pv_laws_runs.specs.OfLawsAccess.Justice.{AsksSize, HasEffectNext}
 use Rattle.pv_laws_steps.specs.Commuting.{Commute}
-use Rattle.pv_laws_steps.specs.Offsets.{GoesBy}
+use Rattle.pv_laws_steps.specs.Offsets.{DependsOnOffset}
 use Rattle.pv_laws_steps.specs.Writes.{LeavesBytes}
 
 abbrev pub file_blocks : State → ℕ → ℕ
@@ -21,22 +21,22 @@ abbrev pub LeavesContent : State → ℕ → ℕ → Type 0
 LeavesContent s pid f = LeavesBytes s pid f × (¬ HasEffectNext AsksSize s pid f)
 
 -- two steps have the same outcome and lines, and the next states differ only by these bytes in a file
-pub record StepsBesideBytes (f : ℕ) (bytes : Bytes) (a b : Stepped) : Type 0 where
+pub record StepsWithOtherBytes (f : ℕ) (bytes : Bytes) (a b : Stepped) : Type 0 where
   pub outcome : b.outcome ≡ a.outcome
   pub lines : b.lines ≡ a.lines
   pub after : b.after ≡ with_bytes a.after f bytes
 
 -- such a step depends only on the number of blocks of the file's content, and leaves the content unchanged, unless it
 -- frees the file
-abbrev pub ContentsAlterNothing : Type 0
-ContentsAlterNothing =
+abbrev pub ContentsDoNotMatter : Type 0
+ContentsDoNotMatter =
     (program_of : Bytes → Option Program) (s : State) (pid f : ℕ) (bytes : Bytes) → IsValid s → IsTrue (is_file (node_at s.tree f))
     → IsTrue (are_bytes bytes) → rounded_up (length bytes) BLOCK ≡ file_blocks s f → LeavesContent s pid f
-    → StepsBesideBytes f bytes (step program_of s pid) (step program_of (with_bytes s f bytes) pid)
+    → StepsWithOtherBytes f bytes (step program_of s pid) (step program_of (with_bytes s f bytes) pid)
 
 -- the next step of process k does not use the open file of descriptor d of p, and leaves the content of its file alone
 abbrev pub LeavesGrowing : State → Process → ℤ → ℕ → Type 0
-LeavesGrowing s p d k = (m : ℕ) (file : OpenFile) → open_file s p d ≡ Some (m, file) → (¬ GoesBy s k m) × LeavesContent s k file.node
+LeavesGrowing s p d k = (m : ℕ) (file : OpenFile) → open_file s p d ≡ Some (m, file) → (¬ DependsOnOffset s k m) × LeavesContent s k file.node
 
 -- a write of c bytes by descriptor d ends within the blocks of its file, and so keeps their number
 abbrev pub EndsInBlocks : State → ℕ → Process → ℤ → ℤ → Type 0

@@ -50,8 +50,8 @@ growing_unlinked = state_after (five_bytes grows (Unlink (codes "/x") ∷ [])) b
 abbrev pub to_ask_where : List Instruction
 to_ask_where = Lseek (Number (pos 0)) (Number (pos 0)) Current ∷ []
 
-abbrev pub shrinking_beside : State
-shrinking_beside = state_after (five_bytes shrinks to_ask_where) before
+abbrev pub shrinking_and_other : State
+shrinking_and_other = state_after (five_bytes shrinks to_ask_where) before
 
 -- the child reads the file, or seeks to its end, through an open file of its own
 abbrev pub to_its_end : List Instruction
@@ -117,11 +117,11 @@ pub record GrowingExamples : Type 0 where
 pub record CutExamples : Type 0 where
   -- a truncation within a block and a call through the same open file satisfy the premises of the law
   pub cutter : Process
-  pub there : process_at shrinking_beside 1 ≡ Some cutter
+  pub there : process_at shrinking_and_other 1 ≡ Some cutter
   pub next_is : next cutter ≡ calls_for (TheCall.Ftruncate (pos 0) (pos 2))
-  pub keeps : KeepsBlocks shrinking_beside cutter (pos 0) (pos 2)
-  pub leaves : LeavesCut shrinking_beside cutter (pos 0) 2
-  pub seeks : (step no_programs shrinking_beside 2).outcome ≡ Value 5
+  pub keeps : KeepsBlocks shrinking_and_other cutter (pos 0) (pos 2)
+  pub leaves : LeavesCut shrinking_and_other cutter (pos 0) 2
+  pub seeks : (step no_programs shrinking_and_other 2).outcome ≡ Value 5
   -- a read and a seek to the end observe the truncated file
   pub read_five : outcome_before_change shrinks to_read ≡ Text (record { value = 5; len = 5 })
   pub read_two : outcome_after_change shrinks to_read ≡ Text (record { value = 2; len = 2 })

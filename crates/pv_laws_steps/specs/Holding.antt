@@ -67,15 +67,15 @@ LeavesTree program_of s pid = (step program_of s pid).after.tree ≡ s.tree
 
 -- the step of process k leaves the destination of such a call of p unchanged: whether the node of its descriptor is a
 -- directory, or the tree that it walks
-abbrev pub LeavesWay : (Bytes → Option Program) → State → Process → Call → ℕ → Type 0
-LeavesWay program_of s p (Fchdir d) k = (m : ℕ) (file : OpenFile) → open_file s p d ≡ Some (m, file) → is_directory_at (step program_of s k).after.tree file.node ≡ is_directory_at s.tree file.node
-LeavesWay program_of s p call k = LeavesTree program_of s k
+abbrev pub LeavesDestination : (Bytes → Option Program) → State → Process → Call → ℕ → Type 0
+LeavesDestination program_of s p (Fchdir d) k = (m : ℕ) (file : OpenFile) → open_file s p d ≡ Some (m, file) → is_directory_at (step program_of s k).after.tree file.node ≡ is_directory_at s.tree file.node
+LeavesDestination program_of s p call k = LeavesTree program_of s k
 
 -- such a call that does not kill and frees no node commutes with such a step of another process
 abbrev pub DirectoryStepsCommute : Type 0
 DirectoryStepsCommute =
     (program_of : Bytes → Option Program) → EncodesPrograms program_of → (s : State) (j k : ℕ) (p : Process) (call : Call) → IsValid s → j ≢ k → process_at s j ≡ Some p → next p ≡ calls_for call
-    → IsTrue (changes_directory call) → ((a : Promise) → (step program_of s j).outcome ≢ Killed a) → LeavesTree program_of s j → LeavesWay program_of s p call k
+    → IsTrue (changes_directory call) → ((a : Promise) → (step program_of s j).outcome ≢ Killed a) → LeavesTree program_of s j → LeavesDestination program_of s p call k
     → Commute program_of s j k
 
 -- ---- the table: unveil(2)

@@ -40,13 +40,13 @@ ReportsNoLimit lines = IsTrue (list_all (λ (l : Line). not (is_limit_word l.wor
 abbrev pub NeedsFiveTimes : Type 0
 NeedsFiveTimes = (v : Version) (node : Node) → need V2 (node_length V2 node) ≤ 5 * need v (node_length v node)
 
-pub record HasRoomAlso (old new : Tree) : Type 0 where
+pub record LargerTreeHasRoom (old new : Tree) : Type 0 where
   pub fits : IsTrue (fits old) → IsTrue (fits new)
   pub not_too_long : IsFalse (is_too_long old) → IsFalse (is_too_long new)
 
 -- a tree that has room in the smaller image has room in the larger one
 abbrev pub LargerHasRoom : Type 0
-LargerHasRoom = (old new : Tree) → IsLarger old new → length old.nodes ≡ suc old.inodes → HasRoomAlso old new
+LargerHasRoom = (old new : Tree) → IsLarger old new → length old.nodes ≡ suc old.inodes → LargerTreeHasRoom old new
 
 -- ---- steps and runs
 

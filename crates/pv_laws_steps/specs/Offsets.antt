@@ -21,29 +21,29 @@ with_file_change s k g = record s { files = change_number k g s.files }
 
 -- the calls that depend on the position of their descriptor's open file: its offset, its append flag, or the name that
 -- it listed last
-abbrev pub goes_by_offset : Call → Bool
-goes_by_offset (Read d n) = true
-goes_by_offset (Write d n) = true
-goes_by_offset (Lseek d by whence) = true
-goes_by_offset (Getdents d) = true
-goes_by_offset call = false
+abbrev pub depends_on_offset : Call → Bool
+depends_on_offset (Read d n) = true
+depends_on_offset (Write d n) = true
+depends_on_offset (Lseek d by whence) = true
+depends_on_offset (Getdents d) = true
+depends_on_offset call = false
 
 -- the next call of a process is such a call, by its own descriptor for open file k
-pub record GoesBy (s : State) (pid k : ℕ) : Type 0 where
+pub record DependsOnOffset (s : State) (pid k : ℕ) : Type 0 where
   pub named : IsNamedBy s pid k
-  pub by : IsTrue (goes_by_offset named.call)
+  pub by : IsTrue (depends_on_offset named.call)
 
 -- two steps have the same outcome and lines, and the next states differ only by this change of open file k
-pub record StepsBesideFile (k : ℕ) (g : OpenFile → OpenFile) (a b : Stepped) : Type 0 where
+pub record StepsWithOtherFile (k : ℕ) (g : OpenFile → OpenFile) (a b : Stepped) : Type 0 where
   pub outcome : b.outcome ≡ a.outcome
   pub lines : b.lines ≡ a.lines
   pub after : b.after ≡ with_file_change a.after k g
 
 -- a step that does not use an open file depends only on its node and its mode, and leaves its position unchanged
-abbrev pub OffsetsAlterNothing : Type 0
-OffsetsAlterNothing =
-    (program_of : Bytes → Option Program) (s : State) (pid k : ℕ) (g : OpenFile → OpenFile) → ((f : OpenFile) → IsSameFile f (g f)) → IsTrue (is_some (at_number s.files k)) → ¬ GoesBy s pid k
-    → StepsBesideFile k g (step program_of s pid) (step program_of (with_file_change s k g) pid)
+abbrev pub OffsetsDoNotMatter : Type 0
+OffsetsDoNotMatter =
+    (program_of : Bytes → Option Program) (s : State) (pid k : ℕ) (g : OpenFile → OpenFile) → ((f : OpenFile) → IsSameFile f (g f)) → IsTrue (is_some (at_number s.files k)) → ¬ DependsOnOffset s pid k
+    → StepsWithOtherFile k g (step program_of s pid) (step program_of (with_file_change s k g) pid)
 
 -- the calls that move the position of an open file, and otherwise change only the inside of their process
 abbrev pub moves_offset : Call → Bool
@@ -56,7 +56,7 @@ moves_offset call = false
 abbrev pub LeavesOpenFile : (Bytes → Option Program) → State → Process → Call → ℕ → Type 0
 LeavesOpenFile program_of s p call k =
     (d : ℤ) (m : ℕ) (file : OpenFile) → descriptor_of call ≡ Some d → open_file s p d ≡ Some (m, file)
-    → (¬ GoesBy s k m) × (node_at (step program_of s k).after.tree file.node ≡ node_at s.tree file.node)
+    → (¬ DependsOnOffset s k m) × (node_at (step program_of s k).after.tree file.node ≡ node_at s.tree file.node)
 
 -- such a call that does not kill commutes with such a step of another process
 abbrev pub OffsetStepsCommute : Type 0

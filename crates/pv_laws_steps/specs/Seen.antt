@@ -7,7 +7,7 @@ use Rattle.pv_laws_steps.specs.Beside.{change_live, become}
 -- the visible part of a record: everything of the process that makes the step; the parent and the references of another
 -- live process; the whole record of an ended process
 pub data SeenRecord : Type 0 where
-  own : (whole : ProcessRecord) → SeenRecord
+  own_record : (whole : ProcessRecord) → SeenRecord
   live_other : (parent directory : ℕ) (descriptors : Numbered Descriptor) (held : List ℕ) → SeenRecord
   ended_other : (parent status : ℕ) → SeenRecord
 
@@ -16,7 +16,7 @@ seen_other (live p) = live_other p.parent p.directory p.descriptors (held_by_tab
 seen_other (ended_record parent status) = ended_other parent status
 
 abbrev pub seen_record : ℕ → ℕ × ProcessRecord → ℕ × SeenRecord
-seen_record pid r = (r.0, if r.0 == pid then own r.1 else seen_other r.1)
+seen_record pid r = (r.0, if r.0 == pid then own_record r.1 else seen_other r.1)
 
 -- the part of a state that a step depends on: everything but the insides of other processes, that is, their restraints,
 -- programs, lines, registers and buffers
@@ -37,13 +37,13 @@ with_inside (Some q) r = change_live (become q) r
 abbrev pub inside_from : ℕ → State → ℕ × ProcessRecord → ℕ × ProcessRecord
 inside_from pid t r = (r.0, if r.0 == pid then r.1 else with_inside (process_at t r.0) r.1)
 
--- state u, with the insides of all live processes other than `pid` from state t, but their own parents
+-- state u, with the insides of all live processes other than `pid` from state t, except for their own parents
 abbrev pub with_insides : ℕ → State → State → State
 with_insides pid t u = record u { processes = map (inside_from pid t) u.processes }
 
 -- two steps of a process, the second from state t, have the same outcome and lines, and the next states differ only in
 -- the insides of the other processes, which are those of t
-pub record StepsBesideAll (pid : ℕ) (t : State) (a b : Stepped) : Type 0 where
+pub record StepsWithOtherInsides (pid : ℕ) (t : State) (a b : Stepped) : Type 0 where
   pub outcome : b.outcome ≡ a.outcome
   pub lines : b.lines ≡ a.lines
   pub after : b.after ≡ with_insides pid t a.after
@@ -52,4 +52,4 @@ pub record StepsBesideAll (pid : ℕ) (t : State) (a b : Stepped) : Type 0 where
 abbrev pub StepsBySeen : Type 0
 StepsBySeen =
     (program_of : Bytes → Option Program) (s t : State) (pid : ℕ) → IsValid s → IsValid t → seen pid s ≡ seen pid t
-    → StepsBesideAll pid t (step program_of s pid) (step program_of t pid)
+    → StepsWithOtherInsides pid t (step program_of s pid) (step program_of t pid)

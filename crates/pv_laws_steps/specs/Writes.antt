@@ -8,7 +8,7 @@ use Rattle.pv_model.specs.Machine.{Bytes, within, write_end, open_file, calls_fo
 use Rattle.pv_laws_states.specs.States.{EncodesPrograms, IsValid}
 use Rattle.pv_laws_runs.specs.OfLawsAccess.Justice.{ReadsBytes, ChangesBytes, HasEffectNext}
 use Rattle.pv_laws_steps.specs.Commuting.{Commute}
-use Rattle.pv_laws_steps.specs.Offsets.{GoesBy}
+use Rattle.pv_laws_steps.specs.Offsets.{DependsOnOffset}
 
 -- the next call of a process neither reads nor may change the bytes of a file: it is not a read, write or ftruncate by
 -- a descriptor for it that is open for that, nor an execve of it, nor an open that truncates it
@@ -17,7 +17,7 @@ LeavesBytes s pid f = (¬ HasEffectNext ReadsBytes s pid f) × (¬ HasEffectNext
 
 -- the next step of process k does not use the open file of descriptor d of p, and leaves the bytes of its file alone
 abbrev pub LeavesWrite : State → Process → ℤ → ℕ → Type 0
-LeavesWrite s p d k = (m : ℕ) (file : OpenFile) → open_file s p d ≡ Some (m, file) → (¬ GoesBy s k m) × LeavesBytes s k file.node
+LeavesWrite s p d k = (m : ℕ) (file : OpenFile) → open_file s p d ≡ Some (m, file) → (¬ DependsOnOffset s k m) × LeavesBytes s k file.node
 
 -- a write of c bytes by descriptor d ends within its file, and so keeps its length
 abbrev pub StaysWithin : State → ℕ → Process → ℤ → ℤ → Type 0

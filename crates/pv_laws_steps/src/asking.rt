@@ -1,11 +1,11 @@
 //! Laws of calls that only query the tree, a node or a parent: stat(2), lstat(2), readlink(2), fstat(2), getppid(2).
 
-ghost use Rattle.pv_laws_steps.specs.Asking.{AskingStepsCommute, FstatsCommute, GetPpidsCommute};
+ghost use Rattle.pv_laws_steps.specs.Asking.{QueryingStepsCommute, FstatsCommute, GetPpidsCommute};
 
 /// A stat, lstat, readlink or fstat that does not kill its process commutes with any step of another process that
 /// leaves the tree unchanged.
 pub fn asking_steps_commute()
-    ensures { AskingStepsCommute }
+    ensures { QueryingStepsCommute }
 {}
 
 /// An fstat that does not kill its process commutes with any step of another process that leaves the node of its

@@ -1,6 +1,6 @@
 //! Laws of steps of different processes that commute.
 
-ghost use Rattle.pv_laws_steps.specs.Commuting.{InsideStepsCommute, StepsStayInside, LoneStepsCommute, RunsReorder};
+ghost use Rattle.pv_laws_steps.specs.Commuting.{InsideStepsCommute, StepsStayInside, IndependentStepsCommute, RunsReorder};
 
 /// Two steps of different processes commute if each changes nothing but the inside of its own process.
 pub fn inside_steps_commute()
@@ -16,7 +16,7 @@ pub fn steps_stay_inside()
 /// A step that depends on its own process alone commutes with any step of another process. Such steps are instructions
 /// on registers, getpid, pledge, the unveil that locks, and calls refused for a missing promise.
 pub fn lone_steps_commute()
-    ensures { LoneStepsCommute }
+    ensures { IndependentStepsCommute }
 {}
 
 /// If two steps commute, the runs that begin with them in either order reach the same final state, and their lines

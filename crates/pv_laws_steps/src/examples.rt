@@ -1,4 +1,4 @@
-//! Worked runs for the law of what a step depends on, by computation.
+//! Worked runs for the law of the part of a state on which a step depends, by computation.
 
 ghost use Rattle.pv_laws_steps.specs.Examples.{SeenExamples};
 

@@ -1,12 +1,12 @@
 //! Laws of writes and truncations that keep the number of blocks of their file: write(2), ftruncate(2).
 
-ghost use Rattle.pv_laws_steps.specs.Growing.{ContentsAlterNothing, GrowingWritesCommute, CutsCommute};
+ghost use Rattle.pv_laws_steps.specs.Growing.{ContentsDoNotMatter, GrowingWritesCommute, CutsCommute};
 
 /// Let a step neither read nor be able to change the bytes of a file, nor ask for its length. With another content of
-/// as many blocks in the file, the step has the same outcome and the same lines, and the next states differ in this
-/// content alone.
+/// the same number of blocks in the file, the step has the same outcome and the same lines, and the next states differ
+/// in this content alone.
 pub fn contents_alter_nothing()
-    ensures { ContentsAlterNothing }
+    ensures { ContentsDoNotMatter }
 {}
 
 /// A write that does not kill its process and ends within the blocks of its file, which it may extend, commutes with

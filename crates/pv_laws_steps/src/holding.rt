@@ -1,4 +1,4 @@
-//! Laws of steps that change what their own process references: close(2), dup(2), dup2(2), chdir(2), fchdir(2),
+//! Laws of steps that change the references of their own process: close(2), dup(2), dup2(2), chdir(2), fchdir(2),
 //! unveil(2), execve(2).
 
 ghost use Rattle.pv_laws_steps.specs.Holding.{DescriptorStepsLeave, DescriptorStepsCommute, DirectoryStepsCommute, UnveilsLeave, UnveilsCommute, ExecvesCommute};

@@ -1,4 +1,5 @@
-//! Laws of single steps: what a step depends on, which steps commute, and what changes in a larger image.
+//! Laws of single steps: the part of a state on which a step depends, the steps that commute, and the changes in a
+//! larger image.
 //!
 //! Steps of two processes commute if, in either order, each has the same outcome and lines and the final state is the
 //! same. Each law is a function with an empty body whose contract is the statement, defined in `specs/`.

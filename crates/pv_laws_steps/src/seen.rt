@@ -1,4 +1,4 @@
-//! The law of what a step depends on.
+//! The law of the part of a state on which a step depends.
 
 ghost use Rattle.pv_laws_steps.specs.Seen.{StepsBySeen};
 

@@ -3,10 +3,10 @@ use Rattle.std.proofs.Common.{◌≡◌, Some, Result, Ok, Err, ap, sym, ◌∙�
 use Rattle.std.specs.Result.{result_ok}
 use Rattle.pv_model.specs.Machine.{Bytes, booted}
 use Rattle.pv_model.specs.Start.{IsAccepted}
-use Rattle.pv_laws_trees.proofs.Starts.{starts}
+use Rattle.pv_laws_trees.proofs.MachineStarts.{starts}
 use Rattle.pv_laws_trees.specs.Mounts.{Boots}
 use Rattle.pv_laws_trees.proofs.MountedImages.{image-mounted}
-use Rattle.pv_laws_trees.proofs.Images.{mounted-image}
+use Rattle.pv_laws_trees.proofs.TreeImages.{mounted-image}
 
 ok-some : {A E : Type 0} (r : Result A E) (a : A) → result_ok r ≡ Some a → r ≡ Ok a
 ok-some (Ok b) a is = let same : b ≡ a = cc is in ap Ok same

@@ -6,7 +6,7 @@ use Rattle.std.proofs.lemmas.Map.Steps.{length-le_from_distinct_below}
 use Rattle.pv_model.specs.Machine.{Bytes, contains_directory, Tree, root, is_directory_at, find_entry, parent, ancestors, IsAtOrAbove, is_removed, IsReached, from_root, by_entry, IsWellFormed}
 use Rattle.pv_model.specs.Tree.{above_or_none, ancestors_within, itself, above as is_above}
 use Rattle.pv_laws_trees.specs.Tree.{IsSoundTree, Appears}
-use Rattle.pv_laws_trees.proofs.Changes.{directory-below, some-below, has_entry-directory}
+use Rattle.pv_laws_trees.proofs.TreeChanges.{directory-below, some-below, has_entry-directory}
 use Rattle.pv_laws_trees.proofs.Trees.{ordered, sound, parent-entry, parent-none_named, entry-parent}
 
 -- a directory that is not removed is reached from the root
@@ -28,7 +28,7 @@ entry-reached t s d name n found = by (parent t d) refl
     by None is =
         let top = parent-none_named t d is in
         let empty = s.removed_are_empty d (has_entry-directory t d name n found) top.0 top.1 in
-        let none : find_entry t d name ≡ None = ap (λ es. Rattle.std.specs.FinMap.Entries.find Rattle.pv_laws_trees.proofs.Entries.by_name name es) empty in cc
+        let none : find_entry t d name ≡ None = ap (λ es. Rattle.std.specs.FinMap.Entries.find Rattle.pv_laws_trees.proofs.DirectoryEntries.by_name name es) empty in cc
     by (Some a) is = appears-reached t s d (ap is_none is)
 
 -- a directory is k steps below the root

@@ -7,9 +7,9 @@ use Rattle.pv_model.specs.Machine.{Bytes, among, keep_if, Node, directory_node, 
 use Rattle.pv_model.specs.Held.{only_nodes}
 use Rattle.pv_laws_trees.specs.Preserved.{EachIsNamed, numbers_wanted, preserved}
 use Rattle.pv_laws_trees.specs.Tree.{IsSoundTree}
-use Rattle.pv_laws_trees.proofs.Numbered.{keep-all, keep-keep, keep-agree, keep-some, keep-passes, keep-fails, at_number-keep, length-keep}
+use Rattle.pv_laws_trees.proofs.NumberedMaps.{keep-all, keep-keep, keep-agree, keep-some, keep-passes, keep-fails, at_number-keep, length-keep}
 use Rattle.pv_laws_trees.proofs.Trees.{ordered, among-entry, entry-among, sound}
-use Rattle.pv_laws_trees.proofs.Generic.{implied}
+use Rattle.pv_laws_trees.proofs.ListTests.{implied}
 
 -- a tree whose nodes are all among the numbers is unchanged
 pub only_nodes_all : (t : Tree) (ns : List ℕ) → ((n : ℕ) (node : Node) → node_at t n ≡ Some node → among ns n ≡ true) → only_nodes t ns ≡ t
@@ -82,7 +82,7 @@ entries-only t ns s covers d =
     (cases_Bool (among ns d))
 
 pub find-only : (t : Tree) (ns : List ℕ) → IsSoundTree t → Covers t ns → (d : ℕ) (name : Bytes) → find_entry (only_nodes t ns) d name ≡ find_entry t d name
-find-only t ns s covers d name = ap (λ es. Rattle.std.specs.FinMap.Entries.find Rattle.pv_laws_trees.proofs.Entries.by_name name es) (entries-only t ns s covers d)
+find-only t ns s covers d name = ap (λ es. Rattle.std.specs.FinMap.Entries.find Rattle.pv_laws_trees.proofs.DirectoryEntries.by_name name es) (entries-only t ns s covers d)
 
 -- a path from the root stays if its entries stay
 pub reached-along : (t u : Tree) → ((d : ℕ) (name : Bytes) (n : ℕ) → find_entry t d name ≡ Some n → find_entry u d name ≡ Some n) → (n : ℕ) → IsReached t n → IsReached u n

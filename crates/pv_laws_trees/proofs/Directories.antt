@@ -14,7 +14,7 @@ use Rattle.pv_model.specs.declared.version.Version.{Version}
 use Rattle.pv_model.specs.Machine.{Bytes, slot_number, slot_name, appears_twice, Entries, names_in}
 use Rattle.pv_model.specs.Mount.{entries_in}
 use Rattle.pv_laws_trees.specs.Slots.{entry_in_slot}
-use Rattle.pv_laws_trees.proofs.Entries.{by_name, ties-bytes_eq, reported, report, list_all-put}
+use Rattle.pv_laws_trees.proofs.DirectoryEntries.{by_name, ties-bytes_eq, reported, report, list_all-put}
 
 -- an entry inserted under a new name
 put-fresh : (name : Bytes) (n : ℕ) (es : Entries) → find by_name name es ≡ None → IsPermutation ((name, n) ∷ es) (put by_name name n es)

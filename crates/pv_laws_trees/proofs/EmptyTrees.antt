@@ -5,7 +5,7 @@ use Rattle.std.proofs.lemmas.Bool.{le-leb}
 use Rattle.pv_model.specs.declared.version.Version.TheVariants.{V1}
 use Rattle.pv_model.specs.Machine.{Bytes, empty_tree, Numbered, at_number, numbered_from, present, need, is_too_long, fits, Node, directory_node, Tree, root, node_at, entries_of, entries_at, find_entry}
 use Rattle.pv_laws_trees.specs.Tree.{IsSoundTree}
-use Rattle.pv_laws_trees.proofs.Entries.{by_name}
+use Rattle.pv_laws_trees.proofs.DirectoryEntries.{by_name}
 
 -- a map without values
 abbrev pub empties : ℕ → Numbered Node

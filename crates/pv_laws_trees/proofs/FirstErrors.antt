@@ -8,8 +8,8 @@ use Rattle.pv_model.specs.declared.limits.TheConstants.{BLOCK}
 use Rattle.pv_model.specs.declared.version.Version.{Version}
 use Rattle.pv_model.specs.declared.version.Version.TheVariants.{V1, V2}
 use Rattle.pv_model.specs.Machine.{Bytes, magic, inode_number, has_bad_inode, has_bad_block, has_bad_content, tree_in, mounted, PassesNone, Tree}
-use Rattle.pv_model.specs.Mount.{version_of, has_sizes, has_bad_place, least_with, or_fault, inode_fault, or_tree, mounted_as, PassesLeast, HasSizes, IsFaultOf, short, other_magic, other_sizes, bad_inode, bad_block, bad_content, bad_place}
-use Rattle.pv_laws_trees.proofs.Entries.{bytes_eq-same}
+use Rattle.pv_model.specs.Mount.{version_of, has_sizes, has_bad_place, least_with, or_error, inode_error, or_tree, mounted_as, PassesLeast, HasSizes, IsErrorOf, short, other_magic, other_sizes, bad_inode, bad_block, bad_content, bad_place}
+use Rattle.pv_laws_trees.proofs.DirectoryEntries.{bytes_eq-same}
 
 -- ---- the least number for which a test succeeds
 
@@ -17,9 +17,9 @@ abbrev some_or : {X : Type 0} → X → Option X → X
 some_or x None = x
 some_or x (Some y) = y
 
-abbrev fault_or : ImageFault → Result Tree ImageFault → ImageFault
-fault_or fault (Ok t) = fault
-fault_or fault (Err other) = other
+abbrev error_or : ImageFault → Result Tree ImageFault → ImageFault
+error_or fault (Ok t) = fault
+error_or fault (Err other) = other
 
 -- a test that fails at a number and after it fails from that number on
 onward : (test : ℕ → Bool) (from m : ℕ) → test from ≡ false → from ≤ m → (from + 1 ≤ m → test m ≡ false) → test m ≡ false
@@ -113,41 +113,41 @@ module _ (v : Version) (bytes : Bytes) where
 
   -- the first error of the inodes is the first error of the bytes
   of_place : (f : ImageFault) → HasSizes bytes v → PassesNone bytes (has_bad_inode v bytes) → PassesNone bytes (has_bad_block v bytes) → PassesNone bytes (has_bad_content v bytes)
-      → or_fault v bytes NoTree (least_with v bytes (has_bad_place v bytes)) None ≡ Some f → IsFaultOf bytes f
+      → or_error v bytes NoTree (least_with v bytes (has_bad_place v bytes)) None ≡ Some f → IsErrorOf bytes f
   of_place f sizes inodes blocks contents is =
-      elim (least_with v bytes (has_bad_place v bytes)) as (λ o. least_with v bytes (has_bad_place v bytes) ≡ o → or_fault v bytes NoTree o None ≡ Some f → IsFaultOf bytes f) [
-        | Some n ↦ λ at h. subst (IsFaultOf bytes) (ap (some_or f) h) (bad_place v n sizes inodes blocks contents (least-found (has_bad_place v bytes) n at))
+      elim (least_with v bytes (has_bad_place v bytes)) as (λ o. least_with v bytes (has_bad_place v bytes) ≡ o → or_error v bytes NoTree o None ≡ Some f → IsErrorOf bytes f) [
+        | Some n ↦ λ at h. subst (IsErrorOf bytes) (ap (some_or f) h) (bad_place v n sizes inodes blocks contents (least-found (has_bad_place v bytes) n at))
         | None ↦ λ at h. absurd cc
       ] refl is
 
   of_content : (f : ImageFault) → HasSizes bytes v → PassesNone bytes (has_bad_inode v bytes) → PassesNone bytes (has_bad_block v bytes)
-      → or_fault v bytes Dir (least_with v bytes (has_bad_content v bytes)) (or_fault v bytes NoTree (least_with v bytes (has_bad_place v bytes)) None) ≡ Some f → IsFaultOf bytes f
+      → or_error v bytes Dir (least_with v bytes (has_bad_content v bytes)) (or_error v bytes NoTree (least_with v bytes (has_bad_place v bytes)) None) ≡ Some f → IsErrorOf bytes f
   of_content f sizes inodes blocks is =
-      elim (least_with v bytes (has_bad_content v bytes)) as (λ o. least_with v bytes (has_bad_content v bytes) ≡ o → or_fault v bytes Dir o (or_fault v bytes NoTree (least_with v bytes (has_bad_place v bytes)) None) ≡ Some f → IsFaultOf bytes f) [
-        | Some n ↦ λ at h. subst (IsFaultOf bytes) (ap (some_or f) h) (bad_content v n sizes inodes blocks (least-found (has_bad_content v bytes) n at))
+      elim (least_with v bytes (has_bad_content v bytes)) as (λ o. least_with v bytes (has_bad_content v bytes) ≡ o → or_error v bytes Dir o (or_error v bytes NoTree (least_with v bytes (has_bad_place v bytes)) None) ≡ Some f → IsErrorOf bytes f) [
+        | Some n ↦ λ at h. subst (IsErrorOf bytes) (ap (some_or f) h) (bad_content v n sizes inodes blocks (least-found (has_bad_content v bytes) n at))
         | None ↦ λ at h. of_place f sizes inodes blocks (none-found (has_bad_content v bytes) at) h
       ] refl is
 
   of_block : (f : ImageFault) → HasSizes bytes v → PassesNone bytes (has_bad_inode v bytes)
-      → or_fault v bytes Block (least_with v bytes (has_bad_block v bytes)) (or_fault v bytes Dir (least_with v bytes (has_bad_content v bytes)) (or_fault v bytes NoTree (least_with v bytes (has_bad_place v bytes)) None)) ≡ Some f → IsFaultOf bytes f
+      → or_error v bytes Block (least_with v bytes (has_bad_block v bytes)) (or_error v bytes Dir (least_with v bytes (has_bad_content v bytes)) (or_error v bytes NoTree (least_with v bytes (has_bad_place v bytes)) None)) ≡ Some f → IsErrorOf bytes f
   of_block f sizes inodes is =
-      elim (least_with v bytes (has_bad_block v bytes)) as (λ o. least_with v bytes (has_bad_block v bytes) ≡ o → or_fault v bytes Block o (or_fault v bytes Dir (least_with v bytes (has_bad_content v bytes)) (or_fault v bytes NoTree (least_with v bytes (has_bad_place v bytes)) None)) ≡ Some f → IsFaultOf bytes f) [
-        | Some n ↦ λ at h. subst (IsFaultOf bytes) (ap (some_or f) h) (bad_block v n sizes inodes (least-found (has_bad_block v bytes) n at))
+      elim (least_with v bytes (has_bad_block v bytes)) as (λ o. least_with v bytes (has_bad_block v bytes) ≡ o → or_error v bytes Block o (or_error v bytes Dir (least_with v bytes (has_bad_content v bytes)) (or_error v bytes NoTree (least_with v bytes (has_bad_place v bytes)) None)) ≡ Some f → IsErrorOf bytes f) [
+        | Some n ↦ λ at h. subst (IsErrorOf bytes) (ap (some_or f) h) (bad_block v n sizes inodes (least-found (has_bad_block v bytes) n at))
         | None ↦ λ at h. of_content f sizes inodes (none-found (has_bad_block v bytes) at) h
       ] refl is
 
-  of_inodes : (f : ImageFault) → HasSizes bytes v → inode_fault v bytes ≡ Some f → IsFaultOf bytes f
-  unfolding inode_fault
+  of_inodes : (f : ImageFault) → HasSizes bytes v → inode_error v bytes ≡ Some f → IsErrorOf bytes f
+  unfolding inode_error
   of_inodes f sizes is =
-      elim (least_with v bytes (has_bad_inode v bytes)) as (λ o. least_with v bytes (has_bad_inode v bytes) ≡ o → or_fault v bytes Inode o (or_fault v bytes Block (least_with v bytes (has_bad_block v bytes)) (or_fault v bytes Dir (least_with v bytes (has_bad_content v bytes)) (or_fault v bytes NoTree (least_with v bytes (has_bad_place v bytes)) None))) ≡ Some f → IsFaultOf bytes f) [
-        | Some n ↦ λ at h. subst (IsFaultOf bytes) (ap (some_or f) h) (bad_inode v n sizes (least-found (has_bad_inode v bytes) n at))
+      elim (least_with v bytes (has_bad_inode v bytes)) as (λ o. least_with v bytes (has_bad_inode v bytes) ≡ o → or_error v bytes Inode o (or_error v bytes Block (least_with v bytes (has_bad_block v bytes)) (or_error v bytes Dir (least_with v bytes (has_bad_content v bytes)) (or_error v bytes NoTree (least_with v bytes (has_bad_place v bytes)) None))) ≡ Some f → IsErrorOf bytes f) [
+        | Some n ↦ λ at h. subst (IsErrorOf bytes) (ap (some_or f) h) (bad_inode v n sizes (least-found (has_bad_inode v bytes) n at))
         | None ↦ λ at h. of_block f sizes (none-found (has_bad_inode v bytes) at) h
       ] refl is
 
-  of_tree : (f : ImageFault) → HasSizes bytes v → or_tree v bytes (inode_fault v bytes) ≡ Err f → IsFaultOf bytes f
+  of_tree : (f : ImageFault) → HasSizes bytes v → or_tree v bytes (inode_error v bytes) ≡ Err f → IsErrorOf bytes f
   of_tree f sizes is =
-      elim (inode_fault v bytes) as (λ o. inode_fault v bytes ≡ o → or_tree v bytes o ≡ Err f → IsFaultOf bytes f) [
-        | Some g ↦ λ at h. subst (IsFaultOf bytes) (ap (fault_or f) h) (of_inodes g sizes at)
+      elim (inode_error v bytes) as (λ o. inode_error v bytes ≡ o → or_tree v bytes o ≡ Err f → IsErrorOf bytes f) [
+        | Some g ↦ λ at h. subst (IsErrorOf bytes) (ap (error_or f) h) (of_inodes g sizes at)
         | None ↦ λ at h. absurd cc
       ] refl is
 
@@ -175,22 +175,22 @@ magic-version_of bytes v is =
           ] refl h
     ] refl is
 
-of_version : (bytes : Bytes) (o : Option Version) (f : ImageFault) → BLOCK ≤ length bytes → version_of bytes ≡ o → mounted_as o bytes ≡ Err f → IsFaultOf bytes f
+of_version : (bytes : Bytes) (o : Option Version) (f : ImageFault) → BLOCK ≤ length bytes → version_of bytes ≡ o → mounted_as o bytes ≡ Err f → IsErrorOf bytes f
 of_version bytes None f long at is =
-    subst (IsFaultOf bytes) (ap (fault_or f) is) (other_magic long (λ v same. let both : None ≡ Some v = sym at ∙ version_of-magic bytes v same in cc))
+    subst (IsErrorOf bytes) (ap (error_or f) is) (other_magic long (λ v same. let both : None ≡ Some v = sym at ∙ version_of-magic bytes v same in cc))
 of_version bytes (Some v) f long at is =
     let begins = magic-version_of bytes v at in
-    elim (has_sizes v bytes) as (λ b. has_sizes v bytes ≡ b → (if b then or_tree v bytes (inode_fault v bytes) else Err Size) ≡ Err f → IsFaultOf bytes f) [
+    elim (has_sizes v bytes) as (λ b. has_sizes v bytes ≡ b → (if b then or_tree v bytes (inode_error v bytes) else Err Size) ≡ Err f → IsErrorOf bytes f) [
       | true ↦ λ sizes h. of_tree v bytes f (record { long_enough = long; has_magic = begins; sizes = sizes }) h
-      | false ↦ λ sizes h. subst (IsFaultOf bytes) (ap (fault_or f) h) (other_sizes v long begins sizes)
+      | false ↦ λ sizes h. subst (IsErrorOf bytes) (ap (error_or f) h) (other_sizes v long begins sizes)
     ] refl is
 
 -- a reported error is the first
-pub named : (bytes : Bytes) (f : ImageFault) → mounted bytes ≡ Err f → IsFaultOf bytes f
+pub named : (bytes : Bytes) (f : ImageFault) → mounted bytes ≡ Err f → IsErrorOf bytes f
 unfolding mounted
 named bytes f is =
-    elim (nat_lt (length bytes) BLOCK) as (λ b. nat_lt (length bytes) BLOCK ≡ b → (if b then Err Short else mounted_as (version_of bytes) bytes) ≡ Err f → IsFaultOf bytes f) [
-      | true ↦ λ less h. subst (IsFaultOf bytes) (ap (fault_or f) h) (short (ltb-true (length bytes) BLOCK less))
+    elim (nat_lt (length bytes) BLOCK) as (λ b. nat_lt (length bytes) BLOCK ≡ b → (if b then Err Short else mounted_as (version_of bytes) bytes) ≡ Err f → IsErrorOf bytes f) [
+      | true ↦ λ less h. subst (IsErrorOf bytes) (ap (error_or f) h) (short (ltb-true (length bytes) BLOCK less))
       | false ↦ λ not_less h. of_version bytes (version_of bytes) f (ltb-false (length bytes) BLOCK not_less) refl h
     ] refl is
 
@@ -200,26 +200,26 @@ long-mounted : (bytes : Bytes) → BLOCK ≤ length bytes → mounted bytes ≡ 
 unfolding mounted
 long-mounted bytes long = ap (λ b. if b then Err Short else mounted_as (version_of bytes) bytes) (le-ltb (length bytes) BLOCK long)
 
-pub sized-mounted : (bytes : Bytes) (v : Version) → HasSizes bytes v → mounted bytes ≡ or_tree v bytes (inode_fault v bytes)
+pub sized-mounted : (bytes : Bytes) (v : Version) → HasSizes bytes v → mounted bytes ≡ or_tree v bytes (inode_error v bytes)
 sized-mounted bytes v is =
-    long-mounted bytes is.long_enough ∙ ap (λ o. mounted_as o bytes) (version_of-magic bytes v is.has_magic) ∙ ap (λ b. if b then or_tree v bytes (inode_fault v bytes) else Err Size) is.sizes
+    long-mounted bytes is.long_enough ∙ ap (λ o. mounted_as o bytes) (version_of-magic bytes v is.has_magic) ∙ ap (λ b. if b then or_tree v bytes (inode_error v bytes) else Err Size) is.sizes
 
 module _ (bytes : Bytes) (v : Version) (sizes : HasSizes bytes v) where
   -- given the least inodes with each error
   by_least : (inodes blocks contents places : Option ℕ)
       → least_with v bytes (has_bad_inode v bytes) ≡ inodes → least_with v bytes (has_bad_block v bytes) ≡ blocks
       → least_with v bytes (has_bad_content v bytes) ≡ contents → least_with v bytes (has_bad_place v bytes) ≡ places
-      → mounted bytes ≡ or_tree v bytes (or_fault v bytes Inode inodes (or_fault v bytes Block blocks (or_fault v bytes Dir contents (or_fault v bytes NoTree places None))))
-  unfolding inode_fault
+      → mounted bytes ≡ or_tree v bytes (or_error v bytes Inode inodes (or_error v bytes Block blocks (or_error v bytes Dir contents (or_error v bytes NoTree places None))))
+  unfolding inode_error
   by_least inodes blocks contents places a b c d =
       sized-mounted bytes v sizes
-      ∙ ap (λ o. or_tree v bytes (or_fault v bytes Inode o (or_fault v bytes Block (least_with v bytes (has_bad_block v bytes)) (or_fault v bytes Dir (least_with v bytes (has_bad_content v bytes)) (or_fault v bytes NoTree (least_with v bytes (has_bad_place v bytes)) None))))) a
-      ∙ ap (λ o. or_tree v bytes (or_fault v bytes Inode inodes (or_fault v bytes Block o (or_fault v bytes Dir (least_with v bytes (has_bad_content v bytes)) (or_fault v bytes NoTree (least_with v bytes (has_bad_place v bytes)) None))))) b
-      ∙ ap (λ o. or_tree v bytes (or_fault v bytes Inode inodes (or_fault v bytes Block blocks (or_fault v bytes Dir o (or_fault v bytes NoTree (least_with v bytes (has_bad_place v bytes)) None))))) c
-      ∙ ap (λ o. or_tree v bytes (or_fault v bytes Inode inodes (or_fault v bytes Block blocks (or_fault v bytes Dir contents (or_fault v bytes NoTree o None))))) d
+      ∙ ap (λ o. or_tree v bytes (or_error v bytes Inode o (or_error v bytes Block (least_with v bytes (has_bad_block v bytes)) (or_error v bytes Dir (least_with v bytes (has_bad_content v bytes)) (or_error v bytes NoTree (least_with v bytes (has_bad_place v bytes)) None))))) a
+      ∙ ap (λ o. or_tree v bytes (or_error v bytes Inode inodes (or_error v bytes Block o (or_error v bytes Dir (least_with v bytes (has_bad_content v bytes)) (or_error v bytes NoTree (least_with v bytes (has_bad_place v bytes)) None))))) b
+      ∙ ap (λ o. or_tree v bytes (or_error v bytes Inode inodes (or_error v bytes Block blocks (or_error v bytes Dir o (or_error v bytes NoTree (least_with v bytes (has_bad_place v bytes)) None))))) c
+      ∙ ap (λ o. or_tree v bytes (or_error v bytes Inode inodes (or_error v bytes Block blocks (or_error v bytes Dir contents (or_error v bytes NoTree o None))))) d
 
 -- the first error is reported
-pub answered : (bytes : Bytes) (f : ImageFault) → IsFaultOf bytes f → mounted bytes ≡ Err f
+pub answered : (bytes : Bytes) (f : ImageFault) → IsErrorOf bytes f → mounted bytes ≡ Err f
 unfolding mounted
 answered bytes _ (short less) = ap (λ b. if b then Err Short else mounted_as (version_of bytes) bytes) (lt-ltb (length bytes) BLOCK less)
 answered bytes _ (other_magic long other) =
@@ -229,7 +229,7 @@ answered bytes _ (other_magic long other) =
       | Some v ↦ λ at. absurd (other v (magic-version_of bytes v at))
     ] refl
 answered bytes _ (other_sizes v long begins sizes) =
-    long-mounted bytes long ∙ ap (λ o. mounted_as o bytes) (version_of-magic bytes v begins) ∙ ap (λ b. if b then or_tree v bytes (inode_fault v bytes) else Err Size) sizes
+    long-mounted bytes long ∙ ap (λ o. mounted_as o bytes) (version_of-magic bytes v begins) ∙ ap (λ b. if b then or_tree v bytes (inode_error v bytes) else Err Size) sizes
 answered bytes _ (bad_inode v n sizes at) =
     by_least bytes v sizes (Some n) (least_with v bytes (has_bad_block v bytes)) (least_with v bytes (has_bad_content v bytes)) (least_with v bytes (has_bad_place v bytes))
     (least-finds v bytes (has_bad_inode v bytes) n at) refl refl refl

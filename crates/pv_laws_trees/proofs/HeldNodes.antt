@@ -1,7 +1,7 @@
 -- Each node of an image's tree is held by its inode.
 use Rattle.std.proofs.Common.{◌≡◌, ℕ, zero, suc, ◌≤◌, None, Some, subst, sym, ◌∙◌, arith}
 use Rattle.pv_model.specs.Machine.{Bytes, Holds, HoldsAny, IsImageOf, Node, Tree, node_at}
-use Rattle.pv_laws_trees.proofs.Numbered.{at_number-below}
+use Rattle.pv_laws_trees.proofs.NumberedMaps.{at_number-below}
 
 module _ (bytes : Bytes) (t : Tree) (is : IsImageOf bytes t) where
   pub node-within : (n : ℕ) (node : Node) → node_at t n ≡ Some node → (1 ≤ n) × (n ≤ t.inodes)

@@ -8,7 +8,7 @@ use Rattle.std.proofs.lemmas.List.Sorted.{All-permutation}
 use Rattle.std.proofs.lemmas.List.Sums.{AllPass-from_list_all, list_all-from_AllPass}
 use Rattle.pv_model.specs.declared.version.Version.{Version}
 use Rattle.pv_model.specs.Machine.{Bytes, little_endian, block, size, content, used_content, AreSlots, Entries, Node, directory_node, file_node, link_node}
-use Rattle.pv_model.specs.Image.{IsSlot, no_slot, one_more, HasContent}
+use Rattle.pv_model.specs.Image.{IsSlot, no_slot, another_slot, HasContent}
 use Rattle.pv_laws_trees.specs.Encoded.{is_byte, are_bytes, has_bytes}
 
 pub length-little_endian : (k n : ℕ) → length (little_endian k n) ≡ k
@@ -46,7 +46,7 @@ slot-bytes v slot name n s all =
 
 slots-bytes : (v : Version) (bytes : Bytes) (es : Entries) → AreSlots v bytes es → are_bytes bytes ≡ true → list_all (λ e. are_bytes e.0) es ≡ true
 slots-bytes v _ _ no_slot all = refl
-slots-bytes v _ _ (one_more slot rest name n others is more) all =
+slots-bytes v _ _ (another_slot slot rest name n others is more) all =
     let parts = split-bytes slot rest all in
     and_from (are_bytes name) (list_all (λ e. are_bytes e.0) others) (slot-bytes v slot name n is parts.0) (slots-bytes v rest others more parts.1)
 

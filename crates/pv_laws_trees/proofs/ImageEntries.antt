@@ -12,12 +12,12 @@ use Rattle.pv_model.specs.Machine.{Bytes, is_empty, size, content, Holds, HoldsA
 use Rattle.pv_model.specs.Mount.{entries_in, node_in}
 use Rattle.pv_laws_trees.specs.Inodes.{EachOnce, IsFineContent, IsFineInode, IsFineSlot}
 use Rattle.pv_laws_trees.specs.Slots.{entry_in_slot, IsMeasured}
-use Rattle.pv_laws_trees.proofs.Slots.{read}
-use Rattle.pv_laws_trees.proofs.Entries.{by_name}
+use Rattle.pv_laws_trees.proofs.SlotEntries.{read}
+use Rattle.pv_laws_trees.proofs.DirectoryEntries.{by_name}
 use Rattle.pv_laws_trees.proofs.Directories.{permuted, sorted-put_all}
 use Rattle.pv_laws_trees.proofs.HeldNodes.{node-within, node-held}
 use Rattle.pv_laws_trees.proofs.SortedEntries.{entry_name, each-found, permuted-once, one-order}
-use Rattle.pv_laws_trees.proofs.Nodes.{node_of, slots-directory, slots-other}
+use Rattle.pv_laws_trees.proofs.InodeNodes.{node_of, slots-directory, slots-other}
 
 -- ---- lengths and lists
 

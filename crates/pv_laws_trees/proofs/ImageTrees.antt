@@ -10,13 +10,13 @@ use Rattle.pv_model.specs.declared.version.Version.{Version}
 use Rattle.pv_model.specs.Machine.{Bytes, is_empty, inode_blocks, greatest_blocks, size, used_index, used_content, content, slot_number, slot_name, block_number, inode_number, are_image_sizes, kind, is_free, slots_at, name_count, tree_in, Entries, Node, directory_node, file_node, link_node, Tree, root, node_at, is_directory, is_directory_at, find_entry, names_of, is_name, is_node, is_link_text, IsWellFormed}
 use Rattle.pv_model.specs.Mount.{has_sizes, entries_in, node_in}
 use Rattle.pv_laws_trees.specs.Inodes.{AreFineBlocks, EachOnce, IsFineContent, IsFineInode, IsInPlace, IsFineSlot}
-use Rattle.pv_laws_trees.proofs.Entries.{by_name}
+use Rattle.pv_laws_trees.proofs.DirectoryEntries.{by_name}
 use Rattle.pv_laws_trees.proofs.Trees.{parent-none_named}
 use Rattle.pv_laws_trees.proofs.PassedTests.{IsPassed}
 use Rattle.pv_laws_trees.proofs.Inodes.{inode-fine, length-content}
-use Rattle.pv_laws_trees.proofs.Nodes.{by_kind, node_of, node_at-in, node-there, content-fine}
-use Rattle.pv_laws_trees.proofs.Names.{as_many_names, entry-within, entry-slot, counted-entry, within-reached}
-use Rattle.pv_laws_trees.proofs.Blocks.{blocks-fine, used-kind, some-used}
+use Rattle.pv_laws_trees.proofs.InodeNodes.{by_kind, node_of, node_at-in, node-there, content-fine}
+use Rattle.pv_laws_trees.proofs.InodeNames.{as_many_names, entry-within, entry-slot, counted-entry, within-reached}
+use Rattle.pv_laws_trees.proofs.InodeBlocks.{blocks-fine, used-kind, some-used}
 use Rattle.pv_laws_trees.proofs.Directories.{sorted-put_all, tested-put_all}
 use Rattle.pv_laws_trees.proofs.ImagePlaces.{place-fine, root-named, directory-named, other-named}
 use Rattle.pv_laws_trees.proofs.Ranges.{each_weaker, append_each, each_at}

@@ -9,14 +9,14 @@ use Rattle.pv_model.specs.declared.version.Version.{Version}
 use Rattle.pv_model.specs.Machine.{Bytes, inode_blocks, used_blocks, Holds, HoldsAny, IsImageOf, appears_twice, block_number, inode_number, kind, is_free, name_count, is_reached_within, tree_in, mounted, Numbered, at_number, Node, directory_node, file_node, link_node, Tree, root, node_at, is_directory, is_directory_at, find_entry, names_of, IsReached, from_root}
 use Rattle.pv_model.specs.Mount.{may_be_named, node_in, HasSizes}
 use Rattle.pv_laws_trees.specs.Inodes.{AreFineBlocks, IsData, IsInPlace, is_placed}
-use Rattle.pv_laws_trees.proofs.Numbered.{at_number-below, same_numbered}
+use Rattle.pv_laws_trees.proofs.NumberedMaps.{at_number-below, same_numbered}
 use Rattle.pv_laws_trees.proofs.PassedTests.{IsPassed, passed-mounted}
-use Rattle.pv_laws_trees.proofs.Blocks.{used_first, fine-all, fine-blocks, used-all}
+use Rattle.pv_laws_trees.proofs.InodeBlocks.{used_first, fine-all, fine-blocks, used-all}
 use Rattle.pv_laws_trees.proofs.ImageEntries.{image-fine, image-node, image-content, image-once, some-node}
 use Rattle.pv_laws_trees.proofs.HeldNodes.{node-held}
 use Rattle.pv_laws_trees.proofs.Inodes.{fine-inode}
-use Rattle.pv_laws_trees.proofs.Names.{as_many_names, counted-entry}
-use Rattle.pv_laws_trees.proofs.Nodes.{node_at-in, fine-content}
+use Rattle.pv_laws_trees.proofs.InodeNames.{as_many_names, counted-entry}
+use Rattle.pv_laws_trees.proofs.InodeNodes.{node_at-in, fine-content}
 use Rattle.pv_laws_trees.proofs.ImagePlaces.{fine-place, named-root, directory-named, other-named}
 use Rattle.pv_laws_trees.proofs.Ranges.{each_weaker, distinct-once, past-made}
 use Rattle.pv_laws_trees.proofs.ReachedNodes.{reached-within}

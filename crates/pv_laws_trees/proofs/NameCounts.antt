@@ -7,7 +7,7 @@ use Rattle.std.proofs.lemmas.List.Sums.{length-filter, count_by-le-length}
 use Rattle.pv_model.specs.declared.version.Version.{Version}
 use Rattle.pv_model.specs.declared.version.Version.TheVariants.{V1, V2}
 use Rattle.pv_model.specs.Machine.{Bytes, among, Numbered, at_number, numbered_from, entry_length, greatest_length, is_too_long, Entries, Node, directory_node, file_node, link_node, Tree, node_at, entries_of, entries_at, names_in, names_of, named_numbers}
-use Rattle.pv_laws_trees.proofs.Rooms.{length-within}
+use Rattle.pv_laws_trees.proofs.NodeRoom.{length-within}
 use Rattle.pv_laws_trees.proofs.Trees.{named_from}
 
 -- ---- positive counts

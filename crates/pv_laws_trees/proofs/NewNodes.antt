@@ -7,10 +7,10 @@ use Rattle.pv_model.specs.declared.kind.NewNode.TheVariants.{Directory, File, Ex
 use Rattle.pv_model.specs.Machine.{Bytes, among, Node, directory_node, Tree, node_at, entries_of, entries_at, is_directory, is_directory_at, find_entry, named_numbers, with_node, new_number, with_new_node, with_entry}
 use Rattle.pv_laws_trees.specs.NewNodes.{new_node}
 use Rattle.pv_laws_trees.specs.Preserved.{EachIsNamed}
-use Rattle.pv_laws_trees.proofs.Changes.{node_at-other, directory-below, found-with, with_entry-stays, still-there}
-use Rattle.pv_laws_trees.proofs.Edits.{new_number-free}
-use Rattle.pv_laws_trees.proofs.Entries.{by_name}
-use Rattle.pv_laws_trees.proofs.Numbered.{with_number-same_within, with_number-other_within}
+use Rattle.pv_laws_trees.proofs.TreeChanges.{node_at-other, directory-below, found-with, with_entry-stays, still-there}
+use Rattle.pv_laws_trees.proofs.WellFormedChanges.{new_number-free}
+use Rattle.pv_laws_trees.proofs.DirectoryEntries.{by_name}
+use Rattle.pv_laws_trees.proofs.NumberedMaps.{with_number-same_within, with_number-other_within}
 use Rattle.pv_laws_trees.proofs.Trees.{IsOrdered, among-entry, entry-among}
 
 -- a new node has no entries

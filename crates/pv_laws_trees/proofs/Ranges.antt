@@ -8,7 +8,7 @@ use Rattle.std.proofs.lemmas.List.Folds.{list_any-append}
 use Rattle.std.proofs.lemmas.List.FromFn.{length-range_with_len}
 use Rattle.std.proofs.lemmas.Map.Made.{length-le_from_is_member}
 use Rattle.pv_model.specs.Machine.{appears_twice, at_number, numbered_from}
-use Rattle.pv_laws_trees.specs.Inodes.{in_both}
+use Rattle.pv_laws_trees.specs.Inodes.{have_common_element}
 
 -- ---- ranges
 
@@ -125,33 +125,33 @@ append_any test (x ∷ xs) ys none =
     let rest = append_any test xs ys parts.1 in
     (or_from (test x) (list_any test xs) parts.0 rest.0, rest.1)
 
-none_in_empty : (ys : List ℕ) → in_both [] ys ≡ false
+none_in_empty : (ys : List ℕ) → have_common_element [] ys ≡ false
 none_in_empty [] = refl
 none_in_empty (y ∷ ys) = none_in_empty ys
 
-both_parts : (x : ℕ) (xs ys : List ℕ) → in_both (x ∷ xs) ys ≡ false → (list_any (λ y. x == y) ys ≡ false) × (in_both xs ys ≡ false)
+both_parts : (x : ℕ) (xs ys : List ℕ) → have_common_element (x ∷ xs) ys ≡ false → (list_any (λ y. x == y) ys ≡ false) × (have_common_element xs ys ≡ false)
 both_parts x xs [] none = (refl, refl)
 both_parts x xs (y ∷ ys) none =
-    let here = or_parts ((x == y) || list_any (λ other. other == y) xs) (in_both (x ∷ xs) ys) none in
+    let here = or_parts ((x == y) || list_any (λ other. other == y) xs) (have_common_element (x ∷ xs) ys) none in
     let parts = or_parts (x == y) (list_any (λ other. other == y) xs) here.0 in
     let rest = both_parts x xs ys here.1 in
     (or_from (x == y) _ parts.0 rest.0, or_from (list_any (λ other. other == y) xs) _ parts.1 rest.1)
 
-parts_both : (x : ℕ) (xs ys : List ℕ) → list_any (λ y. x == y) ys ≡ false → in_both xs ys ≡ false → in_both (x ∷ xs) ys ≡ false
+parts_both : (x : ℕ) (xs ys : List ℕ) → list_any (λ y. x == y) ys ≡ false → have_common_element xs ys ≡ false → have_common_element (x ∷ xs) ys ≡ false
 parts_both x xs [] first rest = refl
 parts_both x xs (y ∷ ys) first rest =
     let a = or_parts (x == y) (list_any (λ y. x == y) ys) first in
-    let b = or_parts (list_any (λ other. other == y) xs) (in_both xs ys) rest in
-    or_from ((x == y) || list_any (λ other. other == y) xs) (in_both (x ∷ xs) ys) (or_from (x == y) (list_any (λ other. other == y) xs) a.0 b.0) (parts_both x xs ys a.1 b.1)
+    let b = or_parts (list_any (λ other. other == y) xs) (have_common_element xs ys) rest in
+    or_from ((x == y) || list_any (λ other. other == y) xs) (have_common_element (x ∷ xs) ys) (or_from (x == y) (list_any (λ other. other == y) xs) a.0 b.0) (parts_both x xs ys a.1 b.1)
 
-pub apart-once : (xs ys : List ℕ) → appears_twice ◌==◌ xs ≡ false → appears_twice ◌==◌ ys ≡ false → in_both xs ys ≡ false → appears_twice ◌==◌ (xs ++ ys) ≡ false
+pub apart-once : (xs ys : List ℕ) → appears_twice ◌==◌ xs ≡ false → appears_twice ◌==◌ ys ≡ false → have_common_element xs ys ≡ false → appears_twice ◌==◌ (xs ++ ys) ≡ false
 apart-once [] ys front back both = back
 apart-once (x ∷ xs) ys front back both =
     let here = or_parts (list_any (λ y. x == y) xs) (appears_twice ◌==◌ xs) front in
     let parts = both_parts x xs ys both in
     or_from (list_any (λ y. x == y) (xs ++ ys)) (appears_twice ◌==◌ (xs ++ ys)) (any_append (λ y. x == y) xs ys here.0 parts.0) (apart-once xs ys here.1 back parts.1)
 
-pub once-apart : (xs ys : List ℕ) → appears_twice ◌==◌ (xs ++ ys) ≡ false → (appears_twice ◌==◌ xs ≡ false) × (appears_twice ◌==◌ ys ≡ false) × (in_both xs ys ≡ false)
+pub once-apart : (xs ys : List ℕ) → appears_twice ◌==◌ (xs ++ ys) ≡ false → (appears_twice ◌==◌ xs ≡ false) × (appears_twice ◌==◌ ys ≡ false) × (have_common_element xs ys ≡ false)
 once-apart [] ys once = (refl, once, none_in_empty ys)
 once-apart (x ∷ xs) ys once =
     let here = or_parts (list_any (λ y. x == y) (xs ++ ys)) (appears_twice ◌==◌ (xs ++ ys)) once in

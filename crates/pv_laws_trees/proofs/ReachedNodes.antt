@@ -7,9 +7,9 @@ use Rattle.pv_model.specs.declared.version.Version.{Version}
 use Rattle.pv_model.specs.Machine.{Bytes, inode_number, is_reached_within, tree_in, root, IsReached, from_root, by_entry}
 use Rattle.pv_model.specs.Mount.{has_slot_for}
 use Rattle.pv_laws_trees.specs.Inodes.{EachOnce, HasInodes}
-use Rattle.pv_laws_trees.proofs.Names.{steps_to, further, entry-within, entry-slot}
+use Rattle.pv_laws_trees.proofs.InodeNames.{steps_to, further, entry-within, entry-slot}
 use Rattle.pv_laws_trees.proofs.Ranges.{any_in_range, range_any}
-use Rattle.pv_laws_trees.proofs.Generic.{filter-fewer}
+use Rattle.pv_laws_trees.proofs.ListTests.{filter-fewer}
 
 -- ---- the number of elements that pass
 

@@ -3,7 +3,7 @@ use Rattle.std.proofs.Common.{◌≡◌, ◌≢◌, ℕ, zero, suc, ◌+◌, ◌
 use Rattle.std.specs.Prelude.{slice_index}
 use Rattle.std.proofs.lemmas.Bool.{eq-eqb, ne_eqb, or_left}
 use Rattle.pv_model.specs.Machine.{among}
-use Rattle.pv_laws_trees.specs.ReferenceCounts.{held_from, held_numbers}
+use Rattle.pv_laws_trees.specs.ReferenceCounts.{held_from, referenced_numbers}
 use Rattle.pv_laws_trees.proofs.NameCounts.{is_positive}
 
 held-before : (k : ℕ) (holds : List ℕ) (m : ℕ) → m < k → among (held_from k holds) m ≡ false
@@ -22,6 +22,6 @@ held-at k (suc times ∷ holds) (suc n) m at =
     let other : k ≢ m = λ same. absurd (omega arith) in
     ap (λ b. b || among (held_from (suc k) holds) m) (ne_eqb k m other) ∙ held-at (suc k) holds n m (omega arith)
 
-pub held-is : (holds : List ℕ) (n : ℕ) → among (held_numbers holds) n ≡ is_positive (slice_index holds n)
-unfolding held_numbers
+pub held-is : (holds : List ℕ) (n : ℕ) → among (referenced_numbers holds) n ≡ is_positive (slice_index holds n)
+unfolding referenced_numbers
 held-is holds n = held-at 0 holds n n (omega arith)

@@ -8,7 +8,7 @@ use Rattle.std.proofs.lemmas.Cmp.{nat_list_cmp_total, nat_list_eq_equiv}
 use Rattle.std.proofs.lemmas.List.Sorted.{IsPermutation-map, IsPermutation-sym, list_any-IsPermutation}
 use Rattle.std.proofs.lemmas.Map.Keys.{IsDistinct-IsPermutation}
 use Rattle.pv_model.specs.Machine.{Bytes, appears_twice, Entries}
-use Rattle.pv_laws_trees.proofs.Entries.{by_name, ties-bytes_eq, tied-same, tied_itself, bytes_eq-same, report, find_after}
+use Rattle.pv_laws_trees.proofs.DirectoryEntries.{by_name, ties-bytes_eq, tied-same, tied_itself, bytes_eq-same, report, find_after}
 use Rattle.pv_laws_trees.proofs.Ranges.{once-distinct, distinct-once, each_weaker}
 
 abbrev pub entry_name : Bytes × ℕ → Bytes

@@ -9,9 +9,9 @@ use Rattle.std.proofs.lemmas.List.Sums.{AllPass-from_list_all, list_all-from_All
 use Rattle.pv_model.specs.Machine.{Bytes, overwrite, resize, among, Node, directory_node, file_node, link_node, Tree, node_at, entries_of, entries_at, is_directory_at, with_node, with_entry, without_entry}
 use Rattle.pv_laws_trees.specs.Preserved.{numbers_wanted, preserved}
 use Rattle.pv_laws_trees.specs.Encoded.{is_byte, are_bytes, has_bytes, AllBytes}
-use Rattle.pv_laws_trees.proofs.Changes.{node_at-same, node_at-other, directory-below}
-use Rattle.pv_laws_trees.proofs.Entries.{by_name, is_other, list_all-put, list_all-filter}
-use Rattle.pv_laws_trees.proofs.Numbered.{keep-some}
+use Rattle.pv_laws_trees.proofs.TreeChanges.{node_at-same, node_at-other, directory-below}
+use Rattle.pv_laws_trees.proofs.DirectoryEntries.{by_name, is_other, list_all-put, list_all-filter}
+use Rattle.pv_laws_trees.proofs.NumberedMaps.{keep-some}
 
 pub bytes-with_node : (t : Tree) (m : ℕ) (node : Node) → m < length t.nodes → has_bytes node ≡ true → AllBytes t → AllBytes (with_node t m node)
 bytes-with_node t m node below good all n x at =

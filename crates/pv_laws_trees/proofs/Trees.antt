@@ -9,7 +9,7 @@ use Rattle.std.proofs.lemmas.List.Folds.{list_any-append}
 use Rattle.pv_model.specs.Machine.{Bytes, among, Numbered, at_number, numbered_from, numbered, Entries, Node, directory_node, file_node, link_node, Tree, root, node_at, entries_of, entries_at, is_directory_at, find_entry, parent, names_in, names_of, named_numbers, is_node, IsWellFormed}
 use Rattle.pv_model.specs.Tree.{names_node, first_parent}
 use Rattle.pv_laws_trees.specs.Tree.{IsSoundTree}
-use Rattle.pv_laws_trees.proofs.Entries.{by_name, tied_itself, tied-same, find-names_node, names_node-find, find_after}
+use Rattle.pv_laws_trees.proofs.DirectoryEntries.{by_name, tied_itself, tied-same, find-names_node, names_node-find, find_after}
 
 -- whether an entry of the node at a number names n
 abbrev pub names_at : ℕ → Numbered Node → ℕ → Bool

@@ -2,8 +2,8 @@
 use Rattle.std.specs.Prelude.{◌≡◌, ◌↔◌, Err}
 use Rattle.pv_model.specs.declared.fault.ImageFault.{ImageFault}
 use Rattle.pv_model.specs.Machine.{Bytes, mounted}
-use Rattle.pv_model.specs.Mount.{IsFaultOf}
+use Rattle.pv_model.specs.Mount.{IsErrorOf}
 
 -- `mounted` gives an error if and only if it is the first
-abbrev pub FirstFaultIsNamed : Type 0
-FirstFaultIsNamed = (bytes : Bytes) (fault : ImageFault) → (mounted bytes ≡ Err fault) ↔ IsFaultOf bytes fault
+abbrev pub FirstErrorIsNamed : Type 0
+FirstErrorIsNamed = (bytes : Bytes) (fault : ImageFault) → (mounted bytes ≡ Err fault) ↔ IsErrorOf bytes fault

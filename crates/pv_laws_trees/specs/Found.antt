@@ -3,14 +3,14 @@ use Rattle.std.specs.Prelude.{◌≡◌, ℕ, Option}
 use Rattle.pv_model.specs.Machine.{Bytes}
 
 -- two maps are equal
-abbrev pub Alike : (ℕ → Bytes → Option ℕ) → (ℕ → Bytes → Option ℕ) → Type 0
-Alike map other = (d : ℕ) (n : Bytes) → other d n ≡ map d n
+abbrev pub AreEqualLookups : (ℕ → Bytes → Option ℕ) → (ℕ → Bytes → Option ℕ) → Type 0
+AreEqualLookups map other = (d : ℕ) (n : Bytes) → other d n ≡ map d n
 
 -- two maps are equal except perhaps at one name of one directory
-abbrev pub AlikeBut : ℕ → Bytes → (ℕ → Bytes → Option ℕ) → (ℕ → Bytes → Option ℕ) → Type 0
-AlikeBut directory name map other = (d : ℕ) (n : Bytes) → ((d ≡ directory) × (n ≡ name) → ⊥) → other d n ≡ map d n
+abbrev pub AreEqualExceptAt : ℕ → Bytes → (ℕ → Bytes → Option ℕ) → (ℕ → Bytes → Option ℕ) → Type 0
+AreEqualExceptAt directory name map other = (d : ℕ) (n : Bytes) → ((d ≡ directory) × (n ≡ name) → ⊥) → other d n ≡ map d n
 
 -- two maps are equal except perhaps at two names: an intermediate map differs from the first only at one name, and from
 -- the second only at the other
-abbrev pub AlikeButTwo : ℕ → Bytes → ℕ → Bytes → (ℕ → Bytes → Option ℕ) → (ℕ → Bytes → Option ℕ) → Type 0
-AlikeButTwo from name to new map other = (between : ℕ → Bytes → Option ℕ) × AlikeBut from name map between × AlikeBut to new between other
+abbrev pub AreEqualExceptAtTwo : ℕ → Bytes → ℕ → Bytes → (ℕ → Bytes → Option ℕ) → (ℕ → Bytes → Option ℕ) → Type 0
+AreEqualExceptAtTwo from name to new map other = (between : ℕ → Bytes → Option ℕ) × AreEqualExceptAt from name map between × AreEqualExceptAt to new between other

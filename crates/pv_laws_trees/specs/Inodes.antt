@@ -15,8 +15,8 @@ pub record IsFineInode (v : Version) (k s : ℕ) : Type 0 where
   pub text : k ≡ 4 → (1 ≤ s) × (s ≤ LINK_TEXT)
 
 -- whether two lists have an element in common
-abbrev pub in_both : List ℕ → List ℕ → Bool
-in_both xs ys = list_any (λ k. list_any (λ other. other == k) xs) ys
+abbrev pub have_common_element : List ℕ → List ℕ → Bool
+have_common_element xs ys = list_any (λ k. list_any (λ other. other == k) xs) ys
 
 -- the number of a data block
 abbrev pub IsData : Version → Bytes → ℕ → Type 0
@@ -26,7 +26,7 @@ IsData v bytes k = (inode_blocks v (inode_number bytes) < k) × (k < block_numbe
 pub record AreFineBlocks (v : Version) (bytes : Bytes) (n : ℕ) : Type 0 where
   pub in_data : AllByRecursion (IsData v bytes) (used_by v bytes n)
   pub once : IsFalse (appears_twice ◌==◌ (used_by v bytes n))
-  pub apart : IsFalse (in_both (used_before v bytes n) (used_by v bytes n))
+  pub apart : IsFalse (have_common_element (used_before v bytes n) (used_by v bytes n))
 
 -- a slot has the number of an inode in use, and a valid name
 pub record IsFineSlot (v : Version) (bytes slot : Bytes) : Type 0 where

@@ -14,8 +14,8 @@ new_node Executable = file_node true []
 new_node (Symlink text) = link_node text.now
 
 -- the kind of a new node
-abbrev pub sort_of : NewNode → Kind
-sort_of Directory = KindDirectory
-sort_of File = KindFile
-sort_of Executable = KindExecutable
-sort_of (Symlink text) = KindSymlink
+abbrev pub kind_of_new : NewNode → Kind
+kind_of_new Directory = KindDirectory
+kind_of_new File = KindFile
+kind_of_new Executable = KindExecutable
+kind_of_new (Symlink text) = KindSymlink

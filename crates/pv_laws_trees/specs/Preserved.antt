@@ -16,7 +16,7 @@ abbrev pub preserved : Tree → List ℕ → Tree
 preserved t held = only_nodes t (numbers_wanted t held)
 
 -- references can be released one at a time
-abbrev pub LetsGoInTurn : Type 0
-LetsGoInTurn =
+abbrev pub ReleasesOneByOne : Type 0
+ReleasesOneByOne =
     (t : Tree) (many few : List ℕ) → IsWellFormed t → ((n : ℕ) → IsTrue (among few n) → IsTrue (among many n))
     → preserved (preserved t many) few ≡ preserved t few

@@ -9,9 +9,9 @@ held_from k (zero ∷ holds) = held_from (suc k) holds
 held_from k (suc times ∷ holds) = k ∷ held_from (suc k) holds
 
 -- the numbers with references
-unfoldable pub held_numbers : List ℕ → List ℕ
-held_numbers holds = held_from 0 holds
+unfoldable pub referenced_numbers : List ℕ → List ℕ
+referenced_numbers holds = held_from 0 holds
 
 -- the tree restricted to the root, the named nodes and those with references
 abbrev pub collected : Tree → List ℕ → Tree
-collected t holds = preserved t (held_numbers holds)
+collected t holds = preserved t (referenced_numbers holds)

@@ -42,8 +42,8 @@ abbrev pub ParentsLeadToRoot : Type 0
 ParentsLeadToRoot = (t : Tree) → IsWellFormed t → (d : ℕ) → Appears t d → IsTrue (list_any (λ e. e == root) (ancestors t d))
 
 -- a directory is not below itself
-abbrev pub NoneAboveItself : Type 0
-NoneAboveItself =
+abbrev pub NoDirectoryAboveItself : Type 0
+NoDirectoryAboveItself =
     (t : Tree) → IsWellFormed t → (d above : ℕ) → Appears t d → d ≢ root → parent t d ≡ Some above → IsFalse (contains_directory t d above)
 
 -- climbing finds exactly the directory itself and its ancestors

@@ -126,11 +126,11 @@ walked_node (Some (file_node executable bytes)) = a_file
 walked_node (Some (link_node text)) = a_link text
 
 -- two trees with the same entries, the same kinds of nodes and the same links
-pub record LooksAlike (t u : Tree) : Type 0 where
+pub record LooksTheSame (t u : Tree) : Type 0 where
   pub version : u.version ≡ t.version
   pub entries : (d : ℕ) → entries_at u d ≡ entries_at t d
   pub nodes : (n : ℕ) → walked_node (node_at u n) ≡ walked_node (node_at t n)
 
 -- a walk reads nothing else; in particular, it does not read the bytes of files
-abbrev pub WalksAlike : Type 0
-WalksAlike = (t u : Tree) → LooksAlike t u → (follow : Follow) (start : ℕ) (path : Bytes) → resolve u follow start path ≡ resolve t follow start path
+abbrev pub WalksAreEqual : Type 0
+WalksAreEqual = (t u : Tree) → LooksTheSame t u → (follow : Follow) (start : ℕ) (path : Bytes) → resolve u follow start path ≡ resolve t follow start path

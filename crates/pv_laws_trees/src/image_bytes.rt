@@ -1,7 +1,7 @@
-//! Laws of images: what is read from the bytes of an image agrees with the relations of the format, and bytes mount if
-//! and only if they are an image of a tree.
+//! Laws of images: the values that are read from the bytes of an image agree with the relations of the format, and
+//! bytes mount if and only if they are an image of a tree.
 
-ghost use Rattle.pv_laws_trees.specs.Faults.{FirstFaultIsNamed};
+ghost use Rattle.pv_laws_trees.specs.Faults.{FirstErrorIsNamed};
 ghost use Rattle.pv_laws_trees.specs.Inodes.{InodesAreTested, BlocksAreTested, ContentsAreTested, PlacesAreTested, NamesAreSlots, ReachedInFewSteps};
 ghost use Rattle.pv_laws_trees.specs.Slots.{SlotsAreRead};
 ghost use Rattle.pv_laws_trees.specs.Starts.{StartsIfInitParses};
@@ -16,7 +16,7 @@ pub fn slots_are_read_as_written()
 /// The error for bytes that are not an image is their first one, in the format's order of errors and with the least
 /// inode number.
 pub fn first_fault_is_named()
-    ensures { FirstFaultIsNamed }
+    ensures { FirstErrorIsNamed }
 {}
 
 /// A machine starts on a tree if and only if `init` is absent or is an executable file that parses as a program, and it

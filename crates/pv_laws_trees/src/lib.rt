@@ -5,7 +5,7 @@
 //! public.
 //!
 //! - `tree`: well-formed trees, parents, and the changes that keep a tree well-formed. `walk`: the walk along a path as
-//!   a relation, what a place is, and what a walk reads.
+//!   a relation, the valid places, and the part of the tree that a walk reads.
 //! - `preserved`: the nodes that remain after unreferenced nodes are collected. `room`: which trees fit in an image.
 //! - `image_bytes`: the bytes of an image and the tree that they hold.
 #![tactic(auto)]

@@ -1,6 +1,6 @@
 //! Laws of trees.
 
-ghost use Rattle.pv_laws_trees.specs.Tree.{SoundIsWellFormed, ParentHasEntry, NamesTie, ParentsLeadToRoot, NoneAboveItself, AncestorsAreAbove, StaysWithContent, StaysWithNewNode, StaysWithEntry, StaysWithoutEntry, StaysRenamed};
+ghost use Rattle.pv_laws_trees.specs.Tree.{SoundIsWellFormed, ParentHasEntry, NamesTie, ParentsLeadToRoot, NoDirectoryAboveItself, AncestorsAreAbove, StaysWithContent, StaysWithNewNode, StaysWithEntry, StaysWithoutEntry, StaysRenamed};
 
 /// A tree is well-formed if and only if it satisfies the conditions on its individual entries.
 pub fn well_formed_by_entries()
@@ -24,7 +24,7 @@ pub fn parents_lead_to_root()
 
 /// No directory is its own ancestor.
 pub fn none_above_itself()
-    ensures { NoneAboveItself }
+    ensures { NoDirectoryAboveItself }
 {}
 
 /// The nodes found by climbing from a node are exactly the node itself, its parent, the parent's parent, and so on.

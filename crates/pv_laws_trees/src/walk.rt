@@ -1,6 +1,6 @@
 //! Laws of the walk along a path, symlink(7).
 
-ghost use Rattle.pv_laws_trees.specs.Walk.{ResolvesAsWalked, WalksOnce, SlashesAreRoot, LeadsToPlace, WalksAlike};
+ghost use Rattle.pv_laws_trees.specs.Walk.{ResolvesAsWalked, WalksOnce, SlashesAreRoot, LeadsToPlace, WalksAreEqual};
 
 /// `resolve` computes the result that the cases of the walk define.
 pub fn resolves_as_walked()
@@ -25,5 +25,5 @@ pub fn leads_to_place()
 
 /// A walk reads the entries of directories, the kinds of nodes and the texts of links, and nothing else.
 pub fn walks_alike()
-    ensures { WalksAlike }
+    ensures { WalksAreEqual }
 {}

@@ -4,7 +4,7 @@ use Rattle.std.specs.Prelude.{IsTrue, IsPermutation, is_some}
 use Rattle.std.specs.List.{IsDistinct}
 use Rattle.pv_model.specs.declared.version.Version.TheVariants.{V1}
 use Rattle.pv_model.specs.Machine.{Bytes, AreSlots, Holds, HoldsAny, content, used_blocks, IsImageOf, IsWrittenImageOf, machine_on_literals, directory_node, file_node, root, node_at, entries_at, is_directory_at, is_node, names_of, parent, IsReached, from_root, by_entry, IsWellFormed}
-use Rattle.pv_model.specs.Image.{IsSlot, no_slot, one_more}
+use Rattle.pv_model.specs.Image.{IsSlot, no_slot, another_slot}
 use Rattle.pv_laws_worked.specs.Images.{slot_bytes, example_program, example, example_tree}
 use Rattle.pv_laws_worked.proofs.ConcreteTrees.{below, each, each_entry, each_directory, some_is_none, cons_is_nil}
 
@@ -48,8 +48,8 @@ slot_3 = record { number = 3 ∷ 0 ∷ []; unread = 0; left = replicate 56 0; is
 
 root_slots : AreSlots V1 (content V1 example 1) ((codes "init", 4) ∷ (codes "etc", 2) ∷ [])
 root_slots =
-    one_more (slot_bytes 4 (codes "init")) (slot_bytes 2 (codes "etc") ++ []) (codes "init") 4 ((codes "etc", 2) ∷ []) slot_1
-    (one_more (slot_bytes 2 (codes "etc")) [] (codes "etc") 2 [] slot_2 no_slot)
+    another_slot (slot_bytes 4 (codes "init")) (slot_bytes 2 (codes "etc") ++ []) (codes "init") 4 ((codes "etc", 2) ∷ []) slot_1
+    (another_slot (slot_bytes 2 (codes "etc")) [] (codes "etc") 2 [] slot_2 no_slot)
 
 exchanged : IsPermutation {X = Bytes × ℕ} ((codes "init", 4) ∷ (codes "etc", 2) ∷ []) ((codes "etc", 2) ∷ (codes "init", 4) ∷ [])
 exchanged =
@@ -63,7 +63,7 @@ root_held =
     record { kind = refl; length_stored = refl; length_allowed = allowed; count = refl; has_content = (((codes "init", 4) ∷ (codes "etc", 2) ∷ []), root_slots, exchanged) }
 
 etc_slots : AreSlots V1 (content V1 example 2) ((codes "motd", 3) ∷ [])
-etc_slots = one_more (slot_bytes 3 (codes "motd")) [] (codes "motd") 3 [] slot_3 no_slot
+etc_slots = another_slot (slot_bytes 3 (codes "motd")) [] (codes "motd") 3 [] slot_3 no_slot
 
 etc_held : Holds V1 example example_tree 2 (directory_node ((codes "motd", 3) ∷ []))
 etc_held =

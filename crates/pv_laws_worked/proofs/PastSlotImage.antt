@@ -4,7 +4,7 @@ use Rattle.std.specs.Prelude.{IsTrue}
 use Rattle.pv_model.specs.declared.version.Version.{Version}
 use Rattle.pv_model.specs.declared.version.Version.TheVariants.{V1, V2}
 use Rattle.pv_model.specs.Machine.{Bytes, magic, content, AreSlots, HoldsAny, IsImageOf, Entries, Node, directory_node, file_node, link_node, Tree, node_at, is_directory}
-use Rattle.pv_model.specs.Image.{no_slot, one_more}
+use Rattle.pv_model.specs.Image.{no_slot, another_slot}
 use Rattle.pv_laws_worked.specs.Images.{past_slot}
 
 -- the length stated in a slot fits in the slot
@@ -18,7 +18,7 @@ measured (a ∷ b ∷ c ∷ number) name left rest unread two = absurd (omega ar
 -- the length stated in the first of several slots is that of its name
 first_length : (bytes : Bytes) (es : Entries) → AreSlots V1 bytes es → 0 < length bytes → slice_index bytes 2 ≤ 60
 first_length _ _ no_slot some = absurd (omega arith)
-first_length _ _ (one_more slot rest name n others is more) some =
+first_length _ _ (another_slot slot rest name n others is more) some =
     let parts = measured is.number name is.left rest is.unread is.two_bytes in
     let reported : slice_index (slot ++ rest) 2 ≡ length name = ap (λ (bs : Bytes). slice_index (bs ++ rest) 2) is.is_encoded ∙ parts.0 in
     let long : 64 ≡ 4 + (length name + length is.left) = sym is.is_whole ∙ ap length is.is_encoded ∙ parts.1 in

@@ -67,7 +67,7 @@ pub record AllCompared : Type 0 where
   pub programs_are_files : Stated Compared.programs_are_files
   pub not_all_pairs : Stated Compared.not_all_pairs
   pub an_empty_pledge : Stated Compared.an_empty_pledge
-  pub an_image_beside_itself : Stated Compared.an_image_beside_itself
+  pub an_image_and_itself : Stated Compared.an_image_and_itself
 
 pub record AllErrors : Type 0 where
   pub of_pledge : Stated Errors.of_pledge
@@ -222,9 +222,9 @@ pub record AllOpenat : Type 0 where
   pub openat_removed : Stated Openat.openat_removed
 
 pub record AllPolicies : Type 0 where
-  pub letters_that_are_new : Stated Policies.letters_that_are_new
+  pub permissions_that_are_new : Stated Policies.permissions_that_are_new
   pub either_of_two : Stated Policies.either_of_two
-  pub either_beside_wpath : Stated Policies.either_beside_wpath
+  pub either_with_wpath : Stated Policies.either_with_wpath
   pub rpath_itself : Stated Policies.rpath_itself
   pub idle_promises : Stated Policies.idle_promises
   pub idle_permissions : Stated Policies.idle_permissions
@@ -278,10 +278,10 @@ pub record AllSources : Type 0 where
   pub nothing_that_counts : Stated Sources.nothing_that_counts
   pub sizes_come_first : Stated Sources.sizes_come_first
   pub each_line_is_judged : Stated Sources.each_line_is_judged
-  pub labels_at_fault : Stated Sources.labels_at_fault
-  pub faults_of_the_tree : Stated Sources.faults_of_the_tree
+  pub labels_in_error : Stated Sources.labels_in_error
+  pub errors_of_the_tree : Stated Sources.errors_of_the_tree
   pub sources_with_init_as_directory : Stated Sources.sources_with_init_as_directory
-  pub exec_at_fault : Stated Sources.exec_at_fault
+  pub exec_in_error : Stated Sources.exec_in_error
   pub twenty_are_reported : Stated Sources.twenty_are_reported
   pub instructions_too_many : Stated Sources.instructions_too_many
 

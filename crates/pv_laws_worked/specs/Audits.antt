@@ -2,7 +2,7 @@
 use Rattle.std.specs.Prelude.{◌≡◌, [], ◌∷◌, codes, Some, refl}
 use Rattle.pv_model.specs.Machine.{report}
 use Rattle.pv_model.specs.Sealed.{verdict_line}
-use Rattle.pv_laws_worked.specs.Bundles.{audited_of, report_of_bundle, lines_text, bundles_on_literals}
+use Rattle.pv_laws_worked.specs.Bundles.{audited_of, report_of_bundle, text_of_lines, bundles_on_literals}
 
 -- a path without a file
 pub audit_absent : audited_of (
@@ -245,7 +245,7 @@ pub all_reasons_are_reported : report_of_bundle (
     codes "unveil null null" ∷
     codes "pledge \"stdio rpath\" null" ∷
     codes "schedule" ∷
-    codes "1 3" ∷ []) ≡ Some (lines_text (
+    codes "1 3" ∷ []) ≡ Some (text_of_lines (
     codes "\"/init\" sealed and frozen" ∷
     codes "\"/pub/motd\" exposed: process 1, entry 0 gives" ∷
     codes "\"/pub/two\" exposed: process 1, entry 0 gives" ∷

@@ -7,7 +7,7 @@ use Rattle.pv_model.specs.declared.verdict.AuditFault.TheVariants.{Walk, NotFile
 use Rattle.pv_model.specs.declared.verdict.Verdict.{Verdict}
 use Rattle.pv_model.specs.Machine.{Bytes, errno_number, text_at, Manifest, read_manifest, read_bundle, add_entry, tree_of, with_line_end, read_program, program_of, schedule_of_lines, report, machine_on_literals, Run, Schedule, steps_of, boot, run, Word, call_word, nami_word, Line, trace_bytes, Tree}
 use Rattle.pv_model.specs.Errno.{errno_name}
-use Rattle.pv_model.specs.Grammar.Arguments.{flags_of}
+use Rattle.pv_model.specs.Grammar.Arguments.{parsed_flags}
 use Rattle.pv_model.specs.Grammar.Instructions.{instruction_by}
 use Rattle.pv_model.specs.Grammar.Manifests.{entry_by}
 use Rattle.pv_model.specs.Sealed.{audit, verdict_text}
@@ -15,15 +15,15 @@ use Rattle.pv_model.specs.Trace.{pad_right, word_name, word_text}
 
 -- the definitions to unfold in a proof by computation
 unfoldable pub bundles_on_literals : ⊤
-unfolding machine_on_literals read_manifest read_bundle entry_by add_entry read_program instruction_by text_at flags_of
+unfolding machine_on_literals read_manifest read_bundle entry_by add_entry read_program instruction_by text_at parsed_flags
 bundles_on_literals = tt
 
-abbrev pub lines_text : List Bytes → Bytes
-lines_text lines = flat_map with_line_end lines
+abbrev pub text_of_lines : List Bytes → Bytes
+text_of_lines lines = flat_map with_line_end lines
 
 -- the tree of a manifest, given its lines
 abbrev pub tree_of_lines : List Bytes → Option Tree
-tree_of_lines lines = option_and_then (λ m. result_ok (tree_of m)) (result_ok (read_manifest (lines_text lines)))
+tree_of_lines lines = option_and_then (λ m. result_ok (tree_of m)) (result_ok (read_manifest (text_of_lines lines)))
 
 abbrev pub run_on : Tree → Schedule → Option Run
 run_on t schedule = option_map (run program_of (steps_of schedule)) (boot program_of t)
@@ -34,7 +34,7 @@ run_of_parts m =
 
 -- the run of a bundle, given its lines
 abbrev pub run_of_bundle : List Bytes → Option Run
-run_of_bundle lines = option_and_then run_of_parts (result_ok (read_bundle (lines_text lines)))
+run_of_bundle lines = option_and_then run_of_parts (result_ok (read_bundle (text_of_lines lines)))
 
 -- the trace of that run
 abbrev pub trace_of_bundle : List Bytes → Option Bytes

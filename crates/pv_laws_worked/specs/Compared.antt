@@ -2,7 +2,7 @@
 use Rattle.std.specs.Prelude.{◌≡◌, ℕ, List, [], ◌∷◌, codes, Option, Some, option_map, option_and_then, refl}
 use Rattle.pv_model.specs.Machine.{comparison, answer_bytes, Bytes, program_of}
 use Rattle.pv_model.specs.Answers.Compare.{comparison_lines}
-use Rattle.pv_laws_worked.specs.Bundles.{lines_text}
+use Rattle.pv_laws_worked.specs.Bundles.{text_of_lines}
 use Rattle.pv_laws_worked.specs.Questions.{questions_on_literals, started}
 
 -- the text of `compare` for two bundles, with a limit on the number of pairs
@@ -27,7 +27,7 @@ pub an_entry_with_fewer_permissions : compare_text 1000 (
     codes "fork" ∷
     codes "open \"/f\" r" ∷
     codes "open \"/f\" rw" ∷
-    codes "schedule" ∷ []) ≡ Some (lines_text (
+    codes "schedule" ∷ []) ≡ Some (text_of_lines (
     codes "    1 BY    1 4" ∷
     codes "    0 SIDE  first" ∷
     codes "    1 CALL  open(\"/f\", rw)" ∷
@@ -57,12 +57,12 @@ pub calls_of_setup_are_not_compared : compare_text 1000 (
     codes "pledge \"stdio rpath unveil\" null" ∷
     codes "unveil \"/f\" \"r\"" ∷
     codes "open \"/f\" r" ∷
-    codes "schedule" ∷ []) ≡ Some (lines_text (
+    codes "schedule" ∷ []) ≡ Some (text_of_lines (
     codes "    0 DONE  5 pairs, complete, the same" ∷ []))
 unfolding questions_on_literals
 calls_of_setup_are_not_compared = refl
 
--- nor is such a step if one of them is refused
+-- such a step is not compared either if one of them is refused
 pub refused_calls_of_setup : compare_text 1000 (
     codes "image 16 16" ∷
     codes "exec \"/init\" 4" ∷
@@ -77,7 +77,7 @@ pub refused_calls_of_setup : compare_text 1000 (
     codes "pledge \"stdio rpath\" null" ∷
     codes "jnz r0 4" ∷
     codes "getpid" ∷
-    codes "schedule" ∷ []) ≡ Some (lines_text (
+    codes "schedule" ∷ []) ≡ Some (text_of_lines (
     codes "    0 DONE  6 pairs, complete, the same" ∷ []))
 unfolding questions_on_literals
 refused_calls_of_setup = refl
@@ -95,7 +95,7 @@ pub other_calls_are_compared : compare_text 1000 (
     codes "exec \"/init\" 2" ∷
     codes "unlink \"/f\"" ∷
     codes "exit 0" ∷
-    codes "schedule" ∷ []) ≡ Some (lines_text (
+    codes "schedule" ∷ []) ≡ Some (text_of_lines (
     codes "    1 BY    1 1" ∷
     codes "    0 SIDE  first" ∷
     codes "    1 CALL  pledge(null, null)" ∷
@@ -125,7 +125,7 @@ pub one_state_has_ended : compare_text 1000 (
     codes "set r2 1" ∷
     codes "set r3 1" ∷
     codes "getpid" ∷
-    codes "schedule" ∷ []) ≡ Some (lines_text (
+    codes "schedule" ∷ []) ≡ Some (text_of_lines (
     codes "    1 BY    1 3" ∷
     codes "    0 SIDE  first" ∷
     codes "    0 SIDE  second" ∷
@@ -153,7 +153,7 @@ pub live_in_one_state_only : compare_text 1000 (
     codes "unveil \"/\" \"r\"" ∷
     codes "exit 0" ∷
     codes "wait" ∷
-    codes "schedule" ∷ []) ≡ Some (lines_text (
+    codes "schedule" ∷ []) ≡ Some (text_of_lines (
     codes "    2 BY    1 1, 2 4" ∷
     codes "    0 SIDE  first" ∷
     codes "    2 CALL  exit(0)" ∷
@@ -178,7 +178,7 @@ pub programs_are_files : compare_text 1000 (
     codes "stat \"/p\"" ∷
     codes "exec \"/init\" 1" ∷
     codes "execve \"/p\"" ∷
-    codes "schedule" ∷ []) ≡ Some (lines_text (
+    codes "schedule" ∷ []) ≡ Some (text_of_lines (
     codes "    1 BY    1 3" ∷
     codes "    0 SIDE  first" ∷
     codes "    1 CALL  stat(\"/p\")" ∷
@@ -210,7 +210,7 @@ pub not_all_pairs : compare_text 9 (
     codes "getppid" ∷
     codes "exit 0" ∷
     codes "getpid" ∷
-    codes "schedule" ∷ []) ≡ Some (lines_text (
+    codes "schedule" ∷ []) ≡ Some (text_of_lines (
     codes "    0 DONE  9 pairs, not complete, no difference found" ∷ []))
 unfolding questions_on_literals
 not_all_pairs = refl
@@ -226,13 +226,13 @@ pub an_empty_pledge : compare_text 1000 (
     codes "exec \"/init\" 2" ∷
     codes "pledge null null" ∷
     codes "getpid" ∷
-    codes "schedule" ∷ []) ≡ Some (lines_text (
+    codes "schedule" ∷ []) ≡ Some (text_of_lines (
     codes "    0 DONE  4 pairs, complete, the same" ∷ []))
 unfolding questions_on_literals
 an_empty_pledge = refl
 
 -- an image never differs from itself
-pub an_image_beside_itself : compare_text 1000 (
+pub an_image_and_itself : compare_text 1000 (
     codes "image 8 8" ∷
     codes "exec \"/init\" 2" ∷
     codes "fork" ∷
@@ -242,7 +242,7 @@ pub an_image_beside_itself : compare_text 1000 (
     codes "exec \"/init\" 2" ∷
     codes "fork" ∷
     codes "wait" ∷
-    codes "schedule" ∷ []) ≡ Some (lines_text (
+    codes "schedule" ∷ []) ≡ Some (text_of_lines (
     codes "    0 DONE  6 pairs, complete, the same" ∷ []))
 unfolding questions_on_literals
-an_image_beside_itself = refl
+an_image_and_itself = refl

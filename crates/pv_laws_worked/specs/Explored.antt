@@ -2,7 +2,7 @@
 use Rattle.std.specs.Prelude.{◌≡◌, ℕ, Bool, false, List, [], ◌∷◌, codes, Option, Some, option_map, refl}
 use Rattle.pv_model.specs.Answers.Explore.{explore_lines}
 use Rattle.pv_model.specs.Machine.{graph_lines, answer_bytes, Bytes, program_of}
-use Rattle.pv_laws_worked.specs.Bundles.{lines_text}
+use Rattle.pv_laws_worked.specs.Bundles.{text_of_lines}
 use Rattle.pv_laws_worked.specs.Questions.{questions_on_literals, started}
 
 -- the text of `explore` for a bundle, with a limit on the number of states
@@ -37,13 +37,13 @@ waits_for_child =
     codes "1 1" ∷ []
 
 -- the second state leads back to the first, and the program never ends
-pub a_loop_has_two_states : explore_text 10 goes_round ≡ Some (lines_text (
+pub a_loop_has_two_states : explore_text 10 goes_round ≡ Some (text_of_lines (
     codes "    0 DONE  2 states, complete" ∷
     codes "    0 DONE  0 endings" ∷ []))
 unfolding questions_on_literals
 a_loop_has_two_states = refl
 
-pub a_loop_leads_back : graph_text 10 false goes_round ≡ Some (lines_text (
+pub a_loop_leads_back : graph_text 10 false goes_round ≡ Some (text_of_lines (
     codes "    0 AT    0" ∷
     codes "    1 PROC  live, parent 0, line 1 of 3" ∷
     codes "    1 NEXT  registers" ∷
@@ -69,7 +69,7 @@ unfolding questions_on_literals
 a_loop_leads_back = refl
 
 -- each text has its shortest witness, including that of a wait that blocks
-pub each_text_has_its_witness : explore_text 100 waits_for_child ≡ Some (lines_text (
+pub each_text_has_its_witness : explore_text 100 waits_for_child ≡ Some (text_of_lines (
     codes "    1 BY    1 1" ∷
     codes "    1 CALL  fork()" ∷
     codes "    1 RET   fork 2" ∷
@@ -90,7 +90,7 @@ unfolding questions_on_literals
 each_text_has_its_witness = refl
 
 -- a state beyond the limit is left out, and its steps are not made
-pub a_state_is_left_out : explore_text 3 waits_for_child ≡ Some (lines_text (
+pub a_state_is_left_out : explore_text 3 waits_for_child ≡ Some (text_of_lines (
     codes "    1 BY    1 1" ∷
     codes "    1 CALL  fork()" ∷
     codes "    1 RET   fork 2" ∷
@@ -112,7 +112,7 @@ pub two_orders_end_apart : explore_text 100 (
     codes "exit 0" ∷
     codes "mkdir \"/b\"" ∷
     codes "schedule" ∷
-    codes "1 1" ∷ []) ≡ Some (lines_text (
+    codes "1 1" ∷ []) ≡ Some (text_of_lines (
     codes "    1 BY    1 1" ∷
     codes "    1 CALL  fork()" ∷
     codes "    1 RET   fork 2" ∷

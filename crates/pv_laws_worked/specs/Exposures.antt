@@ -2,7 +2,7 @@
 use Rattle.std.specs.Prelude.{◌≡◌, ℕ, List, [], ◌∷◌, codes, Option, Some, option_map, refl}
 use Rattle.pv_model.specs.Answers.Exposure.{exposure_lines}
 use Rattle.pv_model.specs.Machine.{answer_bytes, Bytes, program_of}
-use Rattle.pv_laws_worked.specs.Bundles.{lines_text}
+use Rattle.pv_laws_worked.specs.Bundles.{text_of_lines}
 use Rattle.pv_laws_worked.specs.Questions.{questions_on_literals, started}
 
 -- the text of `exposure` for a bundle, with a limit on the number of states
@@ -20,7 +20,7 @@ pub lines_of_a_state : exposure_text 1000 (
     codes "open \"/f\" w" ∷
     codes "open \"/g\" rw" ∷
     codes "unlink \"/f\"" ∷
-    codes "schedule" ∷ []) ≡ Some (lines_text (
+    codes "schedule" ∷ []) ≡ Some (text_of_lines (
     codes "    0 PROG  1, \"/init\"" ∷
     codes "    1 BY    1 4" ∷
     codes "    1 LEAK  \"/f\", lines 1-5, reads descriptor 0" ∷
@@ -44,7 +44,7 @@ pub ranges_of_lines : exposure_text 1000 (
     codes "jmp 6" ∷
     codes "exit 2" ∷
     codes "exit 0" ∷
-    codes "schedule" ∷ []) ≡ Some (lines_text (
+    codes "schedule" ∷ []) ≡ Some (text_of_lines (
     codes "    0 PROG  1, \"/init\"" ∷
     codes "    1 BY    1 3" ∷
     codes "    1 LEAK  \"/init\", lines 1, 3-4, 6, no table" ∷
@@ -70,7 +70,7 @@ pub safe_files_are_listed : exposure_text 1000 (
     codes "unveil null null" ∷
     codes "pledge \"stdio exec\" \"stdio rpath\"" ∷
     codes "execve \"/server\"" ∷
-    codes "schedule" ∷ []) ≡ Some (lines_text (
+    codes "schedule" ∷ []) ≡ Some (text_of_lines (
     codes "    0 PROG  1, \"/init\"" ∷
     codes "    1 BY    1 3" ∷
     codes "    1 LEAK  \"/etc/key\", lines 1-4, may exec" ∷
@@ -109,7 +109,7 @@ pub safe_if_complete : exposure_text 8 (
     codes "unveil null null" ∷
     codes "pledge \"stdio exec\" \"stdio rpath\"" ∷
     codes "execve \"/server\"" ∷
-    codes "schedule" ∷ []) ≡ Some (lines_text (
+    codes "schedule" ∷ []) ≡ Some (text_of_lines (
     codes "    0 PROG  1, \"/init\"" ∷
     codes "    1 BY    1 3" ∷
     codes "    1 LEAK  \"/etc/key\", lines 1-4, may exec" ∷
@@ -141,7 +141,7 @@ pub exposures_of_reused_numbers : exposure_text 1000 (
     codes "lseek 0 0 set" ∷
     codes "read 0 4" ∷
     codes "stat \"/other\"" ∷
-    codes "schedule" ∷ []) ≡ Some (lines_text (
+    codes "schedule" ∷ []) ≡ Some (text_of_lines (
     codes "    0 PROG  1, \"/init\"" ∷
     codes "    1 BY    1 7" ∷
     codes "    1 LEAK  \"/init\", lines 1-8, no table" ∷
@@ -167,7 +167,7 @@ pub entries_above : exposure_text 1000 (
     codes "unveil null null" ∷
     codes "pledge \"stdio rpath cpath\" null" ∷
     codes "mkdir \"/s/d\"" ∷
-    codes "schedule" ∷ []) ≡ Some (lines_text (
+    codes "schedule" ∷ []) ≡ Some (text_of_lines (
     codes "    0 PROG  1, \"/init\"" ∷
     codes "    1 BY    1 3" ∷
     codes "    1 LEAK  \"/init\", lines 1-4, may exec" ∷
@@ -190,7 +190,7 @@ pub execve_without_restraints : exposure_text 1000 (
     codes "getpid" ∷
     codes "pledge null \"stdio rpath\"" ∷
     codes "getpid" ∷
-    codes "schedule" ∷ []) ≡ Some (lines_text (
+    codes "schedule" ∷ []) ≡ Some (text_of_lines (
     codes "    0 PROG  1, \"/init\"" ∷
     codes "    1 BY    1 3" ∷
     codes "    1 LEAK  \"/init\", lines 1-4, may exec" ∷
@@ -205,7 +205,7 @@ pub no_first_program : exposure_text 1000 (
     codes "image 4 4" ∷
     codes "bytes \"/note\" \"x\"" ∷
     codes "exec \"/empty\" 0" ∷
-    codes "schedule" ∷ []) ≡ Some (lines_text (
+    codes "schedule" ∷ []) ≡ Some (text_of_lines (
     codes "    0 PROG  1, \"/empty\"" ∷
     codes "    1 BY    " ∷
     codes "    1 LEAK  \"/empty\", lines 1, no table" ∷
@@ -222,7 +222,7 @@ pub one_visited_state : exposure_text 1 (
     codes "exec \"/init\" 2" ∷
     codes "stat \"/f\"" ∷
     codes "open \"/f\" r" ∷
-    codes "schedule" ∷ []) ≡ Some (lines_text (
+    codes "schedule" ∷ []) ≡ Some (text_of_lines (
     codes "    0 PROG  1, \"/init\"" ∷
     codes "    1 BY    " ∷
     codes "    1 LEAK  \"/f\", lines 1, no table" ∷
@@ -239,7 +239,7 @@ pub two_processes : exposure_text 1000 (
     codes "exec \"/init\" 2" ∷
     codes "fork" ∷
     codes "pledge \"stdio\" null" ∷
-    codes "schedule" ∷ []) ≡ Some (lines_text (
+    codes "schedule" ∷ []) ≡ Some (text_of_lines (
     codes "    0 PROG  1, \"/init\"" ∷
     codes "    1 BY    1 1" ∷
     codes "    1 LEAK  \"/f\", lines 1-2, no table" ∷

@@ -6,7 +6,7 @@ use Rattle.pv_model.specs.declared.fault.ScheduleFault.TheVariants.{Line as Turn
 use Rattle.pv_model.specs.declared.fault.What.TheVariants.{Word, Argument, Target, TooMany}
 use Rattle.pv_model.specs.declared.instruction.Instruction.TheVariants.{Put, Fork}
 use Rattle.pv_model.specs.Machine.{text_at, read_manifest, read_bundle, add_entry, add_entries, read_program, read_schedule, make, further_name, empty_tree, file_node, machine_on_literals}
-use Rattle.pv_model.specs.Grammar.Arguments.{flags_of}
+use Rattle.pv_model.specs.Grammar.Arguments.{parsed_flags}
 use Rattle.pv_model.specs.Grammar.Instructions.{instruction_by}
 use Rattle.pv_model.specs.Grammar.Manifests.{entry_by}
 
@@ -37,7 +37,7 @@ unfolding read_program instruction_by
 large_number = refl
 
 pub flags_out_of_order : read_program (codes "open \"/a\" r+trunc+append") ≡ Err (Line 1 Argument)
-unfolding read_program instruction_by text_at flags_of
+unfolding read_program instruction_by text_at parsed_flags
 flags_out_of_order = refl
 
 pub space_in_front : read_program (codes " fork\n") ≡ Err (Line 1 Word)
@@ -97,7 +97,7 @@ unfolding read_program instruction_by
 negative_zero = refl
 
 pub flag_twice : read_program (codes "open \"/a\" r+dir+dir\n") ≡ Err (Line 1 Argument)
-unfolding read_program instruction_by text_at flags_of
+unfolding read_program instruction_by text_at parsed_flags
 flag_twice = refl
 
 -- the last of 256 lines may jump to itself, but not beyond

@@ -6,13 +6,13 @@ use Rattle.pv_model.specs.declared.run_fault.RunFault.{RunFault}
 use Rattle.pv_model.specs.declared.version.Version.TheVariants.{V1}
 use Rattle.pv_model.specs.Machine.{Bytes, little_endian, used_blocks, listing, mounted, has_bad_inode, has_bad_block, has_bad_content, Started, booted, started_on, bundle_started, image_started, steps_of, program_of, Tree, directory_node, file_node}
 use Rattle.pv_model.specs.Image.{unused_bytes}
-use Rattle.pv_model.specs.Mount.{has_bad_place, inode_fault}
+use Rattle.pv_model.specs.Mount.{has_bad_place, inode_error}
 use Rattle.pv_model.specs.Step.{run_text}
-use Rattle.pv_laws_worked.specs.Bundles.{bundles_on_literals, lines_text}
+use Rattle.pv_laws_worked.specs.Bundles.{bundles_on_literals, text_of_lines}
 
 -- the definitions to unfold in a proof by computation
 unfoldable pub images_on_literals : ⊤
-unfolding bundles_on_literals bundle_started image_started started_on booted mounted inode_fault has_bad_inode has_bad_block has_bad_content has_bad_place listing
+unfolding bundles_on_literals bundle_started image_started started_on booted mounted inode_error has_bad_inode has_bad_block has_bad_content has_bad_place listing
 images_on_literals = tt
 
 -- an inode with at most one block
@@ -52,7 +52,7 @@ smallest_with_one_turn = refl
 -- ---- the image of the run that reads one file
 
 abbrev pub example_program : Bytes
-example_program = lines_text (codes "pledge \"stdio rpath\" null" ∷ codes "open \"/etc/motd\" r" ∷ codes "read r0 100" ∷ codes "close 0" ∷ codes "exit 0" ∷ [])
+example_program = text_of_lines (codes "pledge \"stdio rpath\" null" ∷ codes "open \"/etc/motd\" r" ∷ codes "read r0 100" ∷ codes "close 0" ∷ codes "exit 0" ∷ [])
 
 -- its slots are not in the order of their names
 abbrev pub example : Bytes
@@ -88,7 +88,7 @@ example_uses_blocks = refl
 pub example_unused_bytes : unused_bytes example example_tree ≡ replicate (500 + 12 * 32 + 10 * 512) 0
 example_unused_bytes = refl
 
-pub example_listing : listing example_tree ≡ lines_text (codes "d 1 2 \"/\"" ∷ codes "d 2 1 \"/etc\"" ∷ codes "f 3 5 \"/etc/motd\"" ∷ codes "x 4 72 \"/init\"" ∷ [])
+pub example_listing : listing example_tree ≡ text_of_lines (codes "d 1 2 \"/\"" ∷ codes "d 2 1 \"/etc\"" ∷ codes "f 3 5 \"/etc/motd\"" ∷ codes "x 4 72 \"/init\"" ∷ [])
 unfolding images_on_literals
 example_listing = refl
 

@@ -2,7 +2,7 @@
 use Rattle.std.specs.Prelude.{◌≡◌, ℕ, List, [], ◌∷◌, codes, Option, Some, option_map, refl}
 use Rattle.pv_model.specs.Answers.Policy.{granted_policy_lines, policy_lines}
 use Rattle.pv_model.specs.Machine.{answer_bytes, Bytes, program_of}
-use Rattle.pv_laws_worked.specs.Bundles.{lines_text}
+use Rattle.pv_laws_worked.specs.Bundles.{text_of_lines}
 use Rattle.pv_laws_worked.specs.Questions.{questions_on_literals, started}
 
 -- the text of `policy` for a bundle, with a limit on the number of states
@@ -14,7 +14,7 @@ abbrev pub granted_policy_text : ℕ → List Bytes → Option Bytes
 granted_policy_text limit lines = option_map (λ s. answer_bytes (granted_policy_lines program_of limit s.state)) (started lines)
 
 -- each line UNVL has the permissions that are new at its target, and lines for one target are together
-pub letters_that_are_new : policy_text 1000 (
+pub permissions_that_are_new : policy_text 1000 (
     codes "image 16 16" ∷
     codes "bytes \"/f\" \"f\"" ∷
     codes "bytes \"/g\" \"g\"" ∷
@@ -24,7 +24,7 @@ pub letters_that_are_new : policy_text 1000 (
     codes "open \"/f\" w" ∷
     codes "open \"/g\" rw" ∷
     codes "unlink \"/f\"" ∷
-    codes "schedule" ∷ []) ≡ Some (lines_text (
+    codes "schedule" ∷ []) ≡ Some (text_of_lines (
     codes "    0 PROG  1, \"/init\"" ∷
     codes "    1 BY    1 1" ∷
     codes "    1 PLDG  rpath, line 1" ∷
@@ -44,7 +44,7 @@ pub letters_that_are_new : policy_text 1000 (
     codes "    1 UNVL  -w--, \"/g\"" ∷
     codes "    0 DONE  7 states, complete" ∷ []))
 unfolding questions_on_literals
-letters_that_are_new = refl
+permissions_that_are_new = refl
 
 -- rpath or wpath suffices for every call that needs one of them
 pub either_of_two : policy_text 1000 (
@@ -55,7 +55,7 @@ pub either_of_two : policy_text 1000 (
     codes "stat \"/f\"" ∷
     codes "readlink \"/l\"" ∷
     codes "lstat \"/l\"" ∷
-    codes "schedule" ∷ []) ≡ Some (lines_text (
+    codes "schedule" ∷ []) ≡ Some (text_of_lines (
     codes "    0 PROG  1, \"/init\"" ∷
     codes "    1 BY    1 1" ∷
     codes "    1 PLDG  rpath|wpath, line 1" ∷
@@ -68,7 +68,7 @@ unfolding questions_on_literals
 either_of_two = refl
 
 -- wpath is listed in addition to the alternatives if a call needs it
-pub either_beside_wpath : policy_text 1000 (
+pub either_with_wpath : policy_text 1000 (
     codes "image 16 16" ∷
     codes "bytes \"/f\" \"f\"" ∷
     codes "exec \"/init\" 4" ∷
@@ -76,7 +76,7 @@ pub either_beside_wpath : policy_text 1000 (
     codes "stat \"/f\"" ∷
     codes "open \"/f\" w" ∷
     codes "close 0" ∷
-    codes "schedule" ∷ []) ≡ Some (lines_text (
+    codes "schedule" ∷ []) ≡ Some (text_of_lines (
     codes "    0 PROG  1, \"/init\"" ∷
     codes "    1 BY    1 4" ∷
     codes "    1 PLDG  stdio, line 4" ∷
@@ -90,7 +90,7 @@ pub either_beside_wpath : policy_text 1000 (
     codes "    1 UNVL  -w--, \"/f\"" ∷
     codes "    0 DONE  6 states, complete" ∷ []))
 unfolding questions_on_literals
-either_beside_wpath = refl
+either_with_wpath = refl
 
 -- rpath replaces the alternatives if a call needs it; a promise that may be an alternative is not idle
 pub rpath_itself : policy_text 1000 (
@@ -101,7 +101,7 @@ pub rpath_itself : policy_text 1000 (
     codes "stat \"/d\"" ∷
     codes "chdir \"/d\"" ∷
     codes "stat \"..\"" ∷
-    codes "schedule" ∷ []) ≡ Some (lines_text (
+    codes "schedule" ∷ []) ≡ Some (text_of_lines (
     codes "    0 PROG  1, \"/init\"" ∷
     codes "    1 BY    1 3" ∷
     codes "    1 PLDG  rpath, line 3" ∷
@@ -122,7 +122,7 @@ pub idle_promises : policy_text 1000 (
     codes "getpid" ∷
     codes "pledge \"stdio\" null" ∷
     codes "getpid" ∷
-    codes "schedule" ∷ []) ≡ Some (lines_text (
+    codes "schedule" ∷ []) ≡ Some (text_of_lines (
     codes "    0 PROG  1, \"/init\"" ∷
     codes "    1 BY    1 3" ∷
     codes "    1 PLDG  stdio, line 3" ∷
@@ -143,7 +143,7 @@ pub idle_permissions : policy_text 1000 (
     codes "open \"/f\" r" ∷
     codes "open \"/g\" r" ∷
     codes "unveil \"/f\" \"\"" ∷
-    codes "schedule" ∷ []) ≡ Some (lines_text (
+    codes "schedule" ∷ []) ≡ Some (text_of_lines (
     codes "    0 PROG  1, \"/init\"" ∷
     codes "    1 BY    1 2" ∷
     codes "    1 PLDG  stdio, line 2" ∷
@@ -170,7 +170,7 @@ pub refused_permissions_are_idle : policy_text 1000 (
     codes "open \"/f\" rw" ∷
     codes "open \"/f\" w" ∷
     codes "exit 0" ∷
-    codes "schedule" ∷ []) ≡ Some (lines_text (
+    codes "schedule" ∷ []) ≡ Some (text_of_lines (
     codes "    0 PROG  1, \"/init\"" ∷
     codes "    1 BY    1 3" ∷
     codes "    1 PLDG  rpath, line 3" ∷
@@ -196,7 +196,7 @@ pub idle_by_words : policy_text 1000 (
     codes "chdir \"/d\"" ∷
     codes "rmdir \"/d\"" ∷
     codes "getpid" ∷
-    codes "schedule" ∷ []) ≡ Some (lines_text (
+    codes "schedule" ∷ []) ≡ Some (text_of_lines (
     codes "    0 PROG  1, \"/init\"" ∷
     codes "    1 BY    1 4" ∷
     codes "    1 PLDG  stdio, line 4" ∷
@@ -230,7 +230,7 @@ pub programs_of_execve : policy_text 1000 (
     codes "unveil null null" ∷
     codes "pledge null \"stdio rpath wpath\"" ∷
     codes "execve \"/p\"" ∷
-    codes "schedule" ∷ []) ≡ Some (lines_text (
+    codes "schedule" ∷ []) ≡ Some (text_of_lines (
     codes "    0 PROG  1, \"/init\"" ∷
     codes "    1 BY    1 5" ∷
     codes "    1 PLDG  exec, line 5" ∷
@@ -264,7 +264,7 @@ pub program_without_file : policy_text 1000 (
     codes "write 0 18" ∷
     codes "close 0" ∷
     codes "execve \"/p\"" ∷
-    codes "schedule" ∷ []) ≡ Some (lines_text (
+    codes "schedule" ∷ []) ≡ Some (text_of_lines (
     codes "    0 PROG  1, \"/init\"" ∷
     codes "    1 BY    1 3" ∷
     codes "    1 PLDG  stdio, line 3" ∷
@@ -294,7 +294,7 @@ pub files_of_one_program : policy_text 1000 (
     codes "exit 0" ∷
     codes "exec \"/init\" 1" ∷
     codes "exit 0" ∷
-    codes "schedule" ∷ []) ≡ Some (lines_text (
+    codes "schedule" ∷ []) ≡ Some (text_of_lines (
     codes "    0 PROG  1, \"/a\"" ∷
     codes "    0 DONE  2 states, complete" ∷ []))
 unfolding questions_on_literals
@@ -305,12 +305,12 @@ pub programs_without_calls : policy_text 1000 (
     codes "image 8 8" ∷
     codes "exec \"/init\" 1" ∷
     codes "jmp 1" ∷
-    codes "schedule" ∷ []) ≡ Some (lines_text (
+    codes "schedule" ∷ []) ≡ Some (text_of_lines (
     codes "    0 DONE  1 states, complete" ∷ []))
 unfolding questions_on_literals
 programs_without_calls = refl
 
--- nothing is idle if the search is not complete
+-- no promise or permission is idle if the search is not complete
 pub idle_if_complete : policy_text 4 (
     codes "image 8 8" ∷
     codes "exec \"/init\" 4" ∷
@@ -318,7 +318,7 @@ pub idle_if_complete : policy_text 4 (
     codes "unveil \"/\" \"r\"" ∷
     codes "getpid" ∷
     codes "getpid" ∷
-    codes "schedule" ∷ []) ≡ Some (lines_text (
+    codes "schedule" ∷ []) ≡ Some (text_of_lines (
     codes "    0 PROG  1, \"/init\"" ∷
     codes "    1 BY    1 3" ∷
     codes "    1 PLDG  stdio, line 3" ∷
@@ -328,8 +328,8 @@ pub idle_if_complete : policy_text 4 (
 unfolding questions_on_literals
 idle_if_complete = refl
 
--- a call that a table or a promise refuses asks for nothing, and a call that fails for another reason does; what only
--- refused calls ask for is idle
+-- a call that a table or a promise refuses asks for nothing, and a call that fails for another reason does; a
+-- permission that only refused calls ask for is idle
 pub granted_calls_alone : granted_policy_text 1000 (
     codes "image 16 16" ∷
     codes "bytes \"/f\" \"f\"" ∷
@@ -341,7 +341,7 @@ pub granted_calls_alone : granted_policy_text 1000 (
     codes "open \"/g\" w" ∷
     codes "fork" ∷
     codes "close 9" ∷
-    codes "schedule" ∷ []) ≡ Some (lines_text (
+    codes "schedule" ∷ []) ≡ Some (text_of_lines (
     codes "    0 PROG  1, \"/init\"" ∷
     codes "    1 BY    1 6" ∷
     codes "    1 PLDG  stdio, line 6" ∷
@@ -365,7 +365,7 @@ pub refused_programs : granted_policy_text 1000 (
     codes "exec \"/init\" 2" ∷
     codes "pledge null \"\"" ∷
     codes "execve \"/p\"" ∷
-    codes "schedule" ∷ []) ≡ Some (lines_text (
+    codes "schedule" ∷ []) ≡ Some (text_of_lines (
     codes "    0 PROG  1, \"/init\"" ∷
     codes "    1 BY    1 2" ∷
     codes "    1 PLDG  exec, line 2" ∷

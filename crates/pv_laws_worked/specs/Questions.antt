@@ -6,7 +6,7 @@ use Rattle.pv_model.specs.Machine.{answer_bytes, reach_lines, state_lines, turns
 use Rattle.pv_model.specs.Answers.Needs.{needs_lines}
 use Rattle.pv_model.specs.Answers.OnLiterals.{answers_on_literals}
 use Rattle.pv_model.specs.Answers.Turns.{schedule_text}
-use Rattle.pv_laws_worked.specs.Bundles.{bundles_on_literals, lines_text}
+use Rattle.pv_laws_worked.specs.Bundles.{bundles_on_literals, text_of_lines}
 
 -- the definitions to unfold in a proof by computation
 unfoldable pub questions_on_literals : ⊤
@@ -15,7 +15,7 @@ questions_on_literals = tt
 
 -- the start of a bundle, given its lines
 abbrev pub started : List Bytes → Option Started
-started lines = result_ok (bundle_started (lines_text lines))
+started lines = result_ok (bundle_started (text_of_lines lines))
 
 abbrev pub state_after_schedule : Started → State
 state_after_schedule s = (run program_of (steps_of s.schedule) s.state).final
@@ -62,7 +62,7 @@ parent_and_child =
     codes "2 2" ∷ []
 
 -- the state of each process
-pub each_is_reported : state_text parent_and_child ≡ Some (lines_text (
+pub each_is_reported : state_text parent_and_child ≡ Some (text_of_lines (
     codes "    1 PROC  live, parent 0, line 10 of 10" ∷
     codes "    1 NEXT  exit(3)" ∷
     codes "    1 CWD   node 1 \"/\"" ∷
@@ -80,7 +80,7 @@ unfolding questions_on_literals
 each_is_reported = refl
 
 -- each name of the tree, and an entry whose name does not exist
-pub places_are_reached : reach_text parent_and_child ≡ Some (lines_text (
+pub places_are_reached : reach_text parent_and_child ≡ Some (text_of_lines (
     codes "    1 MAY   ---- \"/\", none" ∷
     codes "    1 MAY   r--c \"/d\", entry 0, descriptor 0 r" ∷
     codes "    1 MAY   r--c \"/d/f\", entry 0, descriptor 1 rw" ∷
@@ -100,7 +100,7 @@ pub removed_is_reached : reach_text (
     codes "unveil \".\" \"rxc\"" ∷
     codes "rmdir \"/d/e\"" ∷
     codes "schedule" ∷
-    codes "1 4" ∷ []) ≡ Some (lines_text (
+    codes "1 4" ∷ []) ≡ Some (text_of_lines (
     codes "    1 MAY   ---- \"/\", none" ∷
     codes "    1 MAY   ---- \"/d\", none" ∷
     codes "    1 MAY   ---- \"/init\", none" ∷
@@ -129,7 +129,7 @@ pub refusals_are_explained : explain_text (
     codes "execve \"/p\"" ∷
     codes "schedule" ∷
     codes "1 12" ∷
-    codes "2" ∷ []) ≡ Some (lines_text (
+    codes "2" ∷ []) ≡ Some (text_of_lines (
     codes "    1 STEP  1, line 1" ∷
     codes "    1 CALL  open(\"/d/f\", r)" ∷
     codes "    1 NAMI  \"/d/f\"" ∷
@@ -202,7 +202,7 @@ pub process_images_ask : needs_text (
     codes "mkdir \"/d\"" ∷
     codes "execve \"/p\"" ∷
     codes "schedule" ∷
-    codes "1 6" ∷ []) ≡ Some (lines_text (
+    codes "1 6" ∷ []) ≡ Some (text_of_lines (
     codes "    1 STNT  1" ∷
     codes "    1 PLDG  rpath, calls 2, last line 2" ∷
     codes "    1 PLDG  cpath, calls 1, last line 3" ∷
@@ -228,7 +228,7 @@ pub turns_are_taken : text_of_turns 2 9 (
     codes "set r1 1" ∷
     codes "set r2 2" ∷
     codes "schedule" ∷
-    codes "1" ∷ []) ≡ Some (lines_text (
+    codes "1" ∷ []) ≡ Some (text_of_lines (
     codes "1 2" ∷
     codes "2 2" ∷
     codes "2 2" ∷

@@ -2,7 +2,7 @@
 use Rattle.std.specs.Prelude.{◌≡◌, refl, [], ◌∷◌, ◌++◌, Ok, Err, codes, replicate}
 use Rattle.pv_model.specs.Machine.{read_source, words_of}
 use Rattle.pv_model.specs.Source.OnLiterals.{sources_on_literals}
-use Rattle.pv_laws_worked.specs.Bundles.{lines_text}
+use Rattle.pv_laws_worked.specs.Bundles.{text_of_lines}
 
 -- ---- lines
 
@@ -22,7 +22,7 @@ text_without_its_end = refl
 
 -- ---- the written text
 
-pub labels_are_numbers : read_source (lines_text (
+pub labels_are_numbers : read_source (text_of_lines (
     codes "# a loop" ∷
     codes "image 16 16" ∷
     [] ∷
@@ -36,7 +36,7 @@ pub labels_are_numbers : read_source (lines_text (
     codes "out:" ∷
     codes "END" ∷
     codes "schedule" ∷
-    codes "1   9" ∷ [])) ≡ Ok (lines_text (
+    codes "1   9" ∷ [])) ≡ Ok (text_of_lines (
     codes "image 16 16" ∷
     codes "exec \"/init\" 6" ∷
     codes "open \"/init\" r" ∷
@@ -51,7 +51,7 @@ unfolding sources_on_literals
 labels_are_numbers = refl
 
 -- the next K lines are copied unchanged, whether they are a program or not
-pub lines_are_taken_as_they_are : read_source (lines_text (
+pub lines_are_taken_as_they_are : read_source (text_of_lines (
     codes "image 32 32" ∷
     codes "exec \"/bin\" 4 # four" ∷
     codes "# no comment" ∷
@@ -59,7 +59,7 @@ pub lines_are_taken_as_they_are : read_source (lines_text (
     codes "again: \t" ∷
     codes "schedule" ∷
     codes "exec \"/init\" 1" ∷
-    codes "getpid" ∷ [])) ≡ Ok (lines_text (
+    codes "getpid" ∷ [])) ≡ Ok (text_of_lines (
     codes "image 32 32" ∷
     codes "exec \"/bin\" 4" ∷
     codes "# no comment" ∷
@@ -84,7 +84,7 @@ sizes_come_first = refl
 
 -- the tree is checked up to the first line of the manifest with another error; programs and the schedule are always
 -- checked
-pub each_line_is_judged : read_source (lines_text (
+pub each_line_is_judged : read_source (text_of_lines (
     codes "image 16 16" ∷
     codes "exec \"/ect/p\" <<END" ∷
     codes "frok" ∷
@@ -101,7 +101,7 @@ unfolding sources_on_literals
 each_line_is_judged = refl
 
 -- a label that is not defined, one that is defined twice, and words that are not labels
-pub labels_at_fault : read_source (lines_text (
+pub labels_in_error : read_source (text_of_lines (
     codes "image 16 16" ∷
     codes "exec \"/init\" <<END" ∷
     codes "a: jz r0 child" ∷
@@ -113,10 +113,10 @@ pub labels_at_fault : read_source (lines_text (
     codes "jz b" ∷
     codes "END" ∷ [])) ≡ Err (3 ∷ 5 ∷ 6 ∷ 7 ∷ 8 ∷ 9 ∷ [])
 unfolding sources_on_literals
-labels_at_fault = refl
+labels_in_error = refl
 
--- an entry with an error makes nothing, and lack of room is reported once
-pub faults_of_the_tree : read_source (lines_text (
+-- an entry with an error has no effect, and lack of room is reported once
+pub errors_of_the_tree : read_source (text_of_lines (
     codes "image 16 3" ∷
     codes "dir \"/a\"" ∷
     codes "dir \"/a\"" ∷
@@ -127,10 +127,10 @@ pub faults_of_the_tree : read_source (lines_text (
     codes "dir \"/e\"" ∷
     codes "dir \"/d/f\"" ∷ [])) ≡ Err (3 ∷ 4 ∷ 5 ∷ 7 ∷ 9 ∷ [])
 unfolding sources_on_literals
-faults_of_the_tree = refl
+errors_of_the_tree = refl
 
 -- `/init` must be an `exec` entry; another node at that path is made, and the checks continue
-pub sources_with_init_as_directory : read_source (lines_text (
+pub sources_with_init_as_directory : read_source (text_of_lines (
     codes "image 16 16" ∷
     codes "exec \"/p\" 0" ∷
     codes "dir \"/init\"" ∷
@@ -141,7 +141,7 @@ unfolding sources_on_literals
 sources_with_init_as_directory = refl
 
 -- an `exec` line with an error still takes its lines; if they are missing, nothing after it is reported
-pub exec_at_fault : read_source (lines_text (
+pub exec_in_error : read_source (text_of_lines (
     codes "image 16 16" ∷
     codes "exec /p <<END" ∷
     codes "frok" ∷
@@ -153,16 +153,16 @@ pub exec_at_fault : read_source (lines_text (
     codes "frok" ∷
     codes "schedule 1" ∷ [])) ≡ Err (2 ∷ 3 ∷ 5 ∷ 6 ∷ 7 ∷ 8 ∷ [])
 unfolding sources_on_literals
-exec_at_fault = refl
+exec_in_error = refl
 
 -- twenty errors are reported, in the order of their lines
-pub twenty_are_reported : read_source (codes "image 16 16\nschedule\n" ++ lines_text (replicate 30 (codes "0")))
+pub twenty_are_reported : read_source (codes "image 16 16\nschedule\n" ++ text_of_lines (replicate 30 (codes "0")))
     ≡ Err (3 ∷ 4 ∷ 5 ∷ 6 ∷ 7 ∷ 8 ∷ 9 ∷ 10 ∷ 11 ∷ 12 ∷ 13 ∷ 14 ∷ 15 ∷ 16 ∷ 17 ∷ 18 ∷ 19 ∷ 20 ∷ 21 ∷ 22 ∷ [])
 unfolding sources_on_literals
 twenty_are_reported = refl
 
 -- the 257th instruction is reported once, even if it is the `exit 0` for a label
-pub instructions_too_many : (read_source (codes "image 99 16\nexec \"/init\" <<END\n" ++ lines_text (replicate 256 (codes "fork")) ++ codes "fork\nfork\nfrok\nEND\n") ≡ Err (259 ∷ 261 ∷ []))
-    × (read_source (codes "image 99 16\nexec \"/init\" <<END\n" ++ lines_text (replicate 256 (codes "fork")) ++ codes "end:\nEND\n") ≡ Err (259 ∷ []))
+pub instructions_too_many : (read_source (codes "image 99 16\nexec \"/init\" <<END\n" ++ text_of_lines (replicate 256 (codes "fork")) ++ codes "fork\nfork\nfrok\nEND\n") ≡ Err (259 ∷ 261 ∷ []))
+    × (read_source (codes "image 99 16\nexec \"/init\" <<END\n" ++ text_of_lines (replicate 256 (codes "fork")) ++ codes "end:\nEND\n") ≡ Err (259 ∷ []))
 unfolding sources_on_literals
 instructions_too_many = (refl, refl)

@@ -6,47 +6,47 @@ use Rattle.pv_model.specs.declared.fault.ManifestFault.TheVariants.{Form, Size, 
 use Rattle.pv_model.specs.declared.run_fault.RunFault.TheVariants.{Image, Manifest, Schedule, Init}
 use Rattle.pv_model.specs.Machine.{Bytes, read_bundle, bundle_started, image_started}
 use Rattle.pv_model.specs.Start.{schedule_start}
-use Rattle.pv_laws_worked.specs.Bundles.{lines_text}
+use Rattle.pv_laws_worked.specs.Bundles.{text_of_lines}
 use Rattle.pv_laws_worked.specs.Images.{images_on_literals, started_text, example, past_slot}
 use Rattle.pv_laws_worked.specs.Mounts.{example_2}
 
 -- the form of a manifest is checked before its sizes, its schedule and its programs
-pub form_comes_first : bundle_started (lines_text (codes "image 1 1" ∷ codes "foo" ∷ codes "schedule" ∷ codes "0" ∷ [])) ≡ Err (Manifest (Form 2))
+pub form_comes_first : bundle_started (text_of_lines (codes "image 1 1" ∷ codes "foo" ∷ codes "schedule" ∷ codes "0" ∷ [])) ≡ Err (Manifest (Form 2))
 unfolding images_on_literals
 form_comes_first = refl
 
 -- the sizes are checked before the entries
-pub sizes_come_before_entries : bundle_started (lines_text (codes "image 1 1" ∷ codes "dir \"/a/b\"" ∷ codes "schedule" ∷ codes "0" ∷ [])) ≡ Err (Manifest Size)
+pub sizes_come_before_entries : bundle_started (text_of_lines (codes "image 1 1" ∷ codes "dir \"/a/b\"" ∷ codes "schedule" ∷ codes "0" ∷ [])) ≡ Err (Manifest Size)
 unfolding images_on_literals
 sizes_come_before_entries = refl
 
 -- the entries are checked before the schedule
-pub entries_come_before_schedule : bundle_started (lines_text (codes "image 8 8" ∷ codes "dir \"/a/b\"" ∷ codes "schedule" ∷ codes "0" ∷ [])) ≡ Err (Manifest (Parent 2))
+pub entries_come_before_schedule : bundle_started (text_of_lines (codes "image 8 8" ∷ codes "dir \"/a/b\"" ∷ codes "schedule" ∷ codes "0" ∷ [])) ≡ Err (Manifest (Parent 2))
 unfolding images_on_literals
 entries_come_before_schedule = refl
 
 -- the schedule is checked before the first program
-pub schedule_comes_before_init : bundle_started (lines_text (codes "image 64 64" ∷ codes "exec \"/init\" 1" ∷ codes "frok" ∷ codes "schedule" ∷ codes "1" ∷ codes "0" ∷ [])) ≡ Err (Schedule 2)
+pub schedule_comes_before_init : bundle_started (text_of_lines (codes "image 64 64" ∷ codes "exec \"/init\" 1" ∷ codes "frok" ∷ codes "schedule" ∷ codes "1" ∷ codes "0" ∷ [])) ≡ Err (Schedule 2)
 unfolding images_on_literals
 schedule_comes_before_init = refl
 
 -- the first line of `init` that is not an instruction
-pub line_of_init : bundle_started (lines_text (codes "image 64 64" ∷ codes "exec \"/init\" 3" ∷ codes "fork" ∷ codes "frok" ∷ codes "frok" ∷ codes "schedule" ∷ codes "1" ∷ [])) ≡ Err (Init 2)
+pub line_of_init : bundle_started (text_of_lines (codes "image 64 64" ∷ codes "exec \"/init\" 3" ∷ codes "fork" ∷ codes "frok" ∷ codes "frok" ∷ codes "schedule" ∷ codes "1" ∷ [])) ≡ Err (Init 2)
 unfolding images_on_literals
 line_of_init = refl
 
 -- an `init` that is a directory
-pub bundles_with_init_as_directory : bundle_started (lines_text (codes "image 64 64" ∷ codes "dir \"/init\"" ∷ codes "schedule" ∷ codes "1" ∷ [])) ≡ Err (Init 0)
+pub bundles_with_init_as_directory : bundle_started (text_of_lines (codes "image 64 64" ∷ codes "dir \"/init\"" ∷ codes "schedule" ∷ codes "1" ∷ [])) ≡ Err (Init 0)
 unfolding images_on_literals
 bundles_with_init_as_directory = refl
 
 -- an `init` that is a file but not executable
-pub init_is_not_executable : bundle_started (lines_text (codes "image 64 64" ∷ codes "bytes \"/init\" \"exit 0\"" ∷ codes "schedule" ∷ codes "1" ∷ [])) ≡ Err (Init 0)
+pub init_is_not_executable : bundle_started (text_of_lines (codes "image 64 64" ∷ codes "bytes \"/init\" \"exit 0\"" ∷ codes "schedule" ∷ codes "1" ∷ [])) ≡ Err (Init 0)
 unfolding images_on_literals
 init_is_not_executable = refl
 
 -- a program has at most 256 lines
-pub init_is_too_long : bundle_started (lines_text (codes "image 64 64" ∷ codes "exec \"/init\" 257" ∷ (replicate 257 (codes "wait") ++ codes "schedule" ∷ codes "1" ∷ []))) ≡ Err (Init 257)
+pub init_is_too_long : bundle_started (text_of_lines (codes "image 64 64" ∷ codes "exec \"/init\" 257" ∷ (replicate 257 (codes "wait") ++ codes "schedule" ∷ codes "1" ∷ []))) ≡ Err (Init 257)
 unfolding images_on_literals
 init_is_too_long = refl
 
@@ -61,7 +61,7 @@ schedule_after_image = refl
 
 -- the trace of the run on its image
 abbrev pub example_text : Bytes
-example_text = lines_text (
+example_text = text_of_lines (
     codes "    1 CALL  pledge(\"stdio rpath\", null)" ∷
     codes "    1 RET   pledge 0" ∷
     codes "    1 CALL  open(\"/etc/motd\", r)" ∷

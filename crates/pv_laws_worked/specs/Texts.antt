@@ -1,6 +1,6 @@
 -- Runs with their complete traces.
 use Rattle.std.specs.Prelude.{◌≡◌, [], ◌∷◌, codes, Some, refl}
-use Rattle.pv_laws_worked.specs.Bundles.{bundles_on_literals, lines_text, trace_of_bundle}
+use Rattle.pv_laws_worked.specs.Bundles.{bundles_on_literals, text_of_lines, trace_of_bundle}
 
 pub read_one_file : trace_of_bundle (
     codes "image 16 16" ∷
@@ -13,7 +13,7 @@ pub read_one_file : trace_of_bundle (
     codes "close 0" ∷
     codes "exit 0" ∷
     codes "schedule" ∷
-    codes "1 5" ∷ []) ≡ Some (lines_text (
+    codes "1 5" ∷ []) ≡ Some (text_of_lines (
     codes "    1 CALL  pledge(\"stdio rpath\", null)" ∷
     codes "    1 RET   pledge 0" ∷
     codes "    1 CALL  open(\"/etc/motd\", r)" ∷
@@ -52,7 +52,7 @@ pub registers_and_bytes : trace_of_bundle (
     codes "fstat 0" ∷
     codes "exit r2" ∷
     codes "schedule" ∷
-    codes "1 19" ∷ []) ≡ Some (lines_text (
+    codes "1 19" ∷ []) ≡ Some (text_of_lines (
     codes "    1 CALL  symlink(\"a\\x22b\", \"/s\")" ∷
     codes "    1 NAMI  \"/s\"" ∷
     codes "    1 RET   symlink 0" ∷

@@ -1,6 +1,6 @@
--- Lemmas of listings: Rests (texts written part by part), Children (the next name is the first of the entries after the
--- last one), Entries (the lines of a node, entry by entry), Parts (of a line).
-pub mod Children
-pub mod Entries
-pub mod Parts
-pub mod Rests
+-- Lemmas of listings: TextRemainders (texts written part by part), DirectoryNames (the next name is the first of the
+-- entries after the last one), EntryLines (the lines of a node, entry by entry), LineParts (of a line).
+pub mod DirectoryNames
+pub mod EntryLines
+pub mod LineParts
+pub mod TextRemainders

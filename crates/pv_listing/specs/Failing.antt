@@ -5,6 +5,6 @@ use Rattle.pv_listing.specs.declared.listing.ListStop.{ListStop}
 use Rattle.pv_listing.specs.declared.listing.ListStop.TheVariants.{Memory, Write}
 
 -- a failed write is counted as a failure, and lack of memory is not
-abbrev pub FailsBy : ListStop → ℕ → ℕ → Type 0
-FailsBy Memory before after = after ≡ before
-FailsBy Write before after = Rose before after
+abbrev pub ListingFailsBy : ListStop → ℕ → ℕ → Type 0
+ListingFailsBy Memory before after = after ≡ before
+ListingFailsBy Write before after = Rose before after

@@ -53,7 +53,7 @@ fn add_number(front: &mut Front, number: u32)
 
 // Returns the part of a node's line before the path: its kind, its number, its size as stat(2) reports it, and the
 // opening quotation mark of the path.
-#[tactic(auto, using(crate::proofs::Parts::front_is))]
+#[tactic(auto, using(crate::proofs::LineParts::front_is))]
 fn front_of(tree: &Tree, node: u16) -> Front
     requires { IsSome (node_at tree.now.tree node) }
     ensures { result.items ≡ node_front node (node_at tree.now.tree node) ++ codes "\"" }

@@ -3,7 +3,7 @@ ghost use Rattle.std.specs.Prelude.{◌≡◌, ◌≤◌, drop, take, vec_len, I
 ghost use Rattle.pv_model.specs.Machine.{listing, entries_at, is_directory_at, IsWellFormed};
 ghost use Rattle.pv_model.specs.Listing.{lines_of_all, lines_within};
 ghost use Rattle.pv_streams.specs.Sinks.{WritesOr};
-ghost use Rattle.pv_listing.specs.Failing.{FailsBy};
+ghost use Rattle.pv_listing.specs.Failing.{ListingFailsBy};
 ghost use Rattle.pv_listing.specs.Lines.{IsNextChild, last_name};
 ghost use Rattle.pv_listing.specs.declared.listing.ListStop.TheVariants.{Memory, Write};
 
@@ -82,7 +82,7 @@ fn write_within<R: Remarks, W: Sink>(
     node: u16,
 ) -> Result<(), ListStop>
     requires { IsWellFormed tree.now.tree }
-    ensures written { WritesOr W.Sink FailsBy (lines_within tree.now.tree (R.line remarks.now) depth path.old.items node) out.old out.new result }
+    ensures written { WritesOr W.Sink ListingFailsBy (lines_within tree.now.tree (R.line remarks.now) depth path.old.items node) out.old out.new result }
     ensures path { OnOk result (path.new.items ≡ path.old.items) }
 {
     if depth == 0 {
@@ -116,7 +116,7 @@ pub fn write_lines<R: Remarks, W: Sink>(
     remarks: &R,
     out: &mut W,
 ) -> Result<(), ListStop>
-    ensures { WritesOr W.Sink FailsBy (lines_of_all tree.now.tree (R.line remarks.now)) out.old out.new result }
+    ensures { WritesOr W.Sink ListingFailsBy (lines_of_all tree.now.tree (R.line remarks.now)) out.old out.new result }
 {
     let mut path = Vec::new(alloc);
     let depth = tree.sizes().inodes + 1;
@@ -135,7 +135,7 @@ pub fn write_lines<R: Remarks, W: Sink>(
 /// a prefix of the listing.
 #[tactic(auto, unfolding(pv_model::specs::Listing::listing))]
 pub fn write_listing<W: Sink>(alloc: Global, tree: &Tree, out: &mut W) -> Result<(), ListStop>
-    ensures { WritesOr W.Sink FailsBy (listing tree.now.tree) out.old out.new result }
+    ensures { WritesOr W.Sink ListingFailsBy (listing tree.now.tree) out.old out.new result }
 {
     write_lines(alloc, tree, &NodeLines { tree }, out)
 }

@@ -35,7 +35,7 @@ fn quoted(byte: u8) -> ArrayVec<u8, QUOTED>
 /// # Errors
 ///
 /// Returns `Failed` if a write fails. The sink then has received a prefix of the text.
-#[tactic(auto, using(crate::proofs::Rests::rest_all, crate::proofs::Rests::written_text))]
+#[tactic(auto, using(crate::proofs::TextRemainders::rest_all, crate::proofs::TextRemainders::written_text))]
 pub fn write_bytes<W: Sink>(out: &mut W, text: &[u8]) -> Result<(), Failed>
     ensures { Writes W.Sink (flat_map quote_byte text.now) out.old out.new result }
 {
@@ -68,7 +68,7 @@ fn listed_path(path: &[u8]) -> &[u8]
 /// # Errors
 ///
 /// Returns `Failed` if a write fails. The sink then has received a prefix of the output.
-#[tactic(auto, using(pv_streams::proofs::Reporting::written_both, pv_streams::proofs::Reporting::begins_first, pv_streams::proofs::Reporting::begins_then))]
+#[tactic(auto, using(pv_streams::proofs::OutputTexts::written_both, pv_streams::proofs::OutputTexts::begins_first, pv_streams::proofs::OutputTexts::begins_then))]
 pub(crate) fn write_between<W: Sink>(
     out: &mut W,
     before: &[u8],

@@ -8,7 +8,7 @@ use pv_model::{Leak, Verdict, Why};
 use pv_streams::{Failed, Sink, write_whole};
 use pv_trace::{LineBuffer, put, put_decimal};
 
-// Appends the number of a table entry and what the entry does.
+// Appends the number of a table entry and its effect.
 fn put_entry(out: &mut LineBuffer, number: u8, does: &[u8])
     requires { length out.old.items + 46 + length does.now ≤ LINE_BUFFER }
     ensures text { out.new.items ≡ out.old.items ++ (codes "entry " ++ decimal number ++ does.now) }

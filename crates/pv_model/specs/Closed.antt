@@ -51,13 +51,13 @@ module _ (s : State) (p : Process) (f : ℕ) where
       × Governs s.tree table e k × IsTrue (permissions_at table k).c
 
   -- the promises prevent the process from opening, executing, moving and linking anything
-  pub record IsPledgedShut : Type 0 where
+  pub record IsClosedByPledge : Type 0 where
     pub no_rpath : Lacks p Rpath
     pub no_exec : Lacks p ExecPromise
     pub no_cpath : Lacks p Cpath
 
   -- the table prevents the process from opening, executing, moving or linking the file, and cannot be replaced
-  pub record IsUnveiledShut (table : Table) : Type 0 where
+  pub record IsClosedByTable (table : Table) : Type 0 where
     pub in_force : p.table ≡ Some table
     pub locked : IsTrue p.locked
     pub names : (k : ℕ) → ¬ GivesName table opens_or_moves k
@@ -67,15 +67,15 @@ module _ (s : State) (p : Process) (f : ℕ) where
   -- the process does not read the file and never will
   pub record IsClosed : Type 0 where
     pub descriptors : (d : ℕ) → ¬ HasOn reads d
-    pub restraints : IsPledgedShut ⊎ ((table : Table) × IsUnveiledShut table)
+    pub restraints : IsClosedByPledge ⊎ ((table : Table) × IsClosedByTable table)
 
   -- the promises prevent the process from opening anything for writing
-  pub record IsPledgedFrom : Type 0 where
+  pub record IsFixedByPledge : Type 0 where
     pub no_wpath : Lacks p Wpath
     pub no_exec : Lacks p ExecPromise
 
   -- the table prevents the process from opening the file for writing, and cannot be replaced
-  pub record IsUnveiledFrom (table : Table) : Type 0 where
+  pub record IsFixedByTable (table : Table) : Type 0 where
     pub in_force : p.table ≡ Some table
     pub locked : IsTrue p.locked
     pub names : (k : ℕ) → ¬ GivesName table (λ permissions. permissions.w) k
@@ -84,16 +84,16 @@ module _ (s : State) (p : Process) (f : ℕ) where
   -- a process that is closed to the file does not write it either and never will
   pub record IsFrozenTo : Type 0 where
     pub descriptors : (d : ℕ) → ¬ HasOn writes d
-    pub restraints : IsPledgedFrom ⊎ ((table : Table) × IsUnveiledFrom table)
+    pub restraints : IsFixedByPledge ⊎ ((table : Table) × IsFixedByTable table)
 
   -- a reason why a process is not closed to the file
   pub data IsReason : Why → Type 0 where
     by_reading : (d : ℕ) → HasOn reads d → IsReason (Reads d)
-    by_no_table : ¬ IsPledgedShut → p.table ≡ None → IsReason NoTable
-    by_no_lock : (table : Table) → ¬ IsPledgedShut → p.table ≡ Some table → IsFalse p.locked → IsReason NotLocked
-    by_name : (table : Table) (k : ℕ) → ¬ IsPledgedShut → p.table ≡ Some table → GivesName table opens_or_moves k → IsReason (Gives k)
-    by_directory : (table : Table) (k : ℕ) → ¬ IsPledgedShut → p.table ≡ Some table → GivesAbove table k → IsReason (Above k)
-    by_exec : (table : Table) → ¬ IsPledgedShut → p.table ≡ Some table → ¬ IsHeldOverExec p → IsReason Exec
+    by_no_table : ¬ IsClosedByPledge → p.table ≡ None → IsReason NoTable
+    by_no_lock : (table : Table) → ¬ IsClosedByPledge → p.table ≡ Some table → IsFalse p.locked → IsReason NotLocked
+    by_name : (table : Table) (k : ℕ) → ¬ IsClosedByPledge → p.table ≡ Some table → GivesName table opens_or_moves k → IsReason (Gives k)
+    by_directory : (table : Table) (k : ℕ) → ¬ IsClosedByPledge → p.table ≡ Some table → GivesAbove table k → IsReason (Above k)
+    by_exec : (table : Table) → ¬ IsClosedByPledge → p.table ≡ Some table → ¬ IsHeldOverExec p → IsReason Exec
 
 -- reasons are ordered by kind, and then by descriptor or entry
 abbrev pub sort_of : Why → ℕ
@@ -104,11 +104,11 @@ sort_of (Gives k) = 3
 sort_of (Above k) = 4
 sort_of Exec = 5
 
-abbrev pub number_of : Why → ℕ
-number_of (Reads d) = d
-number_of (Gives k) = k
-number_of (Above k) = k
-number_of why = 0
+abbrev pub why_number : Why → ℕ
+why_number (Reads d) = d
+why_number (Gives k) = k
+why_number (Above k) = k
+why_number why = 0
 
 abbrev pub IsNoLater : Why → Why → Type 0
-IsNoLater a b = (sort_of a < sort_of b) ⊎ ((sort_of a ≡ sort_of b) × (number_of a ≤ number_of b))
+IsNoLater a b = (sort_of a < sort_of b) ⊎ ((sort_of a ≡ sort_of b) × (why_number a ≤ why_number b))

@@ -1,13 +1,13 @@
 -- The common names of the machine: each is defined in the module that its line names.
 pub use Rattle.pv_model.specs.Answer.{Answered, answer_by_attempt, answer_of, answer_where, at_next_line, update, update_live, with_front}
 unfoldable pub use Rattle.pv_model.specs.Answer.{answer, effect}
-pub use Rattle.pv_model.specs.Answers.Access.{Access, changes_name, executes, lines_of_accesses, node_of_descriptor}
+pub use Rattle.pv_model.specs.Answers.Access.{Access, changes_name, executes, node_of_descriptor}
 unfoldable pub use Rattle.pv_model.specs.Answers.Access.{accesses}
 pub use Rattle.pv_model.specs.Answers.Compare.{Comparison, FoundPair, PairMove, alike, different, differs, pair_moves}
 unfoldable pub use Rattle.pv_model.specs.Answers.Compare.{comparison}
 pub use Rattle.pv_model.specs.Answers.Explain.{permissions_lacked, settings_next}
 unfoldable pub use Rattle.pv_model.specs.Answers.Explain.{explained_step}
-pub use Rattle.pv_model.specs.Answers.Explore.{Found, Move, endings, endings_line, found_by, has_ended, is_complete, move, move_text, moves_of, new_ones, witness_text}
+pub use Rattle.pv_model.specs.Answers.Explore.{Found, Move, endings, endings_line, found_by, has_ended, is_complete, move, move_text, moves_of, elements_with_new_keys, witness_text}
 unfoldable pub use Rattle.pv_model.specs.Answers.Explore.{states_found}
 pub use Rattle.pv_model.specs.Answers.Exposure.{Located, in_ranges, is_closed_to, program_key}
 pub use Rattle.pv_model.specs.Answers.Files.{files_of_tree, is_file_at, named_files, node_brief}
@@ -75,9 +75,9 @@ pub use Rattle.pv_model.specs.Sealed.{audit_node, is_file}
 unfoldable pub use Rattle.pv_model.specs.Sealed.{leaks}
 pub use Rattle.pv_model.specs.Source.Blocks.{Block, blocks_from, single, taken}
 unfoldable pub use Rattle.pv_model.specs.Source.Blocks.{blocks_of}
-unfoldable pub use Rattle.pv_model.specs.Source.Judged.{faults_of_blocks, read_source}
+unfoldable pub use Rattle.pv_model.specs.Source.Judged.{errors_of_blocks, read_source}
 pub use Rattle.pv_model.specs.Source.Programs.{LabelledLine, instruction_text, instructions_of, invalid_lines, labelled_lines, labels_from, program_line_of, reported_if, taken_lines}
-unfoldable pub use Rattle.pv_model.specs.Source.Programs.{program_faults, program_lines}
+unfoldable pub use Rattle.pv_model.specs.Source.Programs.{program_errors, program_lines}
 pub use Rattle.pv_model.specs.Source.Words.{NumberedLine, NumberedWords, between, last_word, lines_that_count, words_from}
 unfoldable pub use Rattle.pv_model.specs.Source.Words.{words_of}
 pub use Rattle.pv_model.specs.Source.Written.{written_lines}

@@ -156,17 +156,17 @@ module _ (v : Version) (bytes : Bytes) where
   abbrev pub least_with : (ℕ → Bool) → Option ℕ
   least_with test = find test (inode_numbers bytes)
 
-  abbrev pub or_fault : (ℕ → ImageFault) → Option ℕ → Option ImageFault → Option ImageFault
-  or_fault fault (Some n) others = Some (fault n)
-  or_fault fault None others = others
+  abbrev pub or_error : (ℕ → ImageFault) → Option ℕ → Option ImageFault → Option ImageFault
+  or_error fault (Some n) others = Some (fault n)
+  or_error fault None others = others
 
   -- the first error of the inodes
-  unfoldable pub inode_fault : Option ImageFault
-  inode_fault =
-      or_fault Inode (least_with has_bad_inode)
-      (or_fault Block (least_with has_bad_block)
-      (or_fault Dir (least_with has_bad_content)
-      (or_fault NoTree (least_with has_bad_place) None)))
+  unfoldable pub inode_error : Option ImageFault
+  inode_error =
+      or_error Inode (least_with has_bad_inode)
+      (or_error Block (least_with has_bad_block)
+      (or_error Dir (least_with has_bad_content)
+      (or_error NoTree (least_with has_bad_place) None)))
 
   -- the entries in slots, sorted by name
   abbrev pub entries_in : List Bytes → Entries
@@ -196,7 +196,7 @@ module _ (v : Version) (bytes : Bytes) where
 
 abbrev pub mounted_as : Option Version → Bytes → Result Tree ImageFault
 mounted_as None bytes = Err Magic
-mounted_as (Some v) bytes = if has_sizes v bytes then or_tree v bytes (inode_fault v bytes) else Err Size
+mounted_as (Some v) bytes = if has_sizes v bytes then or_tree v bytes (inode_error v bytes) else Err Size
 
 -- the tree that the bytes of an image hold, or the first error
 unfoldable pub mounted : Bytes → Result Tree ImageFault
@@ -222,14 +222,14 @@ pub record HasSizes (bytes : Bytes) (v : Version) : Type 0 where
   pub sizes : IsTrue (has_sizes v bytes)
 
 -- the first error of the bytes
-pub data IsFaultOf (bytes : Bytes) : ImageFault → Type 0 where
-  short : length bytes < BLOCK → IsFaultOf bytes Short
-  other_magic : BLOCK ≤ length bytes → ((v : Version) → take 8 bytes ≢ magic v) → IsFaultOf bytes Magic
-  other_sizes : (v : Version) → BLOCK ≤ length bytes → take 8 bytes ≡ magic v → IsFalse (has_sizes v bytes) → IsFaultOf bytes Size
-  bad_inode : (v : Version) (n : ℕ) → HasSizes bytes v → PassesLeast bytes (has_bad_inode v bytes) n → IsFaultOf bytes (Inode n)
+pub data IsErrorOf (bytes : Bytes) : ImageFault → Type 0 where
+  short : length bytes < BLOCK → IsErrorOf bytes Short
+  other_magic : BLOCK ≤ length bytes → ((v : Version) → take 8 bytes ≢ magic v) → IsErrorOf bytes Magic
+  other_sizes : (v : Version) → BLOCK ≤ length bytes → take 8 bytes ≡ magic v → IsFalse (has_sizes v bytes) → IsErrorOf bytes Size
+  bad_inode : (v : Version) (n : ℕ) → HasSizes bytes v → PassesLeast bytes (has_bad_inode v bytes) n → IsErrorOf bytes (Inode n)
   bad_block : (v : Version) (n : ℕ) → HasSizes bytes v → PassesNone bytes (has_bad_inode v bytes) → PassesLeast bytes (has_bad_block v bytes) n
-      → IsFaultOf bytes (Block n)
+      → IsErrorOf bytes (Block n)
   bad_content : (v : Version) (n : ℕ) → HasSizes bytes v → PassesNone bytes (has_bad_inode v bytes) → PassesNone bytes (has_bad_block v bytes)
-      → PassesLeast bytes (has_bad_content v bytes) n → IsFaultOf bytes (Dir n)
+      → PassesLeast bytes (has_bad_content v bytes) n → IsErrorOf bytes (Dir n)
   bad_place : (v : Version) (n : ℕ) → HasSizes bytes v → PassesNone bytes (has_bad_inode v bytes) → PassesNone bytes (has_bad_block v bytes)
-      → PassesNone bytes (has_bad_content v bytes) → PassesLeast bytes (has_bad_place v bytes) n → IsFaultOf bytes (NoTree n)
+      → PassesNone bytes (has_bad_content v bytes) → PassesLeast bytes (has_bad_place v bytes) n → IsErrorOf bytes (NoTree n)

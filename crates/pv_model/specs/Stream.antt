@@ -7,7 +7,7 @@ use Rattle.pv_model.specs.Bytes.{Bytes}
 abbrev pub Rose : ℕ → ℕ → Type 0
 Rose before after = before < 18446744073709551615 → before < after
 
--- a read returns at most as many bytes as the buffer has room for
+-- the number of bytes that a read returns is at most the room of the buffer
 abbrev pub ReadsAtMost : Result ℕ Failed → Bytes → Type 0
 ReadsAtMost (Ok n) buffer = n ≤ length buffer
 ReadsAtMost (Err e) buffer = ⊤
@@ -22,10 +22,10 @@ CountsBytes before after (Ok n) = RoseBy n before after
 CountsBytes before after (Err e) = after ≡ before
 
 -- a read returns 0 bytes into a nonempty buffer only at the end
-abbrev pub EndsWhereEmpty : Option Bytes → Result ℕ Failed → Bytes → Type 0
-EndsWhereEmpty remaining (Ok zero) buffer = 0 < length buffer → IfSome remaining (λ rest. rest ≡ [])
-EndsWhereEmpty remaining (Ok (suc n)) buffer = ⊤
-EndsWhereEmpty remaining (Err e) buffer = ⊤
+abbrev pub EndsIfEmpty : Option Bytes → Result ℕ Failed → Bytes → Type 0
+EndsIfEmpty remaining (Ok zero) buffer = 0 < length buffer → IfSome remaining (λ rest. rest ≡ [])
+EndsIfEmpty remaining (Ok (suc n)) buffer = ⊤
+EndsIfEmpty remaining (Err e) buffer = ⊤
 
 -- a write takes at most the bytes that it is given
 abbrev pub WritesAtMost : Result ℕ Failed → Bytes → Type 0
@@ -33,10 +33,10 @@ WritesAtMost (Ok n) buffer = n ≤ length buffer
 WritesAtMost (Err e) buffer = ⊤
 
 -- exactly errors, and writes of zero bytes from a nonempty buffer, count as failures
-abbrev pub CountsNothingTaken : ℕ → ℕ → Result ℕ Failed → Bytes → Type 0
-CountsNothingTaken before after (Ok zero) buffer = 0 < length buffer → Rose before after
-CountsNothingTaken before after (Ok (suc n)) buffer = after ≡ before
-CountsNothingTaken before after (Err e) buffer = Rose before after
+abbrev pub CountsZeroWrites : ℕ → ℕ → Result ℕ Failed → Bytes → Type 0
+CountsZeroWrites before after (Ok zero) buffer = 0 < length buffer → Rose before after
+CountsZeroWrites before after (Ok (suc n)) buffer = after ≡ before
+CountsZeroWrites before after (Err e) buffer = Rose before after
 
 -- the bytes written before, followed by the first n bytes of a buffer
 abbrev pub and_front : Option Bytes → ℕ → Bytes → Option Bytes

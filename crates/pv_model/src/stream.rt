@@ -1,6 +1,6 @@
 //! Byte streams: the input and output of a run.
 ghost use Rattle.std.specs.Prelude.{◌≡◌, ℕ, List, IfOk, OnOk, OnErr, Option};
-ghost use Rattle.pv_model.specs.Stream.{Rose, and_front, front_and, ReadsAtMost, CountsBytes, EndsWhereEmpty, WritesAtMost, CountsNothingTaken};
+ghost use Rattle.pv_model.specs.Stream.{Rose, and_front, front_and, ReadsAtMost, CountsBytes, EndsIfEmpty, WritesAtMost, CountsZeroWrites};
 
 /// An error of a read or a write. The stream itself counts its failures and reports the details.
 #[derive(Clone, Copy, Debug, PartialEq, Eq)]
@@ -29,7 +29,7 @@ pub trait Source {
     fn read(&mut self, buffer: &mut [u8]) -> Result<usize, Failed>
         ensures bound { ReadsAtMost result buffer.new }
         ensures bytes { IfOk result (λ n. remaining self.old ≡ front_and n buffer.new (remaining self.new)) }
-        ensures end { EndsWhereEmpty (remaining self.new) result buffer.new }
+        ensures end { EndsIfEmpty (remaining self.new) result buffer.new }
         ensures counted { CountsBytes (given self.old) (given self.new) result }
         ensures quiet { OnOk result (failures self.new ≡ failures self.old) }
         ensures failed { OnErr result (Rose (failures self.old) (failures self.new)) };
@@ -59,7 +59,7 @@ pub trait Sink {
         ensures bound { WritesAtMost result buffer.now }
         ensures bytes { IfOk result (λ n. written self.new ≡ and_front (written self.old) n buffer.now) }
         ensures preserved { OnErr result (written self.new ≡ written self.old) }
-        ensures failed { CountsNothingTaken (failures self.old) (failures self.new) result buffer.now };
+        ensures failed { CountsZeroWrites (failures self.old) (failures self.new) result buffer.now };
 
     /// Flushes all buffered bytes.
     ///

@@ -1,4 +1,5 @@
--- More lines of `explain`: what an execve did to the restraints of its process, and what allowed each walk that was checked.
+-- More lines of `explain`: the effect of an execve on the restraints of its process, and the reason why each checked
+-- walk was allowed.
 use Rattle.std.specs.Prelude.{ℕ, ◌+◌, ◌==◌, Bool, true, false, if◌then◌else◌, List, [], ◌∷◌, ◌++◌, map, filter_map, find, take, codes, Option, None, Some, is_some, option_map, option_and_then}
 use Rattle.std.specs.Fmt.{decimal}
 use Rattle.pv_model.specs.declared.call.Call.{Call}
@@ -33,7 +34,7 @@ abbrev pub execpromises_text : Option Promises → Bytes
 execpromises_text None = codes ", no execpromises"
 execpromises_text (Some set) = codes ", execpromises " ++ promises_text set ++ codes " stay"
 
--- a table or a lock that the process had, or had not, and has, or has not
+-- whether the process had a table or a lock, and whether it has one
 abbrev pub kept_text : Bytes → Bool → Bool → Bytes
 kept_text what false has = codes ", no " ++ what
 kept_text what true true = codes ", " ++ what ++ codes " stays"
@@ -127,13 +128,13 @@ target_brief t (Name d name) = name_words t d name
 
 -- `source` gives the place where an entry was set
 module _ (source : ℕ → Bytes) where
-  abbrev pub entry_text : Perms → Option (ℕ × Perms) → Bytes
-  entry_text asked None = codes "no table"
-  entry_text asked (Some (k, has)) =
+  abbrev pub asked_entry_text : Perms → Option (ℕ × Perms) → Bytes
+  asked_entry_text asked None = codes "no table"
+  asked_entry_text asked (Some (k, has)) =
       codes "entry " ++ decimal k ++ codes " has " ++ permissions_in_places has ++ codes ", asked " ++ (permissions_in_places asked ++ source k)
 
   abbrev pub allowed_text : Tree → Allowed → Bytes
-  allowed_text t a = codes "allowed, " ++ sort_text a.of_directory ++ target_brief t a.target ++ codes ": " ++ entry_text a.asked a.entry
+  allowed_text t a = codes "allowed, " ++ sort_text a.of_directory ++ target_brief t a.target ++ codes ": " ++ asked_entry_text a.asked a.entry
 
 abbrev pub allowed_line : ℕ → Tree → (ℕ → Bytes) → Allowed → AnswerLine
 allowed_line pid t source a = answer_line pid (codes "WHY") (allowed_text source t a)
@@ -157,11 +158,11 @@ module _ (lines : Process → Call → Answered → List AnswerLine) (s : State)
   unfoldable pub lines_of_call : List AnswerLine
   lines_of_call = lines_of_process (process_at s pid)
 
--- what the step did, if it is an execve that started a program
+-- the effect of the step, if it is an execve that started a program
 abbrev pub execve_lines : State → ℕ → List AnswerLine
 execve_lines s pid = lines_of_call (execve_lines_by pid) s pid
 
--- what allowed the walks of the step
+-- the reasons why the walks of the step were allowed
 abbrev pub allowed_lines : (ℕ → Bytes) → State → ℕ → List AnswerLine
 allowed_lines source s pid = lines_of_call (allowed_lines_by s pid source) s pid
 

@@ -2,7 +2,7 @@
 use Rattle.std.specs.Prelude.{⊤, ◌≡◌, Bool, List, [], ◌∷◌, ◌++◌, codes, filter, flat_map, bytes_eq, Option, Some, option_map, refl}
 use Rattle.std.specs.Result.{result_ok}
 use Rattle.pv_model.specs.Answers.OnLiterals.{answers_on_literals}
-use Rattle.pv_model.specs.Grammar.Arguments.{flags_of}
+use Rattle.pv_model.specs.Grammar.Arguments.{parsed_flags}
 use Rattle.pv_model.specs.Grammar.Instructions.{instruction_by}
 use Rattle.pv_model.specs.Grammar.Manifests.{entry_by}
 use Rattle.pv_model.specs.Machine.{AnswerLine, answer_bytes, Bytes, Started, bundle_started, started_on, booted, read_manifest, read_bundle, add_entry, read_program, steps_of, text_at, with_line_end}
@@ -10,7 +10,7 @@ use Rattle.pv_model_questions.specs.ExplainMore.{Added, allowed_lines, execve_li
 
 -- the definitions to unfold in a proof by computation
 unfoldable pub explain_more_on_literals : ⊤
-unfolding answers_on_literals read_manifest read_bundle entry_by add_entry read_program instruction_by text_at flags_of bundle_started started_on booted lines_of_call
+unfolding answers_on_literals read_manifest read_bundle entry_by add_entry read_program instruction_by text_at parsed_flags bundle_started started_on booted lines_of_call
 explain_more_on_literals = tt
 
 abbrev pub lines_text : List Bytes → Bytes
@@ -26,12 +26,12 @@ abbrev pub why_lines : Started → List AnswerLine
 why_lines it = filter is_why (explain_adding all_added 1 [] (steps_of it.schedule) it.state)
 
 -- the WHY lines of the run of a bundle, given its lines
-abbrev pub why_text : List Bytes → Option Bytes
-why_text lines = option_map (λ it. answer_bytes (why_lines it)) (result_ok (bundle_started (lines_text lines)))
+abbrev pub why_lines_text : List Bytes → Option Bytes
+why_lines_text lines = option_map (λ it. answer_bytes (why_lines it)) (result_ok (bundle_started (lines_text lines)))
 
--- what allowed each walk: no table, the entry of the directory above, and an entry that was set in an earlier program;
--- under execpromises an execve keeps the table and the lock
-pub allowed_walks_are_explained : why_text (
+-- the reason why each walk is allowed: no table, the entry of the directory above, and an entry that was set in an
+-- earlier program; under execpromises an execve keeps the table and the lock
+pub allowed_walks_are_explained : why_lines_text (
     codes "image 64 64" ∷
     codes "dir \"/d\"" ∷
     codes "bytes \"/d/f\" \"hi\"" ∷
@@ -60,7 +60,7 @@ allowed_walks_are_explained = refl
 
 -- without execpromises an execve drops the promises, the table and the lock; a directory that is moved or removed is known
 -- by the name that it had
-pub moved_directories_are_known : why_text (
+pub moved_directories_are_known : why_lines_text (
     codes "image 64 64" ∷
     codes "dir \"/d\"" ∷
     codes "exec \"/p\" 2" ∷

@@ -1,4 +1,4 @@
--- The text of `exposure`: what an attacker gains who takes over a process, at each line of its program.
+-- The text of `exposure`: the gains of an attacker who takes over a process, at each line of its program.
 use Rattle.std.specs.Prelude.{ℕ, Bool, not, ◌||◌, ◌==◌, if◌then◌else◌, max, List, [], ◌∷◌, ◌++◌, map, flat_map, filter, fold, codes, decimal, Option, None, Some, option_map}
 use Rattle.std.specs.List.{join_by, list_all, list_any, range_with_len}
 use Rattle.pv_model.specs.declared.verdict.Why.{Why}
@@ -13,7 +13,7 @@ use Rattle.pv_model.specs.Answers.ProgramNames.{program_line}
 use Rattle.pv_model.specs.Bytes.{Bytes, is_empty}
 use Rattle.pv_model.specs.Held.{among, live_processes}
 use Rattle.pv_model.specs.Sealed.{first_leak, leaks, why_text}
-use Rattle.pv_model.specs.State.{Program, Process, State}
+use Rattle.pv_model.specs.State.{Program, State}
 use Rattle.pv_model.specs.Step.{step}
 use Rattle.pv_model.specs.Tree.{Tree}
 use Rattle.pv_model_questions.specs.declared.finding_kind.FindingKind.{FindingKind}
@@ -46,9 +46,9 @@ peer_text (pid, why) = codes ", process " ++ decimal pid ++ codes " " ++ why_tex
 abbrev pub first_leak_of : State → ℕ → Option (ℕ × Why)
 first_leak_of s f = first_leak s f (live_processes s.processes)
 
--- the file that a step reads bytes of, as `access` has it
-abbrev pub files_read : Observer ℕ
-files_read = of_calls (λ s pid p call now. nodes_read s p call now.outcome)
+-- the file whose bytes a step reads, as in `access`
+abbrev pub read_observer : Observer ℕ
+read_observer = of_calls (λ s pid p call now. nodes_read s p call now.outcome)
 
 module _ (program_of : Bytes → Option Program) (l : Located) (f : ℕ) where
   abbrev pub leak_reason : Option Bytes
@@ -62,7 +62,7 @@ module _ (program_of : Bytes → Option Program) (l : Located) (f : ℕ) where
   edit_reason = option_map (λ why. codes ", " ++ edit_text why) (first_of (edits l.found.state l.process f))
 
   abbrev pub read_reason : Option Bytes
-  read_reason = if list_any (λ n. n == f) (files_read l.found.state l.pid (step program_of l.found.state l.pid)) then Some [] else None
+  read_reason = if list_any (λ n. n == f) (read_observer l.found.state l.pid (step program_of l.found.state l.pid)) then Some [] else None
 
   abbrev pub reason_by : FindingKind → Option Bytes
   reason_by Leak = leak_reason
@@ -89,25 +89,25 @@ module _ (program_of : Bytes → Option Program) (first : Tree) (kind : FindingK
 
 -- ---- the lines of findings
 
-abbrev pub line_of : Finding → ℕ
-line_of x = x.at.process.line
+abbrev pub finding_line : Finding → ℕ
+finding_line x = x.at.process.line
 
-abbrev pub greatest_line : List Finding → ℕ
-greatest_line xs = fold max 0 (map line_of xs)
+abbrev pub greatest_finding_line : List Finding → ℕ
+greatest_finding_line xs = fold max 0 (map finding_line xs)
 
 -- the first finding at the greatest line
 abbrev pub last_finding : List Finding → Option Finding
-last_finding xs = first_of (filter (λ x. line_of x == greatest_line xs) xs)
+last_finding xs = first_of (filter (λ x. finding_line x == greatest_finding_line xs) xs)
 
 -- the lines of findings, each once, by number
 abbrev pub lines_found : List Finding → List ℕ
-lines_found xs = filter (among (map line_of xs)) (range_with_len 1 (greatest_line xs))
+lines_found xs = filter (among (map finding_line xs)) (range_with_len 1 (greatest_finding_line xs))
 
-abbrev pub ranges_text : List Finding → Bytes
-ranges_text xs = join_by range_text (codes ", ") (in_ranges (lines_found xs))
+abbrev pub finding_ranges_text : List Finding → Bytes
+finding_ranges_text xs = join_by range_text (codes ", ") (in_ranges (lines_found xs))
 
 abbrev pub finding_text : Finding → List Finding → Bytes
-finding_text x xs = x.file ++ codes ", lines " ++ ranges_text xs ++ x.reason
+finding_text x xs = x.file ++ codes ", lines " ++ finding_ranges_text xs ++ x.reason
 
 module _ (kind : FindingKind) where
   abbrev pub finding_lines_by : List Finding → Option Finding → List AnswerLine
@@ -132,9 +132,9 @@ are_all_closed s f = list_all (λ p. is_empty (leaks s p.1 f)) (live_processes s
 abbrev pub is_safe_in : ℕ → Located → Bool
 is_safe_in f l = not (is_file_at l.found.state.tree f) || are_all_closed l.found.state f
 
--- the files of the first tree that every live process is closed to in every state of the given processes
-abbrev pub safe_files : Tree → List Located → List ℕ
-safe_files first ls = filter (λ f. list_all (is_safe_in f) ls) (named_files first)
+-- the files of the first tree to which every live process is closed in every state of the given processes
+abbrev pub safe_files_of_first : Tree → List Located → List ℕ
+safe_files_of_first first ls = filter (λ f. list_all (is_safe_in f) ls) (named_files first)
 
 abbrev pub safe_line : Tree → ℕ → AnswerLine
 safe_line first f = answer_line 0 (codes "SAFE") (node_brief first f)
@@ -146,13 +146,13 @@ module _ (program_of : Bytes → Option Program) (first : Tree) (complete : Bool
   abbrev pub lines_of_kind : List Located → FindingKind → List AnswerLine
   lines_of_kind ls kind = lines_of_findings kind (flat_map (findings_at program_of first kind) ls)
 
-  abbrev pub safe_lines : List Located → List AnswerLine
-  safe_lines ls = if complete then map (safe_line first) (safe_files first ls) else []
+  abbrev pub safe_lines_of_first : List Located → List AnswerLine
+  safe_lines_of_first ls = if complete then map (safe_line first) (safe_files_of_first first ls) else []
 
   -- a program: its number, and its processes in all states
   abbrev pub lines_of_program : ℕ × (Located × List Located) → List AnswerLine
   lines_of_program (k, (l, ls)) =
-      program_line program_of first k l.process.program ∷ flat_map (lines_of_kind ls) kinds ++ safe_lines ls
+      program_line program_of first k l.process.program ∷ flat_map (lines_of_kind ls) kinds ++ safe_lines_of_first ls
 
   -- the lines of the programs of visited states, and the last line
   unfoldable pub exposed_lines : List Found → AnswerLine → List AnswerLine

@@ -1,34 +1,33 @@
 -- The text of `exposure` for small bundles, as a second implementation answers.
-use Rattle.std.specs.Prelude.{⊤, ◌≡◌, ℕ, List, [], ◌∷◌, flat_map, length, codes, Option, Some, option_map, refl}
+use Rattle.std.specs.Prelude.{⊤, ◌≡◌, ℕ, List, [], ◌∷◌, codes, Option, Some, option_map, refl}
 use Rattle.std.specs.Result.{result_ok}
 use Rattle.pv_model.specs.Answers.OnLiterals.{answers_on_literals}
 use Rattle.pv_model.specs.Answers.Explore.{done_line}
-use Rattle.pv_model.specs.Machine.{answer_bytes, Bytes, program_of, booted, bundle_started, started_on, Started, states_found, is_complete, State, with_line_end, machine_on_literals, text_at, add_entry, read_bundle, read_manifest, read_program}
-use Rattle.pv_model.specs.Grammar.Arguments.{flags_of}
+use Rattle.pv_model.specs.Machine.{answer_bytes, Bytes, program_of, booted, bundle_started, started_on, states_found, is_complete, State, text_at, add_entry, read_bundle, read_manifest, read_program}
+use Rattle.pv_model.specs.Grammar.Arguments.{parsed_flags}
 use Rattle.pv_model.specs.Grammar.Instructions.{instruction_by}
 use Rattle.pv_model.specs.Grammar.Manifests.{entry_by}
 use Rattle.pv_model.specs.Sealed.{leaks}
 use Rattle.pv_model_questions.specs.Exposure.{exposed_lines}
+use Rattle.pv_model_questions.specs.ExposureAbout.{exposed_lines_about}
 use Rattle.pv_model_questions.specs.Fixed.{edits}
+use Rattle.pv_model_questions.specs.ExplainMoreWorked.{lines_text}
 
 -- the definitions to unfold in a proof by computation
 unfoldable pub exposure_on_literals : ⊤
-unfolding answers_on_literals read_manifest read_bundle entry_by add_entry read_program instruction_by text_at flags_of bundle_started started_on booted leaks edits exposed_lines
+unfolding answers_on_literals read_manifest read_bundle entry_by add_entry read_program instruction_by text_at parsed_flags bundle_started started_on booted leaks edits exposed_lines
 exposure_on_literals = tt
-
-abbrev pub lines_text : List Bytes → Bytes
-lines_text lines = flat_map with_line_end lines
 
 abbrev pub exposed_from : ℕ → State → Bytes
 exposed_from limit s =
     answer_bytes (exposed_lines program_of s.tree (is_complete program_of limit s) (states_found program_of limit s) (done_line program_of limit s))
 
 -- the text of `exposure` for a bundle, with a limit on the number of states
-abbrev pub exposure_text : ℕ → List Bytes → Option Bytes
-exposure_text limit lines = option_map (λ s. exposed_from limit s.state) (result_ok (bundle_started (lines_text lines)))
+abbrev pub exposed_text : ℕ → List Bytes → Option Bytes
+exposed_text limit lines = option_map (λ s. exposed_from limit s.state) (result_ok (bundle_started (lines_text lines)))
 
 -- a key is read before the fork, at a line at which the program still leaks it
-pub key_read_before_fork : exposure_text 1000 (
+pub key_read_before_fork : exposed_text 1000 (
     codes "image 16 16" ∷
     codes "bytes \"/key\" \"k\"" ∷
     codes "bytes \"/motd\" \"hi\"" ∷
@@ -62,7 +61,7 @@ unfolding exposure_on_literals
 key_read_before_fork = refl
 
 -- a file that another process moves is described with its first path
-pub renamed_secret : exposure_text 1000 (
+pub renamed_secret : exposed_text 1000 (
     codes "image 16 16" ∷
     codes "dir \"/in\"" ∷
     codes "dir \"/out\"" ∷
@@ -99,8 +98,8 @@ pub renamed_secret : exposure_text 1000 (
 unfolding exposure_on_literals
 renamed_secret = refl
 
--- what lets a process read a file need not let it change the file
-pub entries_above : exposure_text 1000 (
+-- a permission to read a file need not be one to change it
+pub edits_with_entries_above : exposed_text 1000 (
     codes "image 16 16" ∷
     codes "dir \"/a\"" ∷
     codes "dir \"/a/b\"" ∷
@@ -130,10 +129,10 @@ pub entries_above : exposure_text 1000 (
     codes "    1 EDIT  \"/init\", lines 1-6, may exec" ∷
     codes "    0 DONE  9 states, complete" ∷ []))
 unfolding exposure_on_literals
-entries_above = refl
+edits_with_entries_above = refl
 
 -- the first state has an empty schedule; a number that is used again keeps its first path
-pub number_used_again : exposure_text 1000 (
+pub number_used_again : exposed_text 1000 (
     codes "image 16 16" ∷
     codes "bytes \"/secret\" \"key\"" ∷
     codes "bytes \"/other\" \"o\"" ∷
@@ -170,7 +169,7 @@ unfolding exposure_on_literals
 number_used_again = refl
 
 -- an execve that finds no program reads the file
-pub execve_reads : exposure_text 1000 (
+pub execve_reads : exposed_text 1000 (
     codes "image 16 16" ∷
     codes "bytes \"/text\" \"x\"" ∷
     codes "exec \"/bad\" 1" ∷
@@ -210,7 +209,7 @@ unfolding exposure_on_literals
 execve_reads = refl
 
 -- a file is not safe if another process is not closed to it
-pub safe_lost_to_a_peer : exposure_text 1000 (
+pub safe_lost_to_a_peer : exposed_text 1000 (
     codes "image 24 16" ∷
     codes "dir \"/bin\"" ∷
     codes "bytes \"/key\" \"k\"" ∷
@@ -258,7 +257,7 @@ unfolding exposure_on_literals
 safe_lost_to_a_peer = refl
 
 -- a process without execpromises loses its table
-pub may_exec : exposure_text 1000 (
+pub may_exec : exposed_text 1000 (
     codes "image 16 16" ∷
     codes "dir \"/pub\"" ∷
     codes "bytes \"/secret\" \"k1\"" ∷
@@ -283,7 +282,7 @@ unfolding exposure_on_literals
 may_exec = refl
 
 -- a descriptor that writes a file
-pub written_through_a_descriptor : exposure_text 1000 (
+pub written_through_a_descriptor : exposed_text 1000 (
     codes "image 16 16" ∷
     codes "bytes \"/log\" \"\"" ∷
     codes "bytes \"/conf\" \"on\"" ∷
@@ -312,3 +311,50 @@ pub written_through_a_descriptor : exposure_text 1000 (
     codes "    0 DONE  9 states, complete" ∷ []))
 unfolding exposure_on_literals
 written_through_a_descriptor = refl
+
+-- the text of `exposure` about files for a bundle, with a limit on the number of states
+abbrev pub exposed_about_from : List Bytes → ℕ → State → Bytes
+exposed_about_from files limit s =
+    answer_bytes (exposed_lines_about files program_of s.tree (is_complete program_of limit s) (states_found program_of limit s) (done_line program_of limit s))
+
+abbrev pub exposure_text_about : List Bytes → ℕ → List Bytes → Option Bytes
+exposure_text_about files limit lines = option_map (λ s. exposed_about_from files limit s.state) (result_ok (bundle_started (lines_text lines)))
+
+-- about one file: the findings of its node under each path, and no SAFE line of another file
+pub exposure_about_a_renamed_file : exposure_text_about (codes "\"/d/key\"" ∷ []) 1000 (
+    codes "image 24 16" ∷
+    codes "dir \"/d\"" ∷
+    codes "bytes \"/d/key\" \"k1\"" ∷
+    codes "bytes \"/d/list\" \"l2\"" ∷
+    codes "exec \"/init\" 10" ∷
+    codes "rename \"/d/key\" \"/d/other\"" ∷
+    codes "open \"/d/other\" r" ∷
+    codes "read 0 1" ∷
+    codes "link \"/d/list\" \"/list\"" ∷
+    codes "open \"/list\" r" ∷
+    codes "read 1 1" ∷
+    codes "unlink \"/d/other\"" ∷
+    codes "read 0 1" ∷
+    codes "rename \"/d\" \"/e\"" ∷
+    codes "stat \"/e\"" ∷
+    codes "schedule" ∷ []) ≡ Some (lines_text (
+    codes "    0 PROG  1, \"/init\"" ∷
+    codes "    1 BY    " ∷
+    codes "    1 LEAK  \"/d/key\", lines 1, no table" ∷
+    codes "    1 BY    1 6" ∷
+    codes "    1 LEAK  \"/d/other\", first \"/d/key\", lines 2-7, reads descriptor 0" ∷
+    codes "    1 BY    1 10" ∷
+    codes "    1 LEAK  node 3, first \"/d/key\", lines 8-11, reads descriptor 0" ∷
+    codes "    1 BY    " ∷
+    codes "    1 EDIT  \"/d/key\", lines 1, no table" ∷
+    codes "    1 BY    1 6" ∷
+    codes "    1 EDIT  \"/d/other\", first \"/d/key\", lines 2-7, no table" ∷
+    codes "    1 BY    1 10" ∷
+    codes "    1 EDIT  node 3, first \"/d/key\", lines 8-11, no table" ∷
+    codes "    1 BY    1 3" ∷
+    codes "    1 READ  \"/d/other\", first \"/d/key\", lines 3" ∷
+    codes "    1 BY    1 8" ∷
+    codes "    1 READ  node 3, first \"/d/key\", lines 8" ∷
+    codes "    0 DONE  12 states, complete" ∷ []))
+unfolding exposure_on_literals exposed_lines_about
+exposure_about_a_renamed_file = refl

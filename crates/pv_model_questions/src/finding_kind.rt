@@ -1,6 +1,6 @@
 //! Kinds of findings about a process and a file.
 
-/// What `exposure` finds of a process at a line and a file.
+/// The findings of `exposure` about a process at a line and a file.
 #[derive(Clone, Copy, PartialEq, Eq)]
 pub enum FindingKind {
     /// The process is not closed to the file.

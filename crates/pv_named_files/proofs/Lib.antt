@@ -1,3 +1,5 @@
--- Lemmas about the files of a tree: Listed (their order), Notes (notes and their files).
-pub mod Listed
-pub mod Notes
+-- Lemmas about the files of a tree: GivenFiles (the names of nodes that are given), ListedFiles (their order),
+-- FileNotes (notes and their files).
+pub mod GivenFiles
+pub mod ListedFiles
+pub mod FileNotes

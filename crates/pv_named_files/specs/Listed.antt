@@ -14,9 +14,9 @@ module _ (t : Tree) where
   listed_nodes = nodes_within (length t.nodes) root
 
   -- the files with a node appended, if it is a file and new
-  abbrev pub with_file : List ℕ → ℕ → List ℕ
-  with_file files n = if is_file_at t n && not (list_any (λ m. m == n) files) then files ++ n ∷ [] else files
+  abbrev pub files_with_node : List ℕ → ℕ → List ℕ
+  files_with_node files n = if is_file_at t n && not (list_any (λ m. m == n) files) then files ++ n ∷ [] else files
 
   abbrev pub with_files : List ℕ → List ℕ → List ℕ
   with_files files [] = files
-  with_files files (n ∷ ns) = with_files (with_file files n) ns
+  with_files files (n ∷ ns) = with_files (files_with_node files n) ns

@@ -1,7 +1,7 @@
 //! The files of a tree, in the order of a listing.
 ghost use Rattle.std.specs.Prelude.{◌≡◌, ◌++◌, [], map, IfOk, OnOk};
 ghost use Rattle.pv_named_files.specs.Notes.{note};
-ghost use Rattle.pv_named_files.specs.Listed.{listed_nodes, nodes_within, with_file, with_files};
+ghost use Rattle.pv_named_files.specs.Listed.{listed_nodes, nodes_within, files_with_node, with_files};
 ghost use Rattle.pv_model.specs.Machine.{is_file_at, named_files, IsWellFormed};
 
 use crate::note::note_of;
@@ -59,7 +59,7 @@ fn push_file(
     node: u16,
 ) -> Result<(), AllocError>
     requires { notes.old ≡ map note files.old.items }
-    ensures files { OnOk result (files.new.items ≡ with_file tree.now.tree files.old.items node) }
+    ensures files { OnOk result (files.new.items ≡ files_with_node tree.now.tree files.old.items node) }
     ensures notes { OnOk result (notes.new ≡ map note files.new.items) }
 {
     if !is_file(tree, node) {
@@ -91,7 +91,7 @@ fn files_among(alloc: Global, tree: &Tree, nodes: &[u16]) -> Result<Vec<u16>, Al
 /// # Errors
 ///
 /// `AllocError`, if there is no memory.
-#[tactic(auto, using(crate::proofs::Listed::listed_files))]
+#[tactic(auto, using(crate::proofs::ListedFiles::listed_files))]
 pub fn named_files(alloc: Global, tree: &Tree) -> Result<Vec<u16>, AllocError>
     ensures { IfOk result (λ files. files.items ≡ named_files tree.now.tree) }
 {

@@ -1,10 +1,10 @@
--- Lemmas of walks: Components and Encoding (components split off and put together), Dots (the last component), Nodes
--- and Steps (the specification's walk, step by step), FirstPlaces (searches for a position), Preserved (the answers in
--- a cache).
-pub mod Dots
+-- Lemmas of walks: PathComponents and JoinedComponents (components split off and put together), DotComponents (the last
+-- component), NodeKinds and WalkSteps (the specification's walk, step by step), FirstPlaces (searches for a position),
+-- CachedAnswers (the answers in a cache).
+pub mod DotComponents
 pub mod FirstPlaces
-pub mod Components
-pub mod Encoding
-pub mod Steps
-pub mod Nodes
-pub mod Preserved
+pub mod PathComponents
+pub mod JoinedComponents
+pub mod WalkSteps
+pub mod NodeKinds
+pub mod CachedAnswers

@@ -7,7 +7,7 @@ use Rattle.pv_model.specs.declared.follow.Follow.{Follow}
 use Rattle.pv_model.specs.declared.place.Place.{Place}
 use Rattle.pv_model.specs.declared.place.Place.TheVariants.{At, Node}
 use Rattle.pv_model.specs.Machine.{Bytes, link_text, Tree, root, node_at, greatest_name, is_directory_at, is_removed, find_entry, IsWellFormed, is_absolute, follows_last, end_mark, Walked}
-use Rattle.pv_model.specs.Walk.{PastLink, at_entry, along, no_link_left, through_link, walk}
+use Rattle.pv_model.specs.Walk.{PastLink, at_entry, along, no_link_left, through_link, walk_with_links}
 use Rattle.pv_namei.specs.declared.lead.Lead.{Lead}
 use Rattle.pv_namei.specs.declared.lead.Lead.TheVariants.{Directory, Entry}
 use Rattle.pv_namei.specs.declared.stop.End.{End as Ending}
@@ -19,7 +19,7 @@ use Rattle.pv_namei.specs.declared.walk.WalkState.{WalkState}
 -- the continuation of a walk at a link, with this number of links left
 abbrev pub following : Tree → Bool → ℕ → PastLink
 following t last zero = no_link_left t last
-following t last (suc links) = through_link t last (walk t last links)
+following t last (suc links) = through_link t last (walk_with_links t last links)
 
 -- the start of a walk of a path from a directory
 abbrev pub first_walk : ℕ → Bytes → Follow → WalkState
@@ -33,7 +33,7 @@ pub record IsAtDirectory (t : Tree) (n : ℕ) : Type 0 where
 
 -- the result of a walk in this state with these components left
 abbrev pub remaining : Tree → WalkState → List Bytes → Walked
-remaining t w rest = walk t w.last w.links rest w.mark w.at
+remaining t w rest = walk_with_links t w.last w.links rest w.mark w.at
 
 -- its result after a link with this target
 abbrev pub followed : Tree → WalkState → List Bytes → Option Bytes → Walked
@@ -45,20 +45,20 @@ abbrev pub entered : Tree → WalkState → List Bytes → Bytes → Option ℕ 
 entered t w rest name node = at_entry t w.last (following t w.last w.links) (along t w.last (following t w.last w.links) rest w.mark) w.at name rest w.mark node
 
 -- the place at which it ends
-abbrev pub place_of : Ending → Place
-place_of (Named dir component node) = At dir component.now node
-place_of (Unnamed n) = Node n
+abbrev pub place_of_ending : Ending → Place
+place_of_ending (Named dir component node) = At dir component.now node
+place_of_ending (Unnamed n) = Node n
 
 -- its result after it has stopped
 abbrev pub stopped : Tree → WalkState → List Bytes → Stop → Walked
-stopped t w rest (End end) = Ok (place_of end)
+stopped t w rest (End end) = Ok (place_of_ending end)
 stopped t w rest (Link n) = followed t w rest (link_text (node_at t n))
 
 -- its result after a step, which stops the walk or leaves the rest
-abbrev pub settled : Tree → WalkState → List Bytes → Result (Option Stop) Errno → Walked
-settled t w rest (Err e) = Err e
-settled t w rest (Ok (Some stop)) = stopped t w rest stop
-settled t w rest (Ok None) = remaining t w rest
+abbrev pub result_after_step : Tree → WalkState → List Bytes → Result (Option Stop) Errno → Walked
+result_after_step t w rest (Err e) = Err e
+result_after_step t w rest (Ok (Some stop)) = stopped t w rest stop
+result_after_step t w rest (Ok None) = remaining t w rest
 
 -- its result after the components up to a stop
 abbrev pub arrived : Tree → WalkState → List Bytes → Result Stop Errno → Walked
@@ -90,13 +90,13 @@ IsLeadIn t at component (Directory d) = IsTrue (is_directory_at t d)
 IsLeadIn t at component (Entry node) = (find_entry t at component ≡ node) × (length component ≤ NAME_V2)
 
 -- the name does not exceed the maximum length of a name
-abbrev pub IsShort : Ending → Type 0
-IsShort (Named _ component _) = length component.now ≤ NAME_V2
-IsShort (Unnamed _) = ⊤
+abbrev pub HasShortName : Ending → Type 0
+HasShortName (Named _ component _) = length component.now ≤ NAME_V2
+HasShortName (Unnamed _) = ⊤
 
 -- the stop is a place with a short name, or a symbolic link
 abbrev pub IsStop : Tree → Stop → Type 0
-IsStop t (End end) = IsShort end
+IsStop t (End end) = HasShortName end
 IsStop t (Link n) = IsSome (link_text (node_at t n))
 
 -- a step removes a component, or is the last

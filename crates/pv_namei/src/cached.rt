@@ -2,7 +2,7 @@
 ghost use Rattle.std.specs.Prelude.{◌≡◌, ◌⊎◌, ℕ, List, Option, Some, None, [], IsTrue, IfOk, ◌≤◌, length};
 ghost use Rattle.pv_model.specs.declared.limits.TheConstants.{ANSWERS};
 ghost use Rattle.pv_model.specs.Machine.{is_directory_at, find_entry};
-ghost use Rattle.pv_tree.specs.OfLawsTrees.Found.{AlikeBut};
+ghost use Rattle.pv_tree.specs.OfLawsTrees.Found.{AreEqualExceptAt};
 ghost use Rattle.pv_namei.specs.Cached.{preserved_of, IsPut, FitsMap};
 
 use crate::Lookup;
@@ -135,7 +135,7 @@ impl Lookup for CachedLookup {
 
     fn changed(&mut self, directory: u16, name: &[u8])
         ensures agrees { (map other : ℕ → List ℕ → Option ℕ) → FitsMap self.old.answers map
-            → AlikeBut directory name.now map other → FitsMap self.new.answers other }
+            → AreEqualExceptAt directory name.now map other → FitsMap self.new.answers other }
         ensures forgets { preserved_of self.new.answers directory name.now ≡ None }
         ensures others { (d : ℕ) → (n : List ℕ) → ((d ≡ directory) × (n ≡ name.now) → ⊥)
             → preserved_of self.new.answers d n ≡ preserved_of self.old.answers d n }

@@ -1,7 +1,7 @@
 //! Looking up entries of directories during a walk.
 ghost use Rattle.std.specs.Prelude.{◌≡◌, ℕ, List, Option, IsTrue};
 ghost use Rattle.pv_model.specs.Machine.{is_directory_at, find_entry};
-ghost use Rattle.pv_tree.specs.OfLawsTrees.Found.{Alike, AlikeBut};
+ghost use Rattle.pv_tree.specs.OfLawsTrees.Found.{AreEqualLookups, AreEqualExceptAt};
 
 use pv_tree::Tree;
 
@@ -24,10 +24,10 @@ pub trait Lookup {
     /// Discards any cached answer for a name in a directory, whose entry may have changed.
     fn changed(&mut self, directory: u16, name: &[u8])
         ensures { (map other : ℕ → List ℕ → Option ℕ) → agrees self.old map
-            → AlikeBut directory name.now map other → agrees self.new other };
+            → AreEqualExceptAt directory name.now map other → agrees self.new other };
 
     /// If a lookup agrees with a map, it agrees with every map that gives the same answers.
-    ghost same_answers: { (lookup : Self) → (map other : ℕ → List ℕ → Option ℕ) → agrees lookup map → Alike map other → agrees lookup other };
+    ghost same_answers: { (lookup : Self) → (map other : ℕ → List ℕ → Option ℕ) → agrees lookup map → AreEqualLookups map other → agrees lookup other };
 }
 
 /// A lookup without a cache: it asks the tree each time.

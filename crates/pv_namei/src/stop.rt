@@ -1,6 +1,6 @@
 //! The points at which a walk stops.
 ghost use Rattle.std.specs.Prelude.{◌≡◌};
-ghost use Rattle.pv_namei.specs.Onward.{place_of, IsShort};
+ghost use Rattle.pv_namei.specs.Onward.{place_of_ending, HasShortName};
 
 use pv_tree::PlaceRef;
 
@@ -32,8 +32,8 @@ pub(crate) enum End<'a> {
 impl<'a> End<'a> {
     /// Returns the place. It borrows the name.
     pub(crate) fn place(self) -> PlaceRef<'a>
-        requires { IsShort self }
-        ensures { result ≡ place_of self.entry }
+        requires { HasShortName self }
+        ensures { result ≡ place_of_ending self.entry }
     {
         match self {
             End::Named {

@@ -1,7 +1,7 @@
 //! The path walk, step by step.
 ghost use Rattle.std.specs.Prelude.{◌≡◌, ◌≤◌, ◌<◌, length, take, IsTrue, Some, IsSome, IfSome, OnOk, IfOk, IfErr};
 ghost use Rattle.pv_model.specs.Machine.{link_text, node_at, is_directory_at, find_entry, IsWellFormed, follows_last, end_mark, resolve};
-ghost use Rattle.pv_namei.specs.Onward.{first_walk, remaining, followed, entered, settled, arrived, passed, IsAtDirectory, IsStop, IsNearer};
+ghost use Rattle.pv_namei.specs.Onward.{first_walk, remaining, followed, entered, result_after_step, arrived, passed, IsAtDirectory, IsStop, IsNearer};
 
 use crate::along::Along;
 use crate::component::{ends_in_slash, is_absolute};
@@ -54,7 +54,7 @@ impl WalkState {
         requires entry { find_entry tree.now.tree self.old.at component.now ≡ node }
         requires short { length component.now ≤ NAME_V2 }
         ensures onward { entered tree.now.tree self.old rest.now component.now node
-            ≡ settled tree.now.tree self.new rest.now result }
+            ≡ result_after_step tree.now.tree self.new rest.now result }
         ensures stop { IfOk result (λ stop. IfSome stop (IsStop tree.now.tree)) }
         ensures directory { IsTrue (is_directory_at tree.now.tree self.new.at) }
         ensures links { self.new.links ≡ self.old.links }
@@ -87,7 +87,7 @@ impl WalkState {
         requires start { IsAtDirectory tree.now.tree self.old.at }
         requires agrees { L.agrees lookup.old (find_entry tree.now.tree) }
         ensures onward { remaining tree.now.tree self.old rest.old
-            ≡ settled tree.now.tree self.new rest.new result }
+            ≡ result_after_step tree.now.tree self.new rest.new result }
         ensures stop { IfOk result (λ stop. IfSome stop (IsStop tree.now.tree)) }
         ensures directory { IsTrue (is_directory_at tree.now.tree self.new.at) }
         ensures links { self.new.links ≡ self.old.links }

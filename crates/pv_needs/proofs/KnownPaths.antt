@@ -6,8 +6,8 @@ use Rattle.pv_model.specs.declared.target.Target.{Target}
 use Rattle.pv_model.specs.declared.target.Target.TheVariants.{Directory, Name}
 use Rattle.pv_model.specs.Machine.{first_of, node_path, target_words, with_name, Bytes, Tree, root, find_entry, is_directory_at, names_of, IsWellFormed}
 use Rattle.pv_model.specs.Answers.Nodes.{least_name, name_words_by, node_words_by, path_by, path_within}
-use Rattle.pv_laws_trees.proofs.Members.{In, entry-in}
-use Rattle.pv_answers.proofs.Paths.{named-path, path-least}
+use Rattle.pv_laws_trees.proofs.ListMembers.{In, entry-in}
+use Rattle.pv_answers.proofs.NodePaths.{named-path, path-least}
 use Rattle.pv_needs.specs.KnownWords.{IsKnown, known_words}
 
 only-one : (x : ℕ × Bytes) (xs : List (ℕ × Bytes)) → length xs ≤ 1 → In (ℕ × Bytes) x xs → first_of xs ≡ Some x

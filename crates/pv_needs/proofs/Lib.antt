@@ -1,26 +1,27 @@
--- Lemmas about the records of a run: Times (counts), Targets (the targets at which walks were checked), RecordedImages
--- (the process images of a process), Keeping (records in lists, by index), Bounds (of process images), Walks (the
--- walks of a call), Promised (the promises that a call needs), Asked (the demand of a step), AskedRuns (the demands of a run), Numbers (the numbers of the processes that make calls),
+-- Lemmas about the records of a run: CallCounts (counts), RecordedTargets (the targets at which walks were checked),
+-- RecordedImages (the process images of a process), RecordLists (records in lists, by index), ImageBounds (of process
+-- images), KnownWalks (the walks of a call), NeededPromises (the promises that a call needs), StepDemands (the demand
+-- of a step), RunDemands (the demands of a run), CallerNumbers (the numbers of the processes that make calls),
 -- NeedsText (the texts of the records), RecordedLines (their lines), LineBytes (the bytes of lines), KnownPaths (the
--- path of a directory). TurnsMade has turns, TurnsTaken follows them step by step, TurnsLines writes them, and Rounds
+-- path of a directory). FairTurns has turns, TurnLoops follows them step by step, TurnsLines writes them, and TurnOrder
 -- finds the process with the next turn.
-pub mod Walks
-pub mod Promised
-pub mod Asked
-pub mod AskedRuns
-pub mod Bounds
-pub mod Keeping
+pub mod KnownWalks
+pub mod NeededPromises
+pub mod StepDemands
+pub mod RunDemands
+pub mod ImageBounds
+pub mod RecordLists
 pub mod RecordedLines
 pub mod RecordedImages
 pub mod KnownPaths
 pub mod LineBytes
 pub mod NeedsText
-pub mod Numbers
-pub mod Rounds
-pub mod Targets
-pub mod Times
+pub mod CallerNumbers
+pub mod TurnOrder
+pub mod RecordedTargets
+pub mod CallCounts
 pub mod TurnsLines
-pub mod TurnsMade
-pub mod TurnsTaken
+pub mod FairTurns
+pub mod TurnLoops
 pub use Rattle.pv_answers.proofs as OfAnswers
 pub use Rattle.pv_session.proofs.OfCallsPath

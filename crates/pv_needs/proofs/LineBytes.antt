@@ -11,13 +11,13 @@ use Rattle.pv_model.specs.declared.promise.Promise.{Promise}
 use Rattle.pv_model.specs.declared.stream.Failed.{Failed}
 use Rattle.pv_model.specs.Machine.{AnswerLine, answer_bytes, answer_line, answer_line_bytes, counted_from, permissions_in_places, Bytes, all_promises, promise_name}
 use Rattle.pv_streams.specs.Sinks.{WritesPrefix, and_all}
-use Rattle.pv_streams.proofs.Reporting.{begins_first, begins_then, written_both}
+use Rattle.pv_streams.proofs.OutputTexts.{begins_first, begins_then, written_both}
 use Rattle.pv_needs.specs.declared.process_images.RecordedTarget.{RecordedTarget}
 use Rattle.pv_needs.specs.declared.process_images.Times.{Times}
 use Rattle.pv_needs.specs.RecordedLines.{recorded_promise_lines, recorded_promises_lines, recorded_image_lines, recorded_target_lines, recorded_times_text}
 use Rattle.pv_needs.specs.ProcessImages.{RecordedImage}
 use Rattle.pv_answers.specs.Texts.{line_front}
-use Rattle.pv_answers.proofs.Locations.{one-line}
+use Rattle.pv_answers.proofs.LocationLines.{one-line}
 
 -- the output of a text is the output of an equal text
 pub whole-as : (r : Result (Unit {0}) Failed) (before after : Option Bytes) (a b : Bytes) → a ≡ b → OnOk r (after ≡ and_all before a) → OnOk r (after ≡ and_all before b)

@@ -7,10 +7,10 @@ use Rattle.pv_laws_states.specs.States.{IsValid}
 use Rattle.pv_needs.specs.declared.process_images.TheConstants.{MANY}
 use Rattle.pv_needs.specs.Granted.{demands_in, lines_of_demands}
 use Rattle.pv_needs.specs.RecordedLines.{recorded_lines, recorded_process_lines}
-use Rattle.pv_needs.specs.ProcessImages.{RecordedImage, Keeps, recorded_image, process_images_at}
-use Rattle.pv_needs.proofs.Bounds.{Each, each-few}
+use Rattle.pv_needs.specs.ProcessImages.{RecordedImage, RecordsCalls, recorded_image, process_images_at}
+use Rattle.pv_needs.proofs.ImageBounds.{Each, each-few}
 use Rattle.pv_needs.proofs.RecordedLines.{process-lines}
-use Rattle.pv_needs.proofs.Numbers.{IsAsked, asked-fewer, each-asked, none-asked}
+use Rattle.pv_needs.proofs.CallerNumbers.{IsAsked, asked-fewer, each-asked, none-asked}
 
 -- ---- numbers in sequence
 
@@ -77,7 +77,7 @@ module _ (all : List (ℕ × Asked)) (few : (pid : ℕ) → Each MANY MANY (proc
   no-process_images [] is = refl
   no-process_images (x ∷ xs) is = cc is
 
-  all-processes : (recorded : List (List RecordedImage)) (last : ℕ) → Keeps recorded all → AllByRecursion (IsAsked last) all
+  all-processes : (recorded : List (List RecordedImage)) (last : ℕ) → RecordsCalls recorded all → AllByRecursion (IsAsked last) all
       → flat_map of-records (counted_from 0 recorded) ≡ flat_map of-process (range_with_len 1 last)
   unfolding process_images
   all-processes recorded last keeps each =
@@ -103,7 +103,7 @@ by-definition pids s true = refl
 by-definition pids s false = ap (λ all. needs_of_all all (run program_of pids s).final.last_process) (all-demands pids s)
 
 module _ (granted : Bool) (pids : List ℕ) (s : State) (recorded : List (List RecordedImage)) (whole : IsValid s) (short : 2 * length pids ≤ MANY)
-    (keeps : Keeps recorded (demands_in granted program_of pids s)) where
+    (keeps : RecordsCalls recorded (demands_in granted program_of pids s)) where
   few : (pid : ℕ) → Each MANY MANY (process_images (asked_by_one (demands_in granted program_of pids s) pid))
   few pid =
       let fewer = asked-fewer granted pids s in

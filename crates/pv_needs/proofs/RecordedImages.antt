@@ -10,14 +10,14 @@ use Rattle.pv_model.specs.Machine.{Asked, Judged, same_promise, walks_judged, al
 use Rattle.pv_model.specs.Answers.Needs.{asked_by_one, needing, onto_process_image, process_images}
 use Rattle.pv_needs.specs.declared.process_images.RecordedTarget.{RecordedTarget}
 use Rattle.pv_needs.specs.declared.process_images.Times.{Times}
-use Rattle.pv_needs.specs.ProcessImages.{RecordedImage, call_more, is_ended, recorded_promise, recorded_image, recorded_targets, nothing_asked, once_more, process_more, promise_more, promises_more, times_of, process_images_at, Keeps, IsProcessMore}
-use Rattle.pv_needs.proofs.Targets.{walks-recorded}
-use Rattle.pv_needs.proofs.Times.{times-more}
+use Rattle.pv_needs.specs.ProcessImages.{RecordedImage, call_more, is_ended, recorded_promise, recorded_image, recorded_targets, nothing_asked, once_more, process_more, times_with_need, promises_more, times_of, process_images_at, RecordsCalls, IsProcessMore}
+use Rattle.pv_needs.proofs.RecordedTargets.{walks-recorded}
+use Rattle.pv_needs.proofs.CallCounts.{times-more}
 
 -- ---- one process image
 
 module _ (process_image : List Asked) (now : Asked) where
-  promise-recorded : (p : Promise) → promise_more p (recorded_promise process_image p) now.promises now.line ≡ recorded_promise (process_image ++ now ∷ []) p
+  promise-recorded : (p : Promise) → times_with_need p (recorded_promise process_image p) now.promises now.line ≡ recorded_promise (process_image ++ now ∷ []) p
   promise-recorded p =
       by (list_any (same_promise p) now.promises)
       ∙ sym (ap (λ (calls : List Asked). times_of (map (λ a. a.line) calls)) (filter-append (λ (a : Asked). list_any (same_promise p) a.promises) process_image (now ∷ [])))
@@ -155,7 +155,7 @@ by-one-more all q now pid =
     by false = refl
 
 -- one more call of a process
-pub keeps-more : (old new : List (List RecordedImage)) (all : List (ℕ × Asked)) (pid : ℕ) (now : Asked) → Keeps old all → IsProcessMore old pid now new → Keeps new (all ++ (pid, now) ∷ [])
+pub keeps-more : (old new : List (List RecordedImage)) (all : List (ℕ × Asked)) (pid : ℕ) (now : Asked) → RecordsCalls old all → IsProcessMore old pid now new → RecordsCalls new (all ++ (pid, now) ∷ [])
 keeps-more old new all pid now keeps more other =
     more other ∙ by (pid == other) ∙ sym (ap (λ (calls : List Asked). map recorded_image (process_images calls)) (by-one-more all pid now other))
   where

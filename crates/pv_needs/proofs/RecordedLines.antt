@@ -12,8 +12,8 @@ use Rattle.pv_model.specs.Answers.Needs.{last_of, needing, permissions_asked, pr
 use Rattle.pv_needs.specs.declared.process_images.TheConstants.{MANY}
 use Rattle.pv_needs.specs.RecordedLines.{recorded_promise_lines, recorded_promises_lines, recorded_image_lines, recorded_target_lines, recorded_times_text}
 use Rattle.pv_needs.specs.ProcessImages.{recorded_promise, recorded_image, recorded_target, times_of}
-use Rattle.pv_needs.proofs.Bounds.{AreFew, Each}
-use Rattle.pv_laws_trees.proofs.Generic.{filter-fewer}
+use Rattle.pv_needs.proofs.ImageBounds.{AreFew, Each}
+use Rattle.pv_laws_trees.proofs.ListTests.{filter-fewer}
 
 times-few : (what : Bytes) (lines : List ℕ) → length lines ≤ MANY → recorded_times_text what (times_of lines) ≡ times_text what lines
 times-few what lines few = ap (λ n. codes ", " ++ what ++ codes " " ++ decimal n ++ codes ", last line " ++ decimal (last_of 0 lines)) (min-eq_left few)

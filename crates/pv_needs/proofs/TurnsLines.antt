@@ -5,16 +5,16 @@ use Rattle.std.proofs.lemmas.Grind.{flat_map-append}
 use Rattle.std.proofs.lemmas.List.{append-nil}
 use Rattle.pv_model.specs.Machine.{next_turn, turns, Bytes, program_of, State, Run, Schedule, run, steps_of}
 use Rattle.pv_model.specs.Answers.Turns.{Turn, schedule_text, turn, turn_line}
-use Rattle.pv_model.proofs.Runs.{run-append}
-use Rattle.pv_laws_runs.proofs.TurnsMade.{next-goes, turn-few, turn-some}
-use Rattle.pv_laws_runs.proofs.TurnsReady.{turn-is}
+use Rattle.pv_model.proofs.RunComposition.{run-append}
+use Rattle.pv_laws_runs.proofs.TurnSteps.{next-goes, turn-few, turn-some}
+use Rattle.pv_laws_runs.proofs.ReadyTurns.{turn-is}
 use Rattle.pv_session.specs.Running.{run_of}
 use Rattle.pv_streams.specs.Sinks.{and_all, WritesPrefix}
-use Rattle.pv_streams.proofs.Sinks.{begins_whole}
-use Rattle.pv_streams.proofs.Reporting.{begins_first, begins_then, written_both, written_none}
-use Rattle.pv_needs.specs.Turning.{IsMade, IsTaken, TurnsWritten}
-use Rattle.pv_needs.proofs.TurnsMade.{rest_of, turns-end, turns-from, turns-next}
-use Rattle.pv_needs.proofs.TurnsTaken.{none-above}
+use Rattle.pv_streams.proofs.SinkWrites.{begins_whole}
+use Rattle.pv_streams.proofs.OutputTexts.{begins_first, begins_then, written_both, written_none}
+use Rattle.pv_needs.specs.Turning.{IsTurnMade, IsTurnTaken, TurnsWritten}
+use Rattle.pv_needs.proofs.FairTurns.{rest_of, turns-end, turns-from, turns-next}
+use Rattle.pv_needs.proofs.TurnLoops.{none-above}
 
 module _ (slice steps : ℕ) (s : State) where
   -- the lines of the first turns are written, and this many steps remain
@@ -44,18 +44,18 @@ module _ (slice : ℕ) (whole : 1 ≤ slice) (steps : ℕ) (s : State) where
 
     -- ---- one more turn
 
-    module _ (some : 1 ≤ left) (q count : ℕ) (new : State) (taken : IsTaken (min slice left) now (next_turn program_of last now) (Some (q, count)) new) where
+    module _ (some : 1 ≤ left) (q count : ℕ) (new : State) (taken : IsTurnTaken (min slice left) now (next_turn program_of last now) (Some (q, count)) new) where
       record IsNext : Type 0 where
         pub next : next_turn program_of last now ≡ Some q
-        pub is : IsMade (min slice left) q now count new
+        pub is : IsTurnMade (min slice left) q now count new
 
-      of : (o : Option ℕ) → next_turn program_of last now ≡ o → IsTaken (min slice left) now o (Some (q, count)) new → IsNext
+      of : (o : Option ℕ) → next_turn program_of last now ≡ o → IsTurnTaken (min slice left) now o (Some (q, count)) new → IsNext
       of None is (nothing, same) = absurd (cc)
       of (Some pid) is (n, one, made) =
           let pair : (q, count) ≡ (pid, n) = cc in
           let pids : pid ≡ q = sym (ap (λ (x : ℕ × ℕ). x.0) pair) in
           let counts : n ≡ count = sym (ap (λ (x : ℕ × ℕ). x.1) pair) in
-          record { next = is ∙ ap Some pids; is = subst (λ k. IsMade (min slice left) q now k new) counts (subst (λ k. IsMade (min slice left) k now n new) pids made) }
+          record { next = is ∙ ap Some pids; is = subst (λ k. IsTurnMade (min slice left) q now k new) counts (subst (λ k. IsTurnMade (min slice left) k now n new) pids made) }
 
       is-next : IsNext
       is-next = of (next_turn program_of last now) refl taken
@@ -125,7 +125,7 @@ module _ (slice : ℕ) (whole : 1 ≤ slice) (steps : ℕ) (s : State) where
     all-over over = let none : left ≡ 0 = omega (arith, over) in all-where (ap (λ n. rest_of program_of slice n last now) none)
 
     -- no process is ready
-    pub all-idle : (made : Option (ℕ × ℕ)) (new : State) → made ≡ None → IsTaken (min slice left) now (next_turn program_of last now) made new → (new ≡ now) × IsAll
+    pub all-idle : (made : Option (ℕ × ℕ)) (new : State) → made ≡ None → IsTurnTaken (min slice left) now (next_turn program_of last now) made new → (new ≡ now) × IsAll
     all-idle made new nothing taken =
         let none = none-above (min slice left) now (next_turn program_of last now) made new nothing taken in
         (none.1, all-where (turns-end program_of slice left last now none.0))

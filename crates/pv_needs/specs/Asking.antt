@@ -31,13 +31,13 @@ module _ (s : State) (pid : ℕ) (me : Process) where
   abbrev pub judged_begun : Walk → Option Judged
   judged_begun w = judged_at s w.needed (end_begun s pid me w)
 
-  abbrev pub if_begun : Bool → Walk → List Judged
-  if_begun is_begun w = if is_begun then option_to_list (judged_begun w) else []
+  abbrev pub judged_if_begun : Bool → Walk → List Judged
+  judged_if_begun is_begun w = if is_begun then option_to_list (judged_begun w) else []
 
   abbrev pub begun_walks : List Walk → ℕ → List Judged
   begun_walks [] n = []
-  begun_walks (w ∷ []) n = if_begun (nat_le 1 n) w
-  begun_walks (w ∷ v ∷ rest) n = if_begun (nat_le 1 n) w ++ if_begun (nat_le 2 n) v
+  begun_walks (w ∷ []) n = judged_if_begun (nat_le 1 n) w
+  begun_walks (w ∷ v ∷ rest) n = judged_if_begun (nat_le 1 n) w ++ judged_if_begun (nat_le 2 n) v
 
   -- the checked walks of a call of which the first n were begun
   abbrev pub walks_begun : Call → ℕ → List Judged

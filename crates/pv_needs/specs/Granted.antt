@@ -5,13 +5,13 @@ use Rattle.pv_model.specs.Answers.Needs.{and_asked, needs_lines, needs_of_all}
 
 module _ (granted : Bool) (program_of : Bytes → Option Program) where
   -- the demands of a step that is a call; if only granted calls count, of a call that was not refused
-  abbrev pub demand : State → ℕ → Option Asked
-  demand s pid = if granted && is_refused (step program_of s pid).outcome then None else asked program_of s pid
+  abbrev pub demands_of_step : State → ℕ → Option Asked
+  demands_of_step s pid = if granted && is_refused (step program_of s pid).outcome then None else asked program_of s pid
 
   -- the demands of the calls of a run, each with its process
   abbrev pub demands_in : List ℕ → State → List (ℕ × Asked)
   demands_in [] s = []
-  demands_in (pid ∷ pids) s = and_asked program_of pid (demand s pid) (demands_in pids (step program_of s pid).after)
+  demands_in (pid ∷ pids) s = and_asked program_of pid (demands_of_step s pid) (demands_in pids (step program_of s pid).after)
 
 module _ (program_of : Bytes → Option Program) where
   -- the lines of `needs` of the granted calls alone

@@ -62,27 +62,27 @@ recorded_image process_image = record {
 abbrev pub once_more : Times → ℕ → Times
 once_more times line = record { count = min (times.count + 1) MANY; last = line }
 
-abbrev pub promise_more : Promise → Times → List Promise → ℕ → Times
-promise_more p times needed line = if list_any (same_promise p) needed then once_more times line else times
+abbrev pub times_with_need : Promise → Times → List Promise → ℕ → Times
+times_with_need p times needed line = if list_any (same_promise p) needed then once_more times line else times
 
 -- the counts after a call that needed promises
 abbrev pub promises_more : List Promise → List Times → List Promise → ℕ → List Times
-promises_more (p ∷ ps) (times ∷ rest) needed line = promise_more p times needed line ∷ promises_more ps rest needed line
+promises_more (p ∷ ps) (times ∷ rest) needed line = times_with_need p times needed line ∷ promises_more ps rest needed line
 promises_more [] rest needed line = rest
 promises_more (p ∷ ps) [] needed line = []
 
 -- the target after another walk that needs permissions
-abbrev pub target_more : RecordedTarget → ℕ → Perms → RecordedTarget
-target_more target line permissions =
+abbrev pub target_with_walk : RecordedTarget → ℕ → Perms → RecordedTarget
+target_with_walk target line permissions =
     record { judged = record target.judged { permissions = join_permissions target.judged.permissions permissions }; times = once_more target.times line }
 
-abbrev pub first_walk : ℕ → Judged → RecordedTarget
-first_walk line w = record { judged = w; times = record { count = 1; last = line } }
+abbrev pub first_recorded_walk : ℕ → Judged → RecordedTarget
+first_recorded_walk line w = record { judged = w; times = record { count = 1; last = line } }
 
 -- the targets after a walk to a known target or to a new one
 abbrev pub walk_more : List RecordedTarget → ℕ → Judged → List RecordedTarget
-walk_more [] line w = first_walk line w ∷ []
-walk_more (target ∷ rest) line w = if same_judged target.judged w then target_more target line w.permissions ∷ rest else target ∷ walk_more rest line w
+walk_more [] line w = first_recorded_walk line w ∷ []
+walk_more (target ∷ rest) line w = if same_judged target.judged w then target_with_walk target line w.permissions ∷ rest else target ∷ walk_more rest line w
 
 -- the index of the target to which a walk leads
 abbrev pub index_of : List RecordedTarget → Judged → Option ℕ
@@ -113,15 +113,15 @@ process_more [] now = call_more nothing_asked now ∷ []
 process_more (process_image ∷ []) now = unless_ended process_image now
 process_more (process_image ∷ next ∷ rest) now = process_image ∷ process_more (next ∷ rest) now
 
-abbrev pub unless : Bool → ℕ → Option ℕ
-unless true k = None
-unless false k = Some k
+abbrev pub index_unless : Bool → ℕ → Option ℕ
+index_unless true k = None
+index_unless false k = Some k
 
 -- the index of the current process image: the last one, if it has not ended
-abbrev pub open_at : List RecordedImage → Option ℕ
-open_at [] = None
-open_at (process_image ∷ []) = unless process_image.ended 0
-open_at (process_image ∷ next ∷ rest) = option_map suc (open_at (next ∷ rest))
+abbrev pub current_image_index : List RecordedImage → Option ℕ
+current_image_index [] = None
+current_image_index (process_image ∷ []) = index_unless process_image.ended 0
+current_image_index (process_image ∷ next ∷ rest) = option_map suc (current_image_index (next ∷ rest))
 
 -- ---- all processes, by process number
 
@@ -129,8 +129,8 @@ abbrev pub process_images_at : List (List RecordedImage) → ℕ → List Record
 process_images_at processes pid = unwrap_or (slice_get processes pid) []
 
 -- the records are the expected ones for the calls so far
-abbrev pub Keeps : List (List RecordedImage) → List (ℕ × Asked) → Type 0
-Keeps processes all = (pid : ℕ) → process_images_at processes pid ≡ map recorded_image (process_images (asked_by_one all pid))
+abbrev pub RecordsCalls : List (List RecordedImage) → List (ℕ × Asked) → Type 0
+RecordsCalls processes all = (pid : ℕ) → process_images_at processes pid ≡ map recorded_image (process_images (asked_by_one all pid))
 
 -- only one process has another call
 abbrev pub IsProcessMore : List (List RecordedImage) → ℕ → Asked → List (List RecordedImage) → Type 0

@@ -12,13 +12,13 @@ module _ (program_of : Bytes → Option Program) where
       first_of (filter (λ k. (nat_lt after k && nat_le k up_to) && continues (step program_of s k).outcome) (map (λ r. r.0) s.processes))
 
 -- a turn of a process was made, with this number of steps
-abbrev pub IsMade : ℕ → ℕ → State → ℕ → State → Type 0
-IsMade most pid s count after = turn programs most pid s ≡ record { count = count; after = after }
+abbrev pub IsTurnMade : ℕ → ℕ → State → ℕ → State → Type 0
+IsTurnMade most pid s count after = turn programs most pid s ≡ record { count = count; after = after }
 
 -- a turn of a process was made, if there is one
-abbrev pub IsTaken : ℕ → State → Option ℕ → Option (ℕ × ℕ) → State → Type 0
-IsTaken most s None made after = (made ≡ None) × (after ≡ s)
-IsTaken most s (Some pid) made after = (count : ℕ) × (made ≡ Some (pid, count)) × IsMade most pid s count after
+abbrev pub IsTurnTaken : ℕ → State → Option ℕ → Option (ℕ × ℕ) → State → Type 0
+IsTurnTaken most s None made after = (made ≡ None) × (after ≡ s)
+IsTurnTaken most s (Some pid) made after = (count : ℕ) × (made ≡ Some (pid, count)) × IsTurnMade most pid s count after
 
 -- the lines of the first turns of a schedule were written
 pub record TurnsWritten (schedule : Schedule) (before after : Option Bytes) : Type 0 where

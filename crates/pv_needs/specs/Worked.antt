@@ -1,7 +1,7 @@
 -- A worked example: the demands of granted calls alone.
 use Rattle.std.specs.Prelude.{◌≡◌, Bool, true, false, List, [], ◌∷◌, codes, Option, Some, option_map, refl}
 use Rattle.pv_model.specs.Machine.{answer_bytes, Bytes, program_of, steps_of}
-use Rattle.pv_laws_worked.specs.Bundles.{lines_text}
+use Rattle.pv_laws_worked.specs.Bundles.{text_of_lines}
 use Rattle.pv_laws_worked.specs.Questions.{questions_on_literals, started}
 use Rattle.pv_laws_worked.specs.Stated.{Stated}
 use Rattle.pv_needs.specs.Granted.{lines_of_demands}
@@ -29,7 +29,7 @@ restrained =
     codes "1 7" ∷ []
 
 -- the refused open and the refused mkdir do not count
-pub refused_calls_are_left_out : demands_text true restrained ≡ Some (lines_text (
+pub refused_calls_are_left_out : demands_text true restrained ≡ Some (text_of_lines (
     codes "    1 STNT  1" ∷
     codes "    1 PLDG  stdio, calls 1, last line 5" ∷
     codes "    1 PLDG  rpath, calls 1, last line 4" ∷
@@ -38,5 +38,5 @@ pub refused_calls_are_left_out : demands_text true restrained ≡ Some (lines_te
 unfolding questions_on_literals
 refused_calls_are_left_out = refl
 
-pub record AllWorked : Type 0 where
+pub record AllNeedsWorked : Type 0 where
   pub refused_calls_are_left_out : Stated refused_calls_are_left_out

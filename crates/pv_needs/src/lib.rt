@@ -1,9 +1,9 @@
 //! Answers about a whole run: the demands of its programs on their sandboxes, and a fair schedule.
 //!
-//! `needs` runs a schedule and writes what each program needs. `asking` computes the promises and the checked walks of
-//! a call, `process_images` records them for each process image, that is, for each program that a process runs, and
+//! `needs` runs a schedule and writes the needs of each program. `asking` computes the promises and the checked walks
+//! of a call, `process_images` records them for each process image, that is, for each program that a process runs, and
 //! `writing` writes the records. `wording` puts the targets of walks in words; it reuses the last path if that is still
-//! valid (`paths`). `turns` writes a fair schedule. `worked` states what the definitions compute on small bundles.
+//! valid (`paths`). `turns` writes a fair schedule. `worked` states the values of the definitions on small bundles.
 #![tactic(auto)]
 
 mod asking;

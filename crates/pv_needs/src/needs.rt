@@ -1,14 +1,14 @@
 //! The demands of each program on its sandbox in a run.
 ghost use Rattle.std.specs.Prelude.{◌≡◌, ◌≤◌, ◌&&◌, ◌*◌, ◌^◌, ◌++◌, ℕ, List, length, replicate, IfErr, IfOk, IsErrOf, IsTrue, OnOk};
 ghost use Rattle.pv_needs.specs.Asking.{IsMoreBy};
-ghost use Rattle.pv_needs.specs.Granted.{demand, demands_in, lines_of_demands};
-ghost use Rattle.pv_needs.specs.ProcessImages.{Keeps};
+ghost use Rattle.pv_needs.specs.Granted.{demands_of_step, demands_in, lines_of_demands};
+ghost use Rattle.pv_needs.specs.ProcessImages.{RecordsCalls};
 ghost use Rattle.pv_laws_states.specs.States.{is_call};
 ghost use Rattle.pv_model.specs.Machine.{answer_bytes, Asked as AskedByDefinition, is_refused as is_refused_by_definition, call_of, program_of, process_at, steps_of};
 ghost use Rattle.pv_model.specs.Answers.Needs.{needs_lines};
 ghost use Rattle.pv_model.specs.declared.limits.TheConstants.{SCHEDULE_LINES};
 ghost use Rattle.pv_procs.specs.Turns.{CallsNext};
-ghost use Rattle.pv_session.specs.Running.{FailsBy, run_of, stepped, turn};
+ghost use Rattle.pv_session.specs.Running.{FailsBy, run_of, stepped, run_of_turn};
 ghost use Rattle.pv_session.specs.declared.session.Stop.TheVariants.{Memory};
 ghost use Rattle.pv_streams.specs.Sinks.{WritesOr};
 
@@ -56,7 +56,7 @@ fn ask_call(
     requires next { CallsNext call (process_at session.old pid) }
     requires callable { IsTrue (is_call (call_of call)) }
     ensures after { OnOk result (session.new ≡ (stepped session.old pid).after) }
-    ensures recorded { OnOk result (IsMoreBy recorded.old pid (demand granted program_of session.old pid) recorded.new) }
+    ensures recorded { OnOk result (IsMoreBy recorded.old pid (demands_of_step granted program_of session.old pid) recorded.new) }
     ensures memory { IfErr result (λ stop. stop ≡ Memory) }
 {
     let parts = session.parts();
@@ -91,7 +91,7 @@ fn ask_step(
     pid: u32,
 ) -> Result<(), Stop>
     ensures after { OnOk result (session.new ≡ (stepped session.old pid).after) }
-    ensures recorded { OnOk result (IsMoreBy recorded.old pid (demand granted program_of session.old pid) recorded.new) }
+    ensures recorded { OnOk result (IsMoreBy recorded.old pid (demands_of_step granted program_of session.old pid) recorded.new) }
     ensures memory { IfErr result (λ stop. stop ≡ Memory) }
 {
     match session.fetch(pid, texts) {
@@ -118,8 +118,8 @@ fn ask_turn(
     pid: u32,
     count: u32,
 ) -> Result<(), Stop>
-    ensures after { OnOk result (session.new ≡ (turn session.old pid count).final) }
-    ensures recorded { OnOk result ((all : List (ℕ × AskedByDefinition)) → Keeps recorded.old all → Keeps recorded.new (all ++ demands_in granted program_of (replicate count pid) session.old)) }
+    ensures after { OnOk result (session.new ≡ (run_of_turn session.old pid count).final) }
+    ensures recorded { OnOk result ((all : List (ℕ × AskedByDefinition)) → RecordsCalls recorded.old all → RecordsCalls recorded.new (all ++ demands_in granted program_of (replicate count pid) session.old)) }
     ensures memory { IfErr result (λ stop. stop ≡ Memory) }
 {
     for _ in 0..count {
@@ -136,7 +136,7 @@ fn ask_schedule(
     granted: bool,
 ) -> Result<Recorded, Stop>
     ensures after { OnOk result (session.new ≡ (run_of session.old schedule.now).final) }
-    ensures recorded { IfOk result (λ recorded. Keeps recorded (demands_in granted program_of (steps_of schedule.now) session.old)) }
+    ensures recorded { IfOk result (λ recorded. RecordsCalls recorded (demands_in granted program_of (steps_of schedule.now) session.old)) }
     ensures few { OnOk result (length (steps_of schedule.now) ≤ 2 ^ 32 * length schedule.now) }
     ensures memory { IfErr result (λ stop. stop ≡ Memory) }
 {

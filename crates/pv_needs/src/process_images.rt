@@ -2,7 +2,7 @@
 ghost use Rattle.std.specs.Prelude.{◌≡◌, ◌≤◌, ◌<◌, if◌then◌else◌, ℕ, None, [], length, IfOk, OnOk, option_to_list};
 ghost use Rattle.std.specs.List.{list_any};
 ghost use Rattle.pv_model.specs.Machine.{same_judged as same_by_definition, same_promise, all_promises, same_target as same_target_by_definition};
-ghost use Rattle.pv_needs.specs.ProcessImages.{IsProcessMore, call_more, first_walk, first_walks, index_of as index_of_target, nothing_asked, once_more, open_at, process_more, promises_more, process_images_at, target_more, walk_more, walks_more};
+ghost use Rattle.pv_needs.specs.ProcessImages.{IsProcessMore, call_more, first_recorded_walk, first_walks, index_of as index_of_target, nothing_asked, once_more, current_image_index, process_more, promises_more, process_images_at, target_with_walk, walk_more, walks_more};
 
 use pv_model::{Perms, Promise, Target};
 use pv_promises::ALL;
@@ -282,7 +282,7 @@ fn count_promises(all: &[Promise], promises: &mut [Times], needed: &[Promise], l
 impl RecordedTarget {
     // Returns the record of the first walk to a target.
     fn new(alloc: Global, walk: JudgedWalk<'_>, line: u16) -> Result<RecordedTarget, AllocError>
-        ensures { IfOk result (λ target. target ≡ first_walk line walk.entry) }
+        ensures { IfOk result (λ target. target ≡ first_recorded_walk line walk.entry) }
     {
         Ok(RecordedTarget {
             judged: RecordedWalks::new(alloc, walk)?,
@@ -295,7 +295,7 @@ impl RecordedTarget {
 
     // Adds another walk to the target.
     fn add(&mut self, permissions: Perms, line: u16)
-        ensures { self.new ≡ target_more self.old line permissions }
+        ensures { self.new ≡ target_with_walk self.old line permissions }
     {
         self.judged.permissions = self.judged.permissions.join(permissions);
         self.times.add(line);
@@ -399,7 +399,7 @@ impl ProcessImage {
 
 // Returns the index of the current process image: the last one, if it has not ended.
 fn index_of_open(process_images: &[ProcessImage]) -> Option<usize>
-    ensures { result ≡ open_at process_images.now }
+    ensures { result ≡ current_image_index process_images.now }
 {
     match process_images.last() {
         Some(process_image) if !process_image.has_ended() => Some(process_images.len() - 1),

@@ -1,6 +1,6 @@
 //! A fair schedule of a session.
 ghost use Rattle.std.specs.Prelude.{◌≡◌, ◌≤◌, ◌*◌, ℕ, IfErr, IfOk, IsErrOf, OnErr, OnOk};
-ghost use Rattle.pv_needs.specs.Turning.{IsMade, IsTaken, TurnsWritten, first_between};
+ghost use Rattle.pv_needs.specs.Turning.{IsTurnMade, IsTurnTaken, TurnsWritten, first_between};
 ghost use Rattle.pv_model.specs.Machine.{continues as continues_by_definition, next_turn, turns, program_of};
 ghost use Rattle.pv_model.specs.Answers.Turns.{schedule_text};
 ghost use Rattle.pv_session.specs.Running.{FailsBy, run_of};
@@ -27,7 +27,7 @@ fn continues(outcome: Outcome) -> bool
 
 // Makes the steps of one turn of a process, and returns their number.
 fn make_turn(alloc: Global, session: &mut Session, pid: u32, most: u32) -> Result<u32, Stop>
-    ensures made { IfOk result (λ count. IsMade most pid session.old count session.new) }
+    ensures made { IfOk result (λ count. IsTurnMade most pid session.old count session.new) }
     ensures few { IfOk result (λ count. count ≤ most) }
     ensures memory { IfErr result (λ stop. stop ≡ Memory) }
     ensures loads { OnErr result (NextLoads session.new pid) }
@@ -50,7 +50,7 @@ fn turn_between(
     most: u32,
 ) -> Result<Option<(u32, u32)>, Stop>
     requires { 1 ≤ most }
-    ensures taken { IfOk result (λ made. IsTaken most session.old (first_between program_of session.old after up_to) made session.new) }
+    ensures taken { IfOk result (λ made. IsTurnTaken most session.old (first_between program_of session.old after up_to) made session.new) }
     ensures memory { IfErr result (λ stop. stop ≡ Memory) }
     ensures loads { OnErr result ((pid : ℕ) × NextLoads session.new pid) }
 {
@@ -77,7 +77,7 @@ fn take_turn(
     most: u32,
 ) -> Result<Option<(u32, u32)>, Stop>
     requires { 1 ≤ most }
-    ensures taken { IfOk result (λ made. IsTaken most session.old (next_turn program_of last session.old) made session.new) }
+    ensures taken { IfOk result (λ made. IsTurnTaken most session.old (next_turn program_of last session.old) made session.new) }
     ensures memory { IfErr result (λ stop. stop ≡ Memory) }
     ensures loads { OnErr result ((pid : ℕ) × NextLoads session.new pid) }
 {

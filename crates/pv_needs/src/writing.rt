@@ -13,7 +13,7 @@ use pv_streams::{Failed, Sink};
 // A count in words, with the line of the last call.
 #[derive(Clone, Copy)]
 struct TimesWords<'a> {
-    // What is counted.
+    // The counted object.
     what: &'a [u8],
     // The count and the line of the last.
     times: Times,

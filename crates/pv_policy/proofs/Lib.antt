@@ -1,13 +1,13 @@
--- Lemmas of the proofs: Groups (tables of groups), Collected (the collected uses and the lines of the definition),
--- Collecting (the calls of the visited states), Fronts (lists of which the front is mapped), NextCalls (the next step of
--- a process), Nexts (lists, one element at a time), Using (what the walks of a call use),
--- Recording (a call as it is recorded).
-pub mod Groups
-pub mod Collected
-pub mod Collecting
-pub mod Fronts
+-- Lemmas of the proofs: GroupTables (tables of groups), CollectedUses (the collected uses and the lines of the
+-- definition), CollectedCalls (the calls of the visited states), MappedFronts (lists of which the front is mapped),
+-- NextCalls (the next step of a process), ListSteps (lists, one element at a time), UsedPermissions (the permissions
+-- that a walks of a call use), RecordedCalls (a call as it is recorded).
+pub mod GroupTables
+pub mod CollectedUses
+pub mod CollectedCalls
+pub mod MappedFronts
 pub mod NextCalls
-pub mod Nexts
-pub mod Using
-pub mod Recording
+pub mod ListSteps
+pub mod UsedPermissions
+pub mod RecordedCalls
 pub use Rattle.pv_needs.proofs.OfAnswers

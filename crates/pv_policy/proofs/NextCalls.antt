@@ -1,11 +1,11 @@
 -- The next step of a process is an instruction on registers, or a call.
 use Rattle.std.proofs.Common.{◌≡◌, ◌∙◌, ap, sym, Option, None, Some}
 use Rattle.pv_model.specs.declared.call.Call.{Call}
-use Rattle.pv_needs.proofs.OfAnswers.NextOnes.{register-next}
+use Rattle.pv_needs.proofs.OfAnswers.InstructionWords.{register-next}
 use Rattle.pv_model.specs.Machine.{calls_for, inside, next, Process}
 use Rattle.pv_procs.specs.Turns.{RegisterNext}
 
--- an instruction on registers is no call
+-- an instruction on registers is not a call
 pub register-not-call : (lives : Option Process) → RegisterNext lives → (me : Process) (call : Call) → lives ≡ Some me → next me ≡ calls_for call → ⊥
 register-not-call lives at me call is comes =
     let it = register-next lives at in

@@ -8,13 +8,13 @@ module _ {X Y : Type 0} (key : X → Numbers) (key_of : Y → Numbers) (start : 
   is_row_of x y = bytes_eq (key x) (key_of y)
 
   -- the rows after one more element
-  abbrev pub and_one : List Y → X → List Y
-  and_one [] x = more (start x) x ∷ []
-  and_one (y ∷ ys) x = if is_row_of x y then more y x ∷ ys else y ∷ and_one ys x
+  abbrev pub and_element : List Y → X → List Y
+  and_element [] x = more (start x) x ∷ []
+  and_element (y ∷ ys) x = if is_row_of x y then more y x ∷ ys else y ∷ and_element ys x
 
   -- the rows after more elements
   abbrev pub and_more : List Y → List X → List Y
-  and_more ys xs = fold and_one ys xs
+  and_more ys xs = fold and_element ys xs
 
   -- the row with the key of an element
   abbrev pub row_at : List Y → X → Option ℕ

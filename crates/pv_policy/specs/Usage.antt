@@ -9,7 +9,7 @@ use Rattle.pv_model.specs.Machine.{permissions_lacked, AnswerLine, answer_line, 
 use Rattle.pv_model.specs.Answers.Explain.{need_text}
 use Rattle.pv_model.specs.Answers.Explore.{by_line}
 use Rattle.pv_model.specs.Answers.Observed.{is_pledge}
-use Rattle.pv_model.specs.Answers.Policy.{entries_held, idle_line, idle_permission_line, is_none_of, is_promised, is_restricted_call, permissions_text, permissions_used, promises_in_use}
+use Rattle.pv_model.specs.Answers.Policy.{entries_held, idle_line, idle_permission_line, is_none_of, is_promised, is_restricted_call, granted_text, permissions_used, promises_in_use}
 use Rattle.pv_model.specs.Answers.ProgramNames.{program_line}
 use Rattle.pv_model.specs.Promise.{promise_bit}
 use Rattle.pv_needs.specs.Asking.{either_need, has_need, promises_of}
@@ -17,7 +17,7 @@ use Rattle.pv_policy.specs.Groups
 
 -- ---- a call
 
--- a call as it is recorded: the bytes of its line BY, its process and program, and what it asked; held and used are the
+-- a call as it is recorded: the bytes of its line BY, its process and program, and its demands; held and used are the
 -- permissions at the entries of a table in force
 pub record Noted : Type 0 where
   pub by : Bytes
@@ -95,8 +95,8 @@ promise_by needed either n u = record u {
   held = u.held || is_held n.pledged n.call u.promise;
 }
 
-abbrev pub promise_more : Noted → UsedPromise → UsedPromise
-promise_more n u = promise_by (promises_of n.call) (has_need either_need n.call) n u
+abbrev pub used_promise_with : Noted → UsedPromise → UsedPromise
+used_promise_with n u = promise_by (promises_of n.call) (has_need either_need n.call) n u
 
 abbrev pub unused_promise : Promise → UsedPromise
 unused_promise p = record { promise = p; alone = None; either = None; needed = false; held = false }
@@ -115,12 +115,12 @@ idle_promise u = if u.held && not u.needed then idle_line (promise_name u.promis
 -- ---- targets
 
 -- a walk of a call, with the bytes of its line BY
-pub record Walked : Type 0 where
+pub record RecordedWalk : Type 0 where
   pub by : Bytes
   pub pid : ℕ
   pub walk : Judged
 
-abbrev pub walked : Bytes → ℕ → Judged → Walked
+abbrev pub walked : Bytes → ℕ → Judged → RecordedWalk
 walked by pid w = record { by = by; pid = pid; walk = w }
 
 -- the permissions asked at a target in words, and the lines of the walks that asked for new ones
@@ -129,35 +129,35 @@ pub record UsedTarget : Type 0 where
   pub permissions : Perms
   pub lines : Bytes
 
-abbrev pub new_bytes : Bytes → ℕ → Perms → Bytes → Bytes
-new_bytes by pid new words = if is_none_of new then [] else by ++ answer_line_bytes (answer_line pid (codes "UNVL") (permissions_text new words))
+abbrev pub new_permission_bytes : Bytes → ℕ → Perms → Bytes → Bytes
+new_permission_bytes by pid new words = if is_none_of new then [] else by ++ answer_line_bytes (answer_line pid (codes "UNVL") (granted_text new words))
 
-abbrev pub walked_words : Walked → Numbers
+abbrev pub walked_words : RecordedWalk → Numbers
 walked_words w = w.walk.words
 
-abbrev pub target_words : UsedTarget → Numbers
-target_words t = t.words
+abbrev pub used_target_words : UsedTarget → Numbers
+used_target_words t = t.words
 
-abbrev pub unused_target : Walked → UsedTarget
+abbrev pub unused_target : RecordedWalk → UsedTarget
 unused_target w = record { words = w.walk.words; permissions = no_permissions; lines = [] }
 
-abbrev pub target_more : UsedTarget → Walked → UsedTarget
-target_more t w = record {
+abbrev pub used_target_with : UsedTarget → RecordedWalk → UsedTarget
+used_target_with t w = record {
   words = t.words;
   permissions = join_permissions t.permissions w.walk.permissions;
-  lines = t.lines ++ new_bytes w.by w.pid (permissions_lacked t.permissions w.walk.permissions) t.words;
+  lines = t.lines ++ new_permission_bytes w.by w.pid (permissions_lacked t.permissions w.walk.permissions) t.words;
 }
 
-abbrev pub and_walk : List UsedTarget → Walked → List UsedTarget
-and_walk ts w = Groups.and_one walked_words target_words unused_target target_more ts w
+abbrev pub and_walk : List UsedTarget → RecordedWalk → List UsedTarget
+and_walk ts w = Groups.and_element walked_words used_target_words unused_target used_target_with ts w
 
-abbrev pub and_walks : List UsedTarget → List Walked → List UsedTarget
-and_walks ts ws = Groups.and_more walked_words target_words unused_target target_more ts ws
+abbrev pub and_walks : List UsedTarget → List RecordedWalk → List UsedTarget
+and_walks ts ws = Groups.and_more walked_words used_target_words unused_target used_target_with ts ws
 
 -- ---- permissions
 
-abbrev pub words_of : Granted → Numbers
-words_of g = g.0
+abbrev pub granted_words : Granted → Numbers
+granted_words g = g.0
 
 abbrev pub nothing_at : Granted → Granted
 nothing_at g = (g.0, no_permissions)
@@ -166,21 +166,21 @@ abbrev pub granted_more : Granted → Granted → Granted
 granted_more had g = (had.0, join_permissions had.1 g.1)
 
 abbrev pub and_granted : List Granted → Granted → List Granted
-and_granted gs g = Groups.and_one words_of words_of nothing_at granted_more gs g
+and_granted gs g = Groups.and_element granted_words granted_words nothing_at granted_more gs g
 
 abbrev pub and_all_granted : List Granted → List Granted → List Granted
-and_all_granted gs more = Groups.and_more words_of words_of nothing_at granted_more gs more
+and_all_granted gs more = Groups.and_more granted_words granted_words nothing_at granted_more gs more
 
 abbrev pub permissions_in : Option Granted → Perms
 permissions_in None = no_permissions
 permissions_in (Some g) = g.1
 
 -- the permissions at words
-abbrev pub permissions_at : List Granted → Bytes → Perms
-permissions_at gs words = permissions_in (find (λ g. bytes_eq g.0 words) gs)
+abbrev pub permissions_granted_at : List Granted → Bytes → Perms
+permissions_granted_at gs words = permissions_in (find (λ g. bytes_eq g.0 words) gs)
 
 abbrev pub idle_granted : List Granted → Granted → List AnswerLine
-idle_granted used g = idle_permission_line (permissions_lacked (permissions_at used g.0) g.1) g.0
+idle_granted used g = idle_permission_line (permissions_lacked (permissions_granted_at used g.0) g.1) g.0
 
 -- ---- a program
 
@@ -206,14 +206,14 @@ unused_by n = unused n.program
 abbrev pub usage_more : Usage → Noted → Usage
 usage_more u n = record {
   program = u.program;
-  promises = map (promise_more n) u.promises;
+  promises = map (used_promise_with n) u.promises;
   targets = and_walks u.targets (map (walked n.by n.pid) n.walks);
   granted = and_all_granted u.granted n.held;
   used = and_all_granted u.used n.used;
 }
 
 abbrev pub and_call : List Usage → Noted → List Usage
-and_call us n = Groups.and_one noted_key usage_key unused_by usage_more us n
+and_call us n = Groups.and_element noted_key usage_key unused_by usage_more us n
 
 abbrev pub and_calls : List Usage → List Noted → List Usage
 and_calls us ns = Groups.and_more noted_key usage_key unused_by usage_more us ns

@@ -1,13 +1,13 @@
-//! The walks of a call, and what they use of a table.
+//! The walks of a call, and the permissions of a table that they use.
 ghost use Rattle.std.specs.Prelude.{◌≡◌, ◌<◌, [], length, map, option_map, option_to_list, slice_get, IfOk, IsSome, IsTrue, OnOk, Some};
 ghost use Rattle.pv_needs.specs.OfCallsPath.Ends.{end_begun};
 ghost use Rattle.pv_laws_states.specs.States.{IsValid};
 ghost use Rattle.pv_model.specs.Machine.{target_words as words_of_target, entries_of_table, call_of, walk_of, Process, process_at, is_directory_at};
-ghost use Rattle.pv_model.specs.Answers.Policy.{place_of};
+ghost use Rattle.pv_model.specs.Answers.Policy.{place_of_target};
 ghost use Rattle.pv_model.specs.CallRef.{walks_in};
 ghost use Rattle.pv_needs.specs.Asking.{begun_walks, judged_begun, walks_begun};
-ghost use Rattle.pv_policy.specs.Asked.{Has, HasMore, entry_granted, used_in};
-ghost use Rattle.pv_unveil.specs.Up.{directory_of};
+ghost use Rattle.pv_policy.specs.Asked.{Has, HasMore, entry_granted, used_by_walk};
+ghost use Rattle.pv_unveil.specs.Up.{directory_of_place};
 
 use crate::noted::{AskedWalk, Granted};
 use pv_model::{CallRef, Perms, Target, Walk, Walks};
@@ -74,7 +74,7 @@ pub(crate) fn entries_of(
 
 // Returns a place whose target is the given one.
 fn place_of(target: &Target) -> PlaceRef<'_>
-    ensures { result ≡ place_of target.now }
+    ensures { result ≡ place_of_target target.now }
 {
     match target {
         Target::Directory(node) => PlaceRef::of_node(*node),
@@ -89,8 +89,8 @@ fn used_by(
     table: &Table,
     walk: &AskedWalk,
 ) -> Result<Option<Granted>, AllocError>
-    requires { IsTrue (is_directory_at tree.now.tree (directory_of (place_of walk.now.target))) }
-    ensures { IfOk result (λ used. option_to_list used ≡ used_in tree.now.tree table.now.table walk.now) }
+    requires { IsTrue (is_directory_at tree.now.tree (directory_of_place (place_of_target walk.now.target))) }
+    ensures { IfOk result (λ used. option_to_list used ≡ used_by_walk tree.now.tree table.now.table walk.now) }
 {
     let place = place_of(&walk.target);
     match table.governing(tree, &place) {

@@ -1,6 +1,6 @@
 //! Permissions at targets in words.
 ghost use Rattle.std.specs.Prelude.{◌≡◌, bytes_eq, position, OnOk};
-ghost use Rattle.pv_policy.specs.Usage.{and_all_granted, and_granted, permissions_at};
+ghost use Rattle.pv_policy.specs.Usage.{and_all_granted, and_granted, permissions_granted_at};
 
 use crate::noted::Granted;
 use pv_model::Perms;
@@ -66,7 +66,7 @@ pub(crate) fn add_all_granted(
 
 /// Returns the permissions at a target in words.
 pub(crate) fn permissions_at(rows: &[Granted], words: &[u8]) -> Perms
-    ensures { result ≡ permissions_at rows.now words.now }
+    ensures { result ≡ permissions_granted_at rows.now words.now }
 {
     for row in rows {
         if row.words.as_slice() == words {

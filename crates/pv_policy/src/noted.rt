@@ -41,7 +41,7 @@ impl Model for Granted {
     ghost view = { λ g. (g.words.items, g.permissions) };
 }
 
-/// A call of a process in a state, and what it asked.
+/// A call of a process in a state, and its demands.
 #[derive(Clone, Copy)]
 pub(crate) struct NotedCall<'a> {
     /// The line BY of its step.

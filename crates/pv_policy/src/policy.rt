@@ -104,7 +104,7 @@ fn collect_process(
 }
 
 // Adds the next calls of some live processes in a visited state.
-#[tactic(auto, using(crate::proofs::Collecting::calls_next, crate::proofs::Collecting::calls_all))]
+#[tactic(auto, using(crate::proofs::CollectedCalls::calls_next, crate::proofs::CollectedCalls::calls_all))]
 fn collect_processes(
     alloc: Global,
     granted: bool,
@@ -169,7 +169,7 @@ fn collect_state(
 }
 
 // Returns the uses of all programs by the calls of the visited states.
-#[tactic(auto, using(crate::proofs::Collecting::states_next, crate::proofs::Collecting::states_all))]
+#[tactic(auto, using(crate::proofs::CollectedCalls::states_next, crate::proofs::CollectedCalls::states_all))]
 fn collect(
     alloc: Global,
     granted: bool,
@@ -206,9 +206,10 @@ fn bytes_of(
     }
 }
 
-/// Writes what each program needs of its sandbox under any schedule, and what it holds and never uses. The search, of the
-/// given kind, visits at most `states` states, in breadth-first order from the first state of a machine. For each program of which a step
-/// is a call, in the order of its first call, it writes a line PROG, and then:
+/// Writes the needs of each program under any schedule, and the promises and permissions that it holds and never uses.
+/// The search, of the given kind, visits at most `states` states, in breadth-first order from the first state of a
+/// machine. For each program of which a step is a call, in the order of its first call, it writes a line PROG, and
+/// then:
 ///
 /// - PLDG, for each promise that a call needs: the promise and the line of the first such call;
 /// - UNVL, for each walk that asked for permissions at a target in words for which no earlier walk had asked: those

@@ -5,7 +5,7 @@ ghost use Rattle.std.specs.Option.{option_or};
 ghost use Rattle.pv_model.specs.Machine.{same_promise, call_of};
 ghost use Rattle.pv_model.specs.Answers.Policy.{promises_in_use};
 ghost use Rattle.pv_policy.specs.Noting.{bytes_in, noted_in};
-ghost use Rattle.pv_policy.specs.Usage.{first_bytes, is_held, need_bytes, promise_by, promise_more, unused_promise};
+ghost use Rattle.pv_policy.specs.Usage.{first_bytes, is_held, need_bytes, promise_by, used_promise_with, unused_promise};
 ghost use Rattle.pv_promises.specs.Pledge.{bits_of};
 
 use crate::noted::NotedCall;
@@ -167,7 +167,7 @@ pub(crate) fn add_call(
     uses: &mut [PromiseUse],
     call: &NotedCall<'_>,
 ) -> Result<(), AllocError>
-    ensures { OnOk result (uses.new ≡ map (promise_more (noted_in call.now)) uses.old) }
+    ensures { OnOk result (uses.new ≡ map (used_promise_with (noted_in call.now)) uses.old) }
 {
     let needed = promises_of(call.call);
     add_to_each(alloc, uses, call, needed, needs_either(call.call))

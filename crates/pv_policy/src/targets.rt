@@ -1,7 +1,7 @@
 //! The targets at which the walks of a program's calls were checked.
 ghost use Rattle.std.specs.Prelude.{◌≡◌, [], bytes_eq, map, position, IfOk, OnOk};
 ghost use Rattle.pv_model.specs.Machine.{permissions_lacked, no_permissions};
-ghost use Rattle.pv_policy.specs.Usage.{and_walk, and_walks, target_more, walked};
+ghost use Rattle.pv_policy.specs.Usage.{and_walk, and_walks, used_target_with, walked};
 
 use crate::noted::AskedWalk;
 use crate::text::push_new;
@@ -72,7 +72,7 @@ impl TargetUse {
         pid: u32,
         walk: &AskedWalk,
     ) -> Result<(), AllocError>
-        ensures { OnOk result (self.new ≡ target_more self.old (walked by.now pid walk.now)) }
+        ensures { OnOk result (self.new ≡ used_target_with self.old (walked by.now pid walk.now)) }
     {
         let new = lacked(self.permissions, walk.permissions);
         push_new(alloc, &mut self.lines, by, pid, new, &self.words)?;

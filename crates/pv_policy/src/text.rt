@@ -1,8 +1,8 @@
 //! The lines of a program, as bytes.
 ghost use Rattle.std.specs.Prelude.{◌≡◌, ◌++◌, codes, IfOk, OnOk};
 ghost use Rattle.pv_model.specs.Machine.{answer_line, answer_line_bytes};
-ghost use Rattle.pv_model.specs.Answers.Policy.{permissions_text};
-ghost use Rattle.pv_policy.specs.Usage.{need_bytes, new_bytes};
+ghost use Rattle.pv_model.specs.Answers.Policy.{granted_text};
+ghost use Rattle.pv_policy.specs.Usage.{need_bytes, new_permission_bytes};
 
 use pv_model::Perms;
 use pv_needs::answers::{Decimal, Letters, Line, Plain, text_of};
@@ -41,7 +41,7 @@ fn walk_lines(
     new: Perms,
     words: &[u8],
 ) -> Result<Vec<u8>, AllocError>
-    ensures { IfOk result (λ bytes. bytes.items ≡ by.now ++ answer_line_bytes (answer_line pid (codes "UNVL") (permissions_text new words.now))) }
+    ensures { IfOk result (λ bytes. bytes.items ≡ by.now ++ answer_line_bytes (answer_line pid (codes "UNVL") (granted_text new words.now))) }
 {
     let line = Line {
         pid,
@@ -65,7 +65,7 @@ pub(crate) fn push_new(
     new: Perms,
     words: &[u8],
 ) -> Result<(), AllocError>
-    ensures { OnOk result (lines.new.items ≡ lines.old.items ++ new_bytes by.now pid new words.now) }
+    ensures { OnOk result (lines.new.items ≡ lines.old.items ++ new_permission_bytes by.now pid new words.now) }
 {
     if Perms::NONE.covers(new) {
         return Ok(());

@@ -12,8 +12,8 @@ use pv_script::CallTexts;
 use std::alloc::Global;
 
 /// Makes the next step of a process if it is a call, and returns the number of walks that the call began. Returns `None`
-/// if the call does not count: only granted calls do, and a promise or a table refused it. If the next step is no call,
-/// returns `None` too.
+/// if the call does not count: only granted calls do, and a promise or a table refused it. If the next step is not a
+/// call, returns `None` too.
 ///
 /// # Errors
 ///

@@ -115,7 +115,7 @@ fn push_idle_permissions(
     Ok(())
 }
 
-// Appends the lines of what is held and never used, if the search is complete.
+// Appends the lines of the promises and permissions that are held and never used, if the search is complete.
 fn push_idle(out: &mut Gathered, complete: bool, used: &ProgramUse) -> Result<(), AllocError>
     ensures { OnOk result (out.new.bytes.items ≡ out.old.bytes.items ++ answer_bytes (idle_of complete used.now)) }
 {

@@ -1,13 +1,13 @@
--- Lemmas of processes on their slots: Finding and Keeping (finding and changing a slot), Steps (lists that are
--- processed element by element); then by call: Forks, Ends, Reaps, Loads, and Turning (the context of a process
--- advances).
-pub mod Ends
-pub mod Finding
-pub mod Keeping
-pub mod Steps
-pub mod Forks
-pub mod Reaps
-pub mod Loads
-pub mod Turning
+-- Lemmas of processes on their slots: SlotLookups and SlotInvariant (finding and changing a slot), ElementSteps (lists
+-- that are processed element by element); then by call: ForkedSlots, EndedSlots, ReapedSlots, LoadedPrograms, and
+-- ContextSteps (the context of a process advances).
+pub mod EndedSlots
+pub mod SlotLookups
+pub mod SlotInvariant
+pub mod ElementSteps
+pub mod ForkedSlots
+pub mod ReapedSlots
+pub mod LoadedPrograms
+pub mod ContextSteps
 pub use Rattle.pv_unveil.proofs as OfUnveil
 pub use Rattle.pv_unveil.proofs.OfTree

@@ -29,16 +29,16 @@ ended_process (Some (ended_record parent status)) = Some (parent, status)
 ended_process _ = None
 
 -- with another live process under a number
-abbrev pub with_process : ProcessTable → ℕ → Process → ProcessTable
-with_process ps pid p = record ps { processes = put nat_cmp pid (live p) ps.processes }
+abbrev pub table_with_process : ProcessTable → ℕ → Process → ProcessTable
+table_with_process ps pid p = record ps { processes = put nat_cmp pid (live p) ps.processes }
 
-abbrev pub update_live : ProcessTable → ℕ → (Process → Process) → Option Process → ProcessTable
-update_live ps pid f None = ps
-update_live ps pid f (Some p) = with_process ps pid (f p)
+abbrev pub updated_live : ProcessTable → ℕ → (Process → Process) → Option Process → ProcessTable
+updated_live ps pid f None = ps
+updated_live ps pid f (Some p) = table_with_process ps pid (f p)
 
 -- with a live process changed
-abbrev pub update : ProcessTable → ℕ → (Process → Process) → ProcessTable
-update ps pid f = update_live ps pid f (process_in ps pid)
+abbrev pub updated_table : ProcessTable → ℕ → (Process → Process) → ProcessTable
+updated_table ps pid f = updated_live ps pid f (process_in ps pid)
 
 -- process 1 alone, with this program
 abbrev pub first_processes : Program → ProcessTable

@@ -11,8 +11,8 @@ abbrev pub shared_program : Option Shared → Program
 shared_program None = []
 shared_program (Some s) = s.program
 
-abbrev pub program_at : List Shared → ℕ → Program
-program_at programs k = shared_program (slice_get programs k)
+abbrev pub shared_program_at : List Shared → ℕ → Program
+shared_program_at programs k = shared_program (slice_get programs k)
 
 abbrev pub user_count : Option Shared → ℕ
 user_count None = 0
@@ -38,19 +38,19 @@ process_of program slot = record {
   parent = slot.parent;
 }
 
-abbrev pub entry_by : ProcessSlot → Program → Option ℕ → ProcessRecord
-entry_by slot program None = live (process_of program slot)
-entry_by slot program (Some status) = ended_record slot.parent status
+abbrev pub record_by_slot : ProcessSlot → Program → Option ℕ → ProcessRecord
+record_by_slot slot program None = live (process_of program slot)
+record_by_slot slot program (Some status) = ended_record slot.parent status
 
 -- the record of a slot
-abbrev pub entry_of : List Shared → ProcessSlot → ProcessRecord
-entry_of programs slot = entry_by slot (program_at programs slot.program) slot.status
+abbrev pub slot_record : List Shared → ProcessSlot → ProcessRecord
+slot_record programs slot = record_by_slot slot (shared_program_at programs slot.program) slot.status
 
-abbrev pub entries_of : List Shared → List ProcessSlot → List (ℕ × ProcessRecord)
-entries_of programs slots = map (λ slot. (slot.number, entry_of programs slot)) slots
+abbrev pub slot_records : List Shared → List ProcessSlot → List (ℕ × ProcessRecord)
+slot_records programs slots = map (λ slot. (slot.number, slot_record programs slot)) slots
 
-abbrev pub table_of : List ProcessSlot → List Shared → ℕ → ProcessTable
-table_of slots programs last = record { processes = entries_of programs slots; last_process = last }
+abbrev pub process_table_of : List ProcessSlot → List Shared → ℕ → ProcessTable
+process_table_of slots programs last = record { processes = slot_records programs slots; last_process = last }
 
 -- whether a slot has a live process with program k
 abbrev pub uses : ℕ → ProcessSlot → Bool
@@ -69,7 +69,7 @@ is_numbered last slot = nat_le 1 slot.number && nat_le slot.number last
 
 -- the numbers ascend, from 1 to the last that was assigned; each slot refers to a slot of a program; and the users of a
 -- program are the live processes that have it
-pub record IsConsistent (slots : List ProcessSlot) (programs : List Shared) (last_number : ℕ) : Type 0 where
+pub record AreConsistentSlots (slots : List ProcessSlot) (programs : List Shared) (last_number : ℕ) : Type 0 where
   pub ascending : ascends slots ≡ true
   pub numbers : list_all (is_numbered last_number) slots ≡ true
   pub last : last_number ≤ LAST_PROCESS

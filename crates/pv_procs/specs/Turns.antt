@@ -6,7 +6,7 @@ use Rattle.pv_script.specs.Context.{Context, is_inside}
 use Rattle.pv_script.specs.Passing.{Passes}
 use Rattle.pv_procs.specs.declared.processes.Fetched.{Fetched}
 use Rattle.pv_procs.specs.declared.processes.Fetched.TheVariants.{Gone, Register, Call}
-use Rattle.pv_procs.specs.ProcessTable.{ProcessTable, process_in, with_process}
+use Rattle.pv_procs.specs.ProcessTable.{ProcessTable, process_in, table_with_process}
 
 abbrev pub context_of : Process → Context
 context_of p = record { line = p.line; registers = p.registers; buffer = p.buffer }
@@ -35,11 +35,11 @@ pub record Moves (by : Process → Process → Type 0) (pid : ℕ) (old new : Pr
   pub lives : process_in old pid ≡ Some me
   pub after : Process
   pub step : by me after
-  pub only : new ≡ with_process old pid after
+  pub only : new ≡ table_with_process old pid after
 
 -- the next instruction on registers or jump of a live process was executed
-abbrev pub Performs : ℕ → ProcessTable → ProcessTable → Type 0
-Performs pid old new = Moves (λ me after. next me ≡ inside after) pid old new
+abbrev pub PerformsInside : ℕ → ProcessTable → ProcessTable → Type 0
+PerformsInside pid old new = Moves (λ me after. next me ≡ inside after) pid old new
 
 -- the next n instructions on registers and jumps of a live process were executed; nothing changes if n is 0
 abbrev pub PassesIn : ℕ → ℕ → ProcessTable → ProcessTable → Type 0
@@ -49,5 +49,5 @@ PassesIn (suc n) pid old new = Moves (Passes (suc n)) pid old new
 -- the next step of a process was executed if it is an instruction on registers or a jump; otherwise nothing changed
 abbrev pub Registered : Fetched → ℕ → ProcessTable → ProcessTable → Type 0
 Registered Gone pid old new = (process_in old pid ≡ None) × (new ≡ old)
-Registered Register pid old new = Performs pid old new
+Registered Register pid old new = PerformsInside pid old new
 Registered (Call call) pid old new = CallsNext call (process_in old pid) × (new ≡ old)

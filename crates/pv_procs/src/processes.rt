@@ -61,18 +61,18 @@ impl Model for Processes {
     ghost Value = { ProcessTable };
 
     ghost use Rattle.std.specs.Prelude.{length, vec_capacity};
-    ghost use Rattle.pv_procs.specs.Slots.{table_of, IsConsistent, IsRoomy};
+    ghost use Rattle.pv_procs.specs.Slots.{process_table_of, AreConsistentSlots, IsRoomy};
 
-    ghost view = { λ t. table_of t.slots.items t.programs.items t.last };
+    ghost view = { λ t. process_table_of t.slots.items t.programs.items t.last };
 
-    ghost invariant = { λ t. IsConsistent t.slots.items t.programs.items t.last
+    ghost invariant = { λ t. AreConsistentSlots t.slots.items t.programs.items t.last
         × IsRoomy (length t.slots.items) (length t.spare.items) (vec_capacity t.slots) (vec_capacity t.spare) };
 }
 
 impl Processes {
     ghost use Rattle.pv_procs.specs.Lent.{LendsRecord};
     ghost use Rattle.pv_procs.specs.Parts.{record_of};
-    ghost use Rattle.pv_procs.specs.ProcessTable.{ended_process, number_after, IsProcessTable, state_with, process_in, with_process, update, first_processes, after_inside};
+    ghost use Rattle.pv_procs.specs.ProcessTable.{ended_process, number_after, IsProcessTable, state_with, process_in, table_with_process, updated_table, first_processes, after_inside};
     ghost use Rattle.pv_procs.specs.Reaping.{waited};
     ghost use Rattle.pv_procs.specs.Turns.{AwaitsCall, IsFetched, PassesIn, Registered};
 
@@ -259,7 +259,7 @@ impl Processes {
     /// with `record` before this call.
     pub fn load(&mut self, pid: u32, program: Program)
         requires { IsSome (process_in self.old pid) }
-        ensures { (s : State) → self.new ≡ update self.old pid (λ me. with_program s pid me program) }
+        ensures { (s : State) → self.new ≡ updated_table self.old pid (λ me. with_program s pid me program) }
     {
         let k = live_index(&self.slots, pid);
         let slot = &mut self.slots[k];
@@ -354,7 +354,7 @@ impl Processes {
     /// Advances a live process to its next line, at most to the one after the last.
     pub fn advance(&mut self, pid: u32)
         requires { IsSome (process_in self.old pid) }
-        ensures { self.new ≡ update self.old pid at_next_line }
+        ensures { self.new ≡ updated_table self.old pid at_next_line }
     {
         let k = live_index(&self.slots, pid);
         let slot = &mut self.slots[k];
@@ -366,7 +366,7 @@ impl Processes {
     /// there is no error.
     pub fn report(&mut self, pid: u32, value: i32, error: u16)
         requires { IsSome (process_in self.old pid) }
-        ensures { self.new ≡ update self.old pid (λ p. with_result p value error) }
+        ensures { self.new ≡ updated_table self.old pid (λ p. with_result p value error) }
     {
         let k = live_index(&self.slots, pid);
         let slot = &mut self.slots[k];
@@ -377,7 +377,7 @@ impl Processes {
     pub fn put_front(&mut self, pid: u32, bytes: &[u8])
         requires live { IsSome (process_in self.old pid) }
         requires size { length bytes.now ≤ BUFFER }
-        ensures { self.new ≡ update self.old pid (with_front bytes.now) }
+        ensures { self.new ≡ updated_table self.old pid (with_front bytes.now) }
     {
         let k = live_index(&self.slots, pid);
         let slot = &mut self.slots[k];

@@ -1,6 +1,6 @@
 //! Programs that processes share.
 ghost use Rattle.std.specs.Prelude.{◌≡◌, ◌≢◌, ℕ, ◌+◌, ◌<◌, ◌==◌, [], ◌∷◌, replicate, length, position, slice_get, slice_set, vec_len, IfOk, OnOk};
-ghost use Rattle.pv_procs.specs.Slots.{users_at, program_at};
+ghost use Rattle.pv_procs.specs.Slots.{users_at, shared_program_at};
 
 use pv_model::limits::PROCESSES;
 use pv_script::Program;
@@ -56,7 +56,7 @@ pub(crate) fn unreference(programs: &mut [Shared], k: usize)
     requires used { 0 < users_at programs.old k }
     ensures users { users_at programs.new k + 1 ≡ users_at programs.old k }
     ensures other_users { (j : ℕ) → j ≢ k → users_at programs.new j ≡ users_at programs.old j }
-    ensures programs { (j : ℕ) → program_at programs.new j ≡ program_at programs.old j }
+    ensures programs { (j : ℕ) → shared_program_at programs.new j ≡ shared_program_at programs.old j }
 {
     programs[k].users -= 1;
 }
@@ -67,7 +67,7 @@ pub(crate) fn take_up(programs: &mut [Shared], k: usize)
     requires few { users_at programs.old k < PROCESSES }
     ensures users { users_at programs.new k ≡ users_at programs.old k + 1 }
     ensures other_users { (j : ℕ) → j ≢ k → users_at programs.new j ≡ users_at programs.old j }
-    ensures programs { (j : ℕ) → program_at programs.new j ≡ program_at programs.old j }
+    ensures programs { (j : ℕ) → shared_program_at programs.new j ≡ shared_program_at programs.old j }
 {
     programs[k].users += 1;
 }

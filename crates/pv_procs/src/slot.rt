@@ -7,7 +7,7 @@ ghost use Rattle.pv_procs.specs.declared.shared.Shared.{Shared};
 ghost use Rattle.pv_procs.specs.Children.{child_slot};
 ghost use Rattle.pv_procs.specs.Parts.{first_record};
 ghost use Rattle.std.specs.List.{list_any, HoldsAt};
-ghost use Rattle.pv_procs.specs.Slots.{is_ended_child, ascends, entries_of};
+ghost use Rattle.pv_procs.specs.Slots.{is_ended_child, ascends, slot_records};
 
 use crate::record::Stored;
 use pv_model::limits::PROCESSES;
@@ -216,7 +216,7 @@ pub(crate) fn ended_child_of(slots: &[ProcessSlot], pid: u32) -> Option<usize>
 // Returns whether a process is live.
 pub(crate) fn is_live(slots: &[ProcessSlot], pid: u32) -> bool
     requires { ascends slots.now ≡ true }
-    ensures { (programs : List Shared) → result ≡ is_some (live_process (find nat_cmp pid (entries_of programs slots.now))) }
+    ensures { (programs : List Shared) → result ≡ is_some (live_process (find nat_cmp pid (slot_records programs slots.now))) }
 {
     match index_of(slots, pid) {
         Some(k) => slots[k].status.is_none(),
@@ -229,7 +229,7 @@ pub(crate) fn index_of_live(slots: &[ProcessSlot], pid: u32) -> Option<usize>
     requires { ascends slots.now ≡ true }
     ensures slot { IfSome result (λ k. position (λ slot. slot.number == pid) slots.now ≡ Some k) }
     ensures live { IfSome result (λ k. HoldsAt (λ slot. slot.status ≡ None) slots.now k) }
-    ensures none { result ≡ None → (programs : List Shared) → live_process (find nat_cmp pid (entries_of programs slots.now)) ≡ None }
+    ensures none { result ≡ None → (programs : List Shared) → live_process (find nat_cmp pid (slot_records programs slots.now)) ≡ None }
 {
     let k = index_of(slots, pid)?;
     let slot = &slots[k];
@@ -243,7 +243,7 @@ pub(crate) fn index_of_live(slots: &[ProcessSlot], pid: u32) -> Option<usize>
 pub(crate) fn adopter(slots: &[ProcessSlot]) -> u32
     requires { ascends slots.now ≡ true }
     ensures { (programs : List Shared) → result
-        ≡ (if is_some (live_process (find nat_cmp 1 (entries_of programs slots.now))) then 1 else 0) }
+        ≡ (if is_some (live_process (find nat_cmp 1 (slot_records programs slots.now))) then 1 else 0) }
 {
     if is_live(slots, 1) { 1 } else { 0 }
 }

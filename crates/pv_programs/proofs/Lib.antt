@@ -1,4 +1,4 @@
--- Lemmas about programs: Appending (numbers in sequence), Named (the first name of a program).
-pub mod Appending
-pub mod Named
+-- Lemmas about programs: AppendedNumbers (numbers in sequence), FirstNames (the first name of a program).
+pub mod AppendedNumbers
+pub mod FirstNames
 pub use Rattle.pv_answers.proofs as OfAnswers

@@ -3,5 +3,5 @@ use Rattle.std.specs.Prelude.{◌≡◌, ◌++◌}
 use Rattle.pv_model.specs.Machine.{Numbers}
 
 -- numbers are appended
-pub record Appends (ns old new : Numbers) : Type 0 where
+pub record AppendsNumbers (ns old new : Numbers) : Type 0 where
   pub is : new ≡ old ++ ns

@@ -29,18 +29,18 @@ first_some f [] = None
 first_some f (x ∷ xs) = or_next (f x) (first_some f xs)
 
 -- a path that continues below a name
-abbrev pub below : Bytes → Option Bytes → Option Bytes
-below name path = option_map (λ rest. codes "/" ++ name ++ rest) path
+abbrev pub below_name : Bytes → Option Bytes → Option Bytes
+below_name name path = option_map (λ rest. codes "/" ++ name ++ rest) path
 
 module _ (holds : ℕ → Bool) (t : Tree) where
   -- the path from a node to the first node that satisfies the condition, at most `depth` names long
   abbrev pub first_within : ℕ → ℕ → Option Bytes
   first_within zero n = None
-  first_within (suc depth) n = if holds n then Some [] else first_some (λ e. below e.0 (first_within depth e.1)) (entries_at t n)
+  first_within (suc depth) n = if holds n then Some [] else first_some (λ e. below_name e.0 (first_within depth e.1)) (entries_at t n)
 
   -- the same from the entries of a directory
   abbrev pub first_under : ℕ → Entries → Option Bytes
-  first_under depth es = first_some (λ e. below e.0 (first_within depth e.1)) es
+  first_under depth es = first_some (λ e. below_name e.0 (first_within depth e.1)) es
 
 -- ---- the text
 

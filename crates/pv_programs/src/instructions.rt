@@ -1,7 +1,7 @@
 //! Instructions as lists of numbers.
 ghost use Rattle.std.specs.Prelude.{◌≡◌, OnOk};
 ghost use Rattle.pv_model.specs.Machine.{instruction_numbers};
-ghost use Rattle.pv_programs.specs.Appending.{Appends};
+ghost use Rattle.pv_programs.specs.Appending.{AppendsNumbers};
 
 use crate::numbers::Numbered;
 use pv_model::Instruction;
@@ -17,7 +17,7 @@ pub(crate) fn push_instruction(
     out: &mut Vec<u64>,
     instruction: &Instruction,
 ) -> Result<(), AllocError>
-    ensures { OnOk result (Appends (instruction_numbers instruction.now) out.old.items out.new.items) }
+    ensures { OnOk result (AppendsNumbers (instruction_numbers instruction.now) out.old.items out.new.items) }
 {
     match instruction {
         Instruction::Set(register, number) => (0u64, register, number).push(out),

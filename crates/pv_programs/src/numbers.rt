@@ -1,6 +1,6 @@
 //! Values as lists of numbers.
 ghost use Rattle.std.specs.Prelude.{◌≡◌, ℕ, List, OnOk};
-ghost use Rattle.pv_programs.specs.Appending.{Appends};
+ghost use Rattle.pv_programs.specs.Appending.{AppendsNumbers};
 
 use pv_model::{Mode, OpenFlags, Operand, Origin, Register, Text, Whence};
 use std::alloc::AllocError;
@@ -16,7 +16,7 @@ pub(crate) trait Numbered {
     ///
     /// `AllocError`, if there is no memory.
     fn push(&self, out: &mut Vec<u64>) -> Result<(), AllocError>
-        ensures { OnOk result (Appends (numbers self.now) out.old.items out.new.items) };
+        ensures { OnOk result (AppendsNumbers (numbers self.now) out.old.items out.new.items) };
 }
 
 impl Numbered for u64 {
@@ -24,7 +24,7 @@ impl Numbered for u64 {
 
     ghost numbers = { λ n. n ∷ [] };
 
-    #[tactic(auto, using(crate::proofs::Appending::appends_one))]
+    #[tactic(auto, using(crate::proofs::AppendedNumbers::appends_one))]
     fn push(&self, out: &mut Vec<u64>) -> Result<(), AllocError> {
         out.push(*self)?;
         Ok(())
@@ -149,9 +149,9 @@ impl Numbered for OpenFlags {
 }
 
 // Appends each of the bytes as a number.
-#[tactic(auto, using(crate::proofs::Appending::appends_more, crate::proofs::Appending::appends_none, crate::proofs::Appending::appends_all))]
+#[tactic(auto, using(crate::proofs::AppendedNumbers::appends_more, crate::proofs::AppendedNumbers::appends_none, crate::proofs::AppendedNumbers::appends_all))]
 fn push_each_byte(out: &mut Vec<u64>, bytes: &[u8]) -> Result<(), AllocError>
-    ensures { OnOk result (Appends bytes.now out.old.items out.new.items) }
+    ensures { OnOk result (AppendsNumbers bytes.now out.old.items out.new.items) }
 {
     for byte in bytes {
         u64::from(*byte).push(out)?;
@@ -165,7 +165,7 @@ impl Numbered for Text {
 
     ghost numbers = { bytes_numbers };
 
-    #[tactic(auto, using(crate::proofs::Appending::appends_then))]
+    #[tactic(auto, using(crate::proofs::AppendedNumbers::appends_then))]
     fn push(&self, out: &mut Vec<u64>) -> Result<(), AllocError> {
         let bytes = self.as_slice();
         (bytes.len() as u64).push(out)?;
@@ -200,7 +200,7 @@ impl<A: Numbered, B: Numbered> Numbered for (A, B) {
 
     ghost numbers = { λ p. A.numbers p.0 ++ B.numbers p.1 };
 
-    #[tactic(auto, using(crate::proofs::Appending::appends_both))]
+    #[tactic(auto, using(crate::proofs::AppendedNumbers::appends_both))]
     fn push(&self, out: &mut Vec<u64>) -> Result<(), AllocError> {
         self.0.push(out)?;
         self.1.push(out)
@@ -212,7 +212,7 @@ impl<A: Numbered, B: Numbered, C: Numbered> Numbered for (A, B, C) {
 
     ghost numbers = { λ p. A.numbers p.0 ++ B.numbers p.1 ++ C.numbers p.2 };
 
-    #[tactic(auto, using(crate::proofs::Appending::appends_both))]
+    #[tactic(auto, using(crate::proofs::AppendedNumbers::appends_both))]
     fn push(&self, out: &mut Vec<u64>) -> Result<(), AllocError> {
         self.0.push(out)?;
         self.1.push(out)?;
@@ -225,7 +225,7 @@ impl<A: Numbered, B: Numbered, C: Numbered, D: Numbered> Numbered for (A, B, C, 
 
     ghost numbers = { λ p. A.numbers p.0 ++ B.numbers p.1 ++ C.numbers p.2 ++ D.numbers p.3 };
 
-    #[tactic(auto, using(crate::proofs::Appending::appends_both))]
+    #[tactic(auto, using(crate::proofs::AppendedNumbers::appends_both))]
     fn push(&self, out: &mut Vec<u64>) -> Result<(), AllocError> {
         self.0.push(out)?;
         self.1.push(out)?;

@@ -1,7 +1,7 @@
 //! Programs as lists of numbers.
 ghost use Rattle.std.specs.Prelude.{◌≡◌, bytes_eq, flat_map, IfOk, OnOk};
 ghost use Rattle.pv_model.specs.Machine.{instruction_numbers, program_numbers};
-ghost use Rattle.pv_programs.specs.Appending.{Appends};
+ghost use Rattle.pv_programs.specs.Appending.{AppendsNumbers};
 
 use crate::instructions::push_instruction;
 use crate::numbers::Numbered;
@@ -9,9 +9,9 @@ use pv_script::Program;
 use std::alloc::{AllocError, Global};
 
 // Appends the numbers of instructions, line by line.
-#[tactic(auto, using(crate::proofs::Appending::appends_none, crate::proofs::Appending::appends_list))]
+#[tactic(auto, using(crate::proofs::AppendedNumbers::appends_none, crate::proofs::AppendedNumbers::appends_list))]
 fn push_each_line(out: &mut Vec<u64>, program: &Program) -> Result<(), AllocError>
-    ensures { OnOk result (Appends (flat_map instruction_numbers program.now) out.old.items out.new.items) }
+    ensures { OnOk result (AppendsNumbers (flat_map instruction_numbers program.now) out.old.items out.new.items) }
 {
     for number in 0..program.len() as u16 {
         let Some(instruction) = program.at(number + 1) else {
@@ -28,7 +28,7 @@ fn push_each_line(out: &mut Vec<u64>, program: &Program) -> Result<(), AllocErro
 /// # Errors
 ///
 /// `AllocError`, if there is no memory.
-#[tactic(auto, using(crate::proofs::Appending::appends_then, crate::proofs::Appending::appends_to_none))]
+#[tactic(auto, using(crate::proofs::AppendedNumbers::appends_then, crate::proofs::AppendedNumbers::appends_to_none))]
 pub fn program_numbers(alloc: Global, program: &Program) -> Result<Vec<u64>, AllocError>
     ensures { IfOk result (λ numbers. numbers.items ≡ program_numbers program.now) }
 {

@@ -1,3 +1,4 @@
--- Lemmas of promises: Keywords (the keywords of a text, and their set), LackedLemmas (the promise that two lists of needs lack).
+-- Lemmas of promises: Keywords (the keywords of a text, and their set), LackedPromises (the promise that two lists of
+-- needs lack).
 pub mod Keywords
-pub mod LackedLemmas
+pub mod LackedPromises

@@ -15,13 +15,13 @@ bits_of None = None
 bits_of (Some set) = Some set.0
 
 -- the inverse
-abbrev pub set_of : Option Promises → Option Set
-set_of None = None
-set_of (Some bits) = Some (record { 0 = bits })
+abbrev pub promise_set_of : Option Promises → Option Set
+promise_set_of None = None
+promise_set_of (Some bits) = Some (record { 0 = bits })
 
-pub set_of-bits_of : (set : Option Set) → set_of (bits_of set) ≡ set
-set_of-bits_of None = refl
-set_of-bits_of (Some set) = refl
+pub promise_set_of-bits_of : (set : Option Set) → promise_set_of (bits_of set) ≡ set
+promise_set_of-bits_of None = refl
+promise_set_of-bits_of (Some set) = refl
 
 -- the bits of a new set, or the promise that is an increase
 abbrev pub bits_of_result : Result (Option Set) Promise → Result (Option Promises) Promise

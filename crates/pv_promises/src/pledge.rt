@@ -30,16 +30,16 @@ pub struct Pledge {
 }
 
 impl Model for Pledge {
-    ghost use Rattle.pv_promises.specs.Pledge.{Pledged, bits_of, set_of, set_of-bits_of};
+    ghost use Rattle.pv_promises.specs.Pledge.{Pledged, bits_of, promise_set_of, promise_set_of-bits_of};
     ghost use Rattle.std.proofs.Common.{◌≡◌};
 
     ghost Value = { Pledged };
 
     ghost view = { λ p. record { promises = bits_of p.promises; execpromises = bits_of p.execpromises } };
 
-    ghost inverse = { λ v. record { promises = set_of v.promises; execpromises = set_of v.execpromises } };
+    ghost inverse = { λ v. record { promises = promise_set_of v.promises; execpromises = promise_set_of v.execpromises } };
 
-    ghost inverse_ok = { λ p _ i. record { promises = set_of-bits_of p.promises i; execpromises = set_of-bits_of p.execpromises i } };
+    ghost inverse_ok = { λ p _ i. record { promises = promise_set_of-bits_of p.promises i; execpromises = promise_set_of-bits_of p.execpromises i } };
 }
 
 // Returns the new value of a set after a request, or the promise that is an increase.

@@ -2,7 +2,7 @@
 use Rattle.std.proofs.Common.{◌≡◌, ◌∙◌, ℕ, ◌++◌, List, [], ◌∷◌, ap, sym, flat_map, map, Option, Some, refl}
 use Rattle.pv_model.specs.Machine.{live_processes, ProcessRecord, State, ended_record, live, live_process, process_at}
 use Rattle.pv_model_questions.specs.Notes.{live_numbers}
-use Rattle.pv_policy.proofs.OfAnswers.Following.{IsNextRecord, Recorded, records_after}
+use Rattle.pv_policy.proofs.OfAnswers.ProcessSequence.{IsNextRecord, Recorded, records_after}
 use Rattle.pv_questions.specs.Noting.{number_if_live}
 
 -- the numbers of the live processes of some records

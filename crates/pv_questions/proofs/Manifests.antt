@@ -8,7 +8,7 @@ use Rattle.pv_model.specs.declared.run_fault.RunFault.{RunFault}
 use Rattle.pv_model.specs.Machine.{Bytes, and_then, read_bundle, read_manifest, tree_of, Tree}
 use Rattle.pv_model.specs.RunFault.{of_manifest}
 use Rattle.pv_run.specs.Run.{RefusesStart}
-use Rattle.pv_questions.specs.Trees.{GivesManifestOf, asked_manifest, manifest_tree, read_manifest_of}
+use Rattle.pv_questions.specs.Trees.{GivesManifestOf, asked_manifest, tree_of_manifest_text, read_manifest_of}
 
 module _ (bytes : Bytes) where
   pub of_bundle : (m : ParsedManifest) (following : List Bytes) → read_bundle bytes ≡ Ok (manifest_before m following)
@@ -34,8 +34,8 @@ module _ (bytes : Bytes) where
   refused_bundle (Room n) other is = rw is refl
   refused_bundle Memory other is = tt
 
-  refused-no_manifest : (f : ManifestFault) → read_manifest_of bytes ≡ Err f → manifest_tree bytes ≡ Err (of_manifest f)
-  unfolding manifest_tree
+  refused-no_manifest : (f : ManifestFault) → read_manifest_of bytes ≡ Err f → tree_of_manifest_text bytes ≡ Err (of_manifest f)
+  unfolding tree_of_manifest_text
   refused-no_manifest f is = rw is refl
 
   -- the error of a manifest is that of each text that it determines
@@ -50,23 +50,23 @@ module _ (bytes : Bytes) where
   refuses-start asked Memory is by = tt
 
   -- a manifest that is refused
-  pub refuses_manifest : (f : ManifestFault) → RefusesManifest f (read_manifest_of bytes) → RefusesStart (of_manifest f) (manifest_tree bytes)
-  refuses_manifest f is = refuses-start (manifest_tree bytes) f is refused-no_manifest
+  pub refuses_manifest : (f : ManifestFault) → RefusesManifest f (read_manifest_of bytes) → RefusesStart (of_manifest f) (tree_of_manifest_text bytes)
+  refuses_manifest f is = refuses-start (tree_of_manifest_text bytes) f is refused-no_manifest
 
   pub refuses_read : (f : ManifestFault) → RefusesManifest f (read_manifest_of bytes) → RefusesStart (of_manifest f) (asked_manifest bytes)
   refuses_read f is = refuses-start (asked_manifest bytes) f is (λ g none. ap (λ read. and_then of_manifest read (λ m. Ok m)) none)
 
   module _ (m : ParsedManifest) (following : List Bytes) (read : read_manifest_of bytes ≡ Ok (manifest_before m following)) where
-    pub made : (t : Tree) → tree_of (manifest_before m []) ≡ Ok t → manifest_tree bytes ≡ Ok t
-    unfolding manifest_tree
+    pub made : (t : Tree) → tree_of (manifest_before m []) ≡ Ok t → tree_of_manifest_text bytes ≡ Ok t
+    unfolding tree_of_manifest_text
     made t is = rw (read, is) refl
 
-    refused-no_tree : (f : ManifestFault) → tree_of (manifest_before m []) ≡ Err f → manifest_tree bytes ≡ Err (of_manifest f)
-    unfolding manifest_tree
+    refused-no_tree : (f : ManifestFault) → tree_of (manifest_before m []) ≡ Err f → tree_of_manifest_text bytes ≡ Err (of_manifest f)
+    unfolding tree_of_manifest_text
     refused-no_tree f is = rw (read, is) refl
 
     -- an entry that is refused
-    pub refuses_tree : (f : ManifestFault) → RefusesManifest f (tree_of (manifest_before m [])) → RefusesStart (of_manifest f) (manifest_tree bytes)
+    pub refuses_tree : (f : ManifestFault) → RefusesManifest f (tree_of (manifest_before m [])) → RefusesStart (of_manifest f) (tree_of_manifest_text bytes)
     refuses_tree (Form n) is = refused-no_tree (Form n) is
     refuses_tree Size is = refused-no_tree Size is
     refuses_tree (Parent n) is = refused-no_tree (Parent n) is

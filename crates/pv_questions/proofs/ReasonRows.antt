@@ -4,7 +4,7 @@ use Rattle.pv_run.specs.OfAudit.Reasons.{present_reasons}
 use Rattle.pv_model.specs.declared.verdict.Verdict.TheVariants.{Exposed}
 use Rattle.pv_model.specs.declared.verdict.Why.{Why}
 use Rattle.pv_model.specs.Machine.{Bytes, live_processes, Process, ProcessRecord, State, ended_record, live, live_process, process_at}
-use Rattle.pv_policy.proofs.OfAnswers.Following.{IsNextRecord, Recorded, records_after}
+use Rattle.pv_policy.proofs.OfAnswers.ProcessSequence.{IsNextRecord, Recorded, records_after}
 use Rattle.pv_questions.specs.Reasons.{all_reasons, reason_lines, reasons_by, reasons_of, verdict_at}
 
 module _ (path : Option Bytes) (s : State) (f : ℕ) where

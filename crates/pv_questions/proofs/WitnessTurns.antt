@@ -13,7 +13,7 @@ use Rattle.pv_laws_grammar.proofs.Decimals.{Decimal-decimal, digit_bounds, digit
 use Rattle.pv_laws_grammar.proofs.ScheduleParsing.{read-EncodesSchedule}
 use Rattle.pv_questions.specs.Laws.{AreTurnsWithin, WitnessesAreReadBack}
 use Rattle.pv_questions.specs.Schedules.{turns_text}
-use Rattle.pv_questions.proofs.Alike.{all_both}
+use Rattle.pv_questions.proofs.EqualInputs.{all_both}
 
 -- ---- bytes other than newlines and commas
 

@@ -25,9 +25,9 @@ abbrev pub of_lines : List AnswerLine → Answer
 of_lines lines = Ok (answer_bytes lines)
 
 -- the lines of a process, if it is live
-abbrev pub of_process : Option (List AnswerLine) → Answer
-of_process None = Err NoProcess
-of_process (Some lines) = of_lines lines
+abbrev pub process_answer : Option (List AnswerLine) → Answer
+process_answer None = Err NoProcess
+process_answer (Some lines) = of_lines lines
 
 abbrev pub of_audit : Result Bytes AuditFault → Answer
 of_audit (Ok text) = Ok text
@@ -42,20 +42,20 @@ abbrev pub run_answer : Question → Started → Answer
 run_answer asked.Trace it = Ok (text_of it)
 run_answer asked.State it = of_lines (state_lines (last_state it))
 run_answer (asked.Reach None) it = of_lines (reach_lines (last_state it))
-run_answer (asked.Reach (Some pid)) it = of_process (reach_of_one (last_state it) pid)
+run_answer (asked.Reach (Some pid)) it = process_answer (reach_of_one (last_state it) pid)
 run_answer (asked.Explain errors allowed) it = of_lines (explained_lines (record { errors = errors; allowed = allowed }) (steps_of it.schedule) it.state)
 run_answer (asked.Needs granted) it = of_lines (lines_of_demands program_of granted (steps_of it.schedule) it.state)
 run_answer (asked.Audit path) it = of_audit (audit_text (last_state it) (option_map (λ p. p.now) path))
 run_answer (asked.Reasons path) it = of_audit (audit_reasons (last_state it) (option_map (λ p. p.now) path))
 
 -- the answer about a run, or about its first steps
-abbrev pub answer_of : RunQuestion → Started → Answer
-answer_of asked it = run_answer asked.question (cut_after asked.steps it)
+abbrev pub run_question_answer : RunQuestion → Started → Answer
+run_question_answer asked it = run_answer asked.question (cut_after asked.steps it)
 
 -- the answer about the run of a schedule on an image, after its checks
 abbrev pub image_answer : RunQuestion → (image turns : Bytes) → Answer
-image_answer asked image turns = and_then Machine (image_started image turns) (answer_of asked)
+image_answer asked image turns = and_then Machine (image_started image turns) (run_question_answer asked)
 
 -- the answer about the run of a bundle
 abbrev pub bundle_answer : RunQuestion → Bytes → Answer
-bundle_answer asked bytes = and_then Machine (bundle_started bytes) (answer_of asked)
+bundle_answer asked bytes = and_then Machine (bundle_started bytes) (run_question_answer asked)

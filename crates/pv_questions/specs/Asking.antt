@@ -7,7 +7,7 @@ use Rattle.pv_model.specs.declared.run_fault.RunFault.TheVariants.{Read, Init, M
 use Rattle.pv_model.specs.Machine.{Bytes, Rose}
 use Rattle.pv_listing.specs.declared.listing.ListStop.{ListStop}
 use Rattle.pv_listing.specs.declared.listing.ListStop.TheVariants.{Memory as NoListMemory, Write as NotListed}
-use Rattle.pv_run.specs.Machines.{IsBundleMachineFault, IsMachineFault}
+use Rattle.pv_run.specs.Machines.{IsBundleMachineError, IsMachineError}
 use Rattle.pv_run.specs.OfSession.declared.session.Stop.{Stop}
 use Rattle.pv_run.specs.OfSession.declared.session.Stop.TheVariants.{Memory as NoMemory, Write as Unwritten}
 use Rattle.pv_streams.specs.Sinks.{and_all, WritesPrefix}
@@ -39,14 +39,14 @@ AppearsInAnswer answer before after stop = (answer ≡ Err stop) × (after ≡ b
 
 -- the reasons why an answer about a run on an image may fail; out of memory is not nested in another error
 abbrev pub IsImageStop : AskStop → Type 0
-IsImageStop (Machine fault) = IsMachineFault fault
+IsImageStop (Machine fault) = IsMachineError fault
 IsImageStop Incomplete = ⊥
 IsImageStop Different = ⊥
 IsImageStop stop = ⊤
 
 -- the reasons why an answer about a bundle may fail
 abbrev pub IsBundleStop : AskStop → Type 0
-IsBundleStop (Machine fault) = IsBundleMachineFault fault
+IsBundleStop (Machine fault) = IsBundleMachineError fault
 IsBundleStop Incomplete = ⊥
 IsBundleStop Different = ⊥
 IsBundleStop stop = ⊤
@@ -110,7 +110,7 @@ end_of_listing (Ok done) = Ok done
 end_of_listing (Err NoListMemory) = Err NoMemory
 end_of_listing (Err NotListed) = Err Unwritten
 
--- a writer ended, and then what it wrote is flushed: the value of a complete text, or the reason why it is not complete
+-- a writer ended, and then its output is flushed: the value of a complete text, or the reason why it is not complete
 pub record Flushes {W T : Type 0} (sink : Writing W) (end : Result T Stop) (old new : W) (result : Result T AskStop) : Type 0 where
   pub preserved : sink.written new ≡ sink.written old
   pub done : OnOk result (OnErr end ⊥)
@@ -121,8 +121,8 @@ pub record Flushes {W T : Type 0} (sink : Writing W) (end : Result T Stop) (old 
   pub failed : result ≡ Err Write → (end ≡ Err Unwritten) ⊎ Rose (sink.failures old) (sink.failures new)
   pub counted : end ≡ Err Unwritten → sink.failures new ≡ sink.failures old
 
--- a text is written and flushed: the whole text, or a prefix of it if there is no memory or a write failed
-pub record Reports {W T : Type 0} (sink : Writing W) (text : Bytes) (old new : W) (result : Result T AskStop) : Type 0 where
+-- a text is written and flushed: the complete text, or a prefix of it if there is no memory or a write failed
+pub record ReportsText {W T : Type 0} (sink : Writing W) (text : Bytes) (old new : W) (result : Result T AskStop) : Type 0 where
   pub whole : OnOk result (sink.written new ≡ and_all (sink.written old) text)
   pub prefix : OnErr result (WritesPrefix text (sink.written old) (sink.written new))
   pub empty : OnOk result (sink.buffered new ≡ 0)
@@ -130,7 +130,8 @@ pub record Reports {W T : Type 0} (sink : Writing W) (text : Bytes) (old new : W
   pub stopped : IfErr result (λ stop. BufferedOnlyIfUnwritten stop (sink.buffered new))
   pub failed : result ≡ Err Write → Rose (sink.failures old) (sink.failures new)
 
--- an answer is written and flushed: its whole text, or what the reason says; `IsStop` says which reasons there are
+-- an answer is written and flushed: its complete text, or the prefix that the reason states; `IsStop` says which
+-- reasons there are
 pub record Answers {W : Type 0} (sink : Writing W) (answer : Answer) (IsStop : AskStop → Type 0) (old new : W) (result : Result (Unit {0}) AskStop) : Type 0 where
   pub answered : OnOk result (WritesAnswer answer (sink.written old) (sink.written new))
   pub refused : IfErr result (AppearsInAnswer answer (sink.written old) (sink.written new))
@@ -139,17 +140,17 @@ pub record Answers {W : Type 0} (sink : Writing W) (answer : Answer) (IsStop : A
   pub stopped : IfErr result (λ stop. sink.buffered old ≡ 0 → BufferedOnlyIfUnwritten stop (sink.buffered new))
   pub failed : result ≡ Err Write → Rose (sink.failures old) (sink.failures new)
 
--- the answer to what a source gives, if its bytes are known
+-- the answer to the input from a source, if its bytes are known
 abbrev pub of_one : {S : Type 0} → Reading S → S → (Bytes → Answer) → (Answer → Type 0) → Type 0
 of_one reading first answer_to holds = IfSome (reading.remaining first) (λ bytes. holds (answer_to bytes))
 
--- the answer to what two sources give, if the bytes of both are known
+-- the answer to the inputs from two sources, if the bytes of both are known
 abbrev pub of_two : {A B : Type 0} → Reading A → Reading B → A → B → (Bytes → Bytes → Answer) → (Answer → Type 0) → Type 0
 of_two reading other first second answer_to holds =
     IfSome (reading.remaining first) (λ bytes. IfSome (other.remaining second) (λ text. holds (answer_to bytes text)))
 
--- a question was asked about what sources give: `given` says what holds of the answer, `IsStop` which errors there are,
--- and `Unread` that a read failed
+-- a question was asked about the input from sources: `given` is the condition on the answer, `IsStop` on the errors,
+-- and `Unread` states that a read failed
 pub record AnswersGiven {W : Type 0} (sink : Writing W) (IsStop : AskStop → Type 0) (given : (Answer → Type 0) → Type 0) (Unread : Type 0) (old new : W)
     (result : Result (Unit {0}) AskStop) : Type 0 where
   -- success: exactly the answer was written
@@ -164,12 +165,12 @@ pub record AnswersGiven {W : Type 0} (sink : Writing W) (IsStop : AskStop → Ty
   pub read : result ≡ Err (Machine Read) → Unread
   pub write : result ≡ Err Write → Rose (sink.failures old) (sink.failures new)
 
--- a question was asked about what one source gives
+-- a question was asked about the input from one source
 abbrev pub AnswersOne : {S W : Type 0} → Reading S → Writing W → (AskStop → Type 0) → (Bytes → Answer) → (first last : S) → (old new : W) → Result (Unit {0}) AskStop → Type 0
 AnswersOne reading sink IsStop answer_to first last old new result =
     AnswersGiven sink IsStop (of_one reading first answer_to) (FailsToGive reading first last) old new result
 
--- a question was asked about what two sources give
+-- a question was asked about the inputs from two sources
 abbrev pub AnswersTwo : {A B W : Type 0} → Reading A → Reading B → Writing W → (AskStop → Type 0) → (Bytes → Bytes → Answer)
     → (first last : A) → (second second_last : B) → (old new : W) → Result (Unit {0}) AskStop → Type 0
 AnswersTwo reading other sink IsStop answer_to first last second second_last old new result =

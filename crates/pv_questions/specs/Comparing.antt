@@ -8,23 +8,23 @@ use Rattle.pv_model.specs.declared.run_fault.RunFault.TheVariants.{Read, Memory}
 use Rattle.pv_model.specs.Machine.{Comparison, comparison, Bytes, program_of, and_then, booted, State, Tree}
 use Rattle.pv_model.specs.Answers.Compare.{comparison_lines}
 use Rattle.pv_model.specs.RunFault.{of_boot}
-use Rattle.pv_run.specs.Images.{IsImageFault}
-use Rattle.pv_run.specs.Run.{IsStartFault}
+use Rattle.pv_run.specs.Images.{IsImageError}
+use Rattle.pv_run.specs.Run.{IsStartError}
 use Rattle.pv_questions.specs.Answering.{Answer, of_lines}
-use Rattle.pv_questions.specs.Trees.{image_tree, manifest_tree}
+use Rattle.pv_questions.specs.Trees.{image_tree, tree_of_manifest_text}
 use Rattle.pv_questions.specs.declared.question.Format.{Format}
 use Rattle.pv_questions.specs.declared.question.Format.TheVariants.{Image, Manifest}
 use Rattle.pv_questions.specs.declared.stop.AskStop.{AskStop}
 use Rattle.pv_questions.specs.declared.stop.AskStop.TheVariants.{Machine, Write, Incomplete, Different}
 
 -- the tree of an input
-abbrev pub tree_in : Format → Bytes → Result Tree RunFault
-tree_in Image bytes = image_tree bytes
-tree_in Manifest bytes = manifest_tree bytes
+abbrev pub input_tree : Format → Bytes → Result Tree RunFault
+input_tree Image bytes = image_tree bytes
+input_tree Manifest bytes = tree_of_manifest_text bytes
 
 -- the machine that boots on it
 abbrev pub machine_in : Format → Bytes → Result State RunFault
-machine_in format bytes = and_then (λ fault. fault) (tree_in format bytes) (λ t. and_then of_boot (booted t) (λ s. Ok s))
+machine_in format bytes = and_then (λ fault. fault) (input_tree format bytes) (λ t. and_then of_boot (booted t) (λ s. Ok s))
 
 -- the comparison of the machines of two inputs, of which the first is checked first; a search visits at least one pair
 abbrev pub comparison_of : Format → ℕ → (first second : Bytes) → Result Comparison RunFault
@@ -50,15 +50,15 @@ ReportsCompared (Err Different) compared = compared ≡ Differs
 ReportsCompared (Err stop) compared = ⊤
 
 -- the reasons why there may be no machine of an input that was read
-abbrev pub IsFaultIn : Format → RunFault → Type 0
-IsFaultIn Image fault = IsImageFault fault
-IsFaultIn Manifest fault = IsStartFault fault
+abbrev pub IsErrorOfInput : Format → RunFault → Type 0
+IsErrorOfInput Image fault = IsImageError fault
+IsErrorOfInput Manifest fault = IsStartError fault
 
 -- the reasons why a comparison may fail
 abbrev pub IsCompareStop : Format → AskStop → Type 0
 IsCompareStop format (Machine Read) = ⊤
 IsCompareStop format (Machine Memory) = ⊤
-IsCompareStop format (Machine fault) = IsFaultIn format fault
+IsCompareStop format (Machine fault) = IsErrorOfInput format fault
 IsCompareStop format Write = ⊤
 IsCompareStop format Incomplete = ⊤
 IsCompareStop format Different = ⊤

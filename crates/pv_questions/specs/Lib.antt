@@ -1,6 +1,7 @@
 pub mod Answering
 pub mod Comparing
 pub mod Asking
+pub mod FilePaths
 pub mod Files
 pub mod Laws
 pub mod Noting

@@ -1,4 +1,4 @@
--- The notes beside the answer to a question about a run.
+-- The notes on the answer to a question about a run.
 use Rattle.std.specs.Prelude.{◌≡◌, ℕ, Bool, true, false, not, ◌&&◌, List, [], ◌∷◌, Option, None, Some, is_some, option_map, Result, Ok, IfSome, OnOk}
 use Rattle.pv_model.specs.declared.run_fault.RunFault.{RunFault}
 use Rattle.pv_model.specs.Machine.{Bytes, Process, Started, State, and_then, bundle_started, image_started}

@@ -13,7 +13,7 @@ abbrev pub cut_after : Option ℕ → Started → Started
 cut_after None it = it
 cut_after (Some n) it = record it { schedule = first_steps n it.schedule }
 
--- the text of a schedule that stands for turns with `, ` between, as in a witness: each `, ` is a newline
+-- the text of a schedule that represents turns with `, ` between, as in a witness: each `, ` is a newline
 abbrev pub turns_text : Bytes → Bytes
 turns_text [] = []
 turns_text (b ∷ []) = b ∷ []

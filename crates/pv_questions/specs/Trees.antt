@@ -12,9 +12,10 @@ use Rattle.pv_model.specs.declared.kernel_fault.BootFault.{BootFault}
 use Rattle.pv_model.specs.Machine.{is_complete, graph_lines, AnswerLine, turns, Bytes, lines_of, Manifest, read_bundle, read_manifest, tree_of, program_of, listing, mounted, Started, and_then, booted, started_on, State, Tree}
 use Rattle.pv_model.specs.Answers.Turns.{schedule_text}
 use Rattle.pv_model.specs.RunFault.{of_boot, of_image, of_manifest}
-use Rattle.pv_run.specs.Machines.{IsBundleMachineFault, RefusesMachine}
+use Rattle.pv_run.specs.Machines.{IsBundleMachineError, RefusesMachine}
 use Rattle.pv_streams.specs.Sources.{FailsToGive}
-use Rattle.pv_questions.specs.Answering.{Answer, answer_of, of_lines}
+use Rattle.pv_questions.specs.Answering.{Answer, run_question_answer, of_lines}
+use Rattle.pv_questions.specs.FilePaths.{paths_of}
 use Rattle.pv_questions.specs.Files.{cat_of}
 use Rattle.pv_questions.specs.declared.question.RunQuestion.{RunQuestion}
 use Rattle.pv_questions.specs.declared.question.TreeQuestion.{TreeQuestion}
@@ -22,18 +23,20 @@ use Rattle.pv_questions.specs.declared.question.TreeQuestion.TheVariants.{Listin
 use Rattle.pv_questions.specs.declared.question.Search.{Search}
 use Rattle.pv_questions.specs.declared.question.Search.TheVariants.{Explore, Access, Exposure, Policy, Graph}
 use Rattle.pv_questions.specs.declared.stop.AskStop.{AskStop}
+use Rattle.pv_access.specs.Answers.{access_lines_by}
+use Rattle.pv_access.specs.OfNamedFiles.FirstPaths.{path_texts}
 use Rattle.pv_exposure.specs.Answers.{exposed_lines_by}
-use Rattle.pv_policy.specs.OfReduced.Kinds.{access_lines_by, explore_lines_by, is_complete_by, policy_lines_by}
+use Rattle.pv_policy.specs.OfReduced.Kinds.{explore_lines_by, is_complete_by, policy_lines_by}
 use Rattle.pv_questions.specs.declared.stop.AskStop.TheVariants.{Machine, File as NoFile}
 
 -- a manifest alone, if there is no line `schedule`
-abbrev pub or_alone : Result Manifest ManifestFault → Result Manifest ManifestFault → Result Manifest ManifestFault
-or_alone (Err (Form n)) alone = alone
-or_alone read alone = read
+abbrev pub or_manifest_alone : Result Manifest ManifestFault → Result Manifest ManifestFault → Result Manifest ManifestFault
+or_manifest_alone (Err (Form n)) alone = alone
+or_manifest_alone read alone = read
 
 -- the manifest of a bundle, or a manifest alone
 unfoldable pub read_manifest_of : Bytes → Result Manifest ManifestFault
-read_manifest_of bytes = or_alone (read_bundle bytes) (read_manifest bytes)
+read_manifest_of bytes = or_manifest_alone (read_bundle bytes) (read_manifest bytes)
 
 -- the manifest that the code parsed is the one of the definitions, or its error is the same
 abbrev pub GivesManifestOf : Result ParsedManifest ManifestFault → Result Manifest ManifestFault → Type 0
@@ -48,7 +51,7 @@ asked_manifest bytes = and_then of_manifest (read_manifest_of bytes) (λ m. Ok m
 pub record ReadsManifest {S : Type 0} (reading : Reading S) (first last : S) (result : Result ParsedManifest RunFault) : Type 0 where
   pub read : IfOk result (λ m. IfSome (reading.remaining first) (λ bytes. GivesManifestOf (Ok m) (read_manifest_of bytes)))
   pub refused : IfErr result (λ fault. IfSome (reading.remaining first) (λ bytes. RefusesMachine fault (asked_manifest bytes)))
-  pub kind : IfErr result IsBundleMachineFault
+  pub kind : IfErr result IsBundleMachineError
   pub failed : result ≡ Err Read → FailsToGive reading first last
 
 -- the tree of an image
@@ -56,21 +59,21 @@ abbrev pub image_tree : Bytes → Result Tree RunFault
 image_tree bytes = and_then of_image (mounted bytes) (λ t. Ok t)
 
 -- the tree that a manifest makes, alone or in a bundle: its form and sizes are checked first, then its entries
-unfoldable pub manifest_tree : Bytes → Result Tree RunFault
-manifest_tree bytes = and_then of_manifest (read_manifest_of bytes) (λ m. and_then of_manifest (tree_of m) (λ t. Ok t))
+unfoldable pub tree_of_manifest_text : Bytes → Result Tree RunFault
+tree_of_manifest_text bytes = and_then of_manifest (read_manifest_of bytes) (λ m. and_then of_manifest (tree_of m) (λ t. Ok t))
 
 abbrev pub of_file : Result Bytes AuditFault → Answer
 of_file (Ok bytes) = Ok bytes
 of_file (Err fault) = Err (NoFile fault)
 
-abbrev pub of_boot_fault : BootFault → AskStop
-of_boot_fault fault = Machine (of_boot fault)
+abbrev pub of_boot_error : BootFault → AskStop
+of_boot_error fault = Machine (of_boot fault)
 
 -- the lines of a search with a limit
 abbrev pub search_lines : Search → ℕ → State → List AnswerLine
 search_lines (Explore kind) limit s = explore_lines_by kind limit s
-search_lines (Access kind) limit s = access_lines_by kind limit s
-search_lines (Exposure kind) limit s = exposed_lines_by kind limit s
+search_lines (Access kind files) limit s = access_lines_by (path_texts (paths_of files)) kind limit s
+search_lines (Exposure kind files) limit s = exposed_lines_by (path_texts (paths_of files)) kind limit s
 search_lines (Policy kind granted) limit s = policy_lines_by granted kind limit s
 search_lines (Graph tree) limit s = graph_lines program_of limit tree s
 
@@ -78,8 +81,8 @@ search_lines (Graph tree) limit s = graph_lines program_of limit tree s
 abbrev pub tree_answer : TreeQuestion → Tree → Answer
 tree_answer Listing t = Ok (listing t)
 tree_answer (File path) t = of_file (cat_of t path.now)
-tree_answer (OfSearch search states) t = and_then of_boot_fault (booted t) (λ s. of_lines (search_lines search (max 1 states) s))
-tree_answer (Turns slice steps) t = and_then of_boot_fault (booted t) (λ s. Ok (schedule_text (turns program_of (max 1 slice) steps s)))
+tree_answer (OfSearch search states) t = and_then of_boot_error (booted t) (λ s. of_lines (search_lines search (max 1 states) s))
+tree_answer (Turns slice steps) t = and_then of_boot_error (booted t) (λ s. Ok (schedule_text (turns program_of (max 1 slice) steps s)))
 
 -- the question is a search of the states of a machine
 abbrev pub IsSearch : TreeQuestion → Type 0
@@ -89,8 +92,8 @@ IsSearch question = ⊥
 -- a search with a limit leaves no state out
 abbrev pub search_is_complete : Search → ℕ → State → Bool
 search_is_complete (Explore kind) limit s = is_complete_by kind limit s
-search_is_complete (Access kind) limit s = is_complete_by kind limit s
-search_is_complete (Exposure kind) limit s = is_complete_by kind limit s
+search_is_complete (Access kind files) limit s = is_complete_by kind limit s
+search_is_complete (Exposure kind files) limit s = is_complete_by kind limit s
 search_is_complete (Policy kind granted) limit s = is_complete_by kind limit s
 search_is_complete (Graph tree) limit s = is_complete program_of limit s
 
@@ -118,15 +121,15 @@ image_tree_is_complete question bytes = held_is_complete question (image_tree by
 
 -- the answer about the tree of a manifest
 abbrev pub manifest_tree_answer : TreeQuestion → Bytes → Answer
-manifest_tree_answer question bytes = and_then Machine (manifest_tree bytes) (tree_answer question)
+manifest_tree_answer question bytes = and_then Machine (tree_of_manifest_text bytes) (tree_answer question)
 
 abbrev pub manifest_tree_is_complete : TreeQuestion → Bytes → Bool
-manifest_tree_is_complete question bytes = held_is_complete question (manifest_tree bytes)
+manifest_tree_is_complete question bytes = held_is_complete question (tree_of_manifest_text bytes)
 
 -- the start of the run of a schedule on the tree of a manifest, whose own schedule is ignored
 abbrev pub manifest_started : (manifest turns : Bytes) → Result Started RunFault
-manifest_started manifest turns = and_then (λ fault. fault) (manifest_tree manifest) (λ t. started_on t (lines_of turns))
+manifest_started manifest turns = and_then (λ fault. fault) (tree_of_manifest_text manifest) (λ t. started_on t (lines_of turns))
 
 -- the answer about that run
 abbrev pub manifest_answer : RunQuestion → (manifest turns : Bytes) → Answer
-manifest_answer asked manifest turns = and_then Machine (manifest_started manifest turns) (answer_of asked)
+manifest_answer asked manifest turns = and_then Machine (manifest_started manifest turns) (run_question_answer asked)

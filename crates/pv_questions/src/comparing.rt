@@ -5,7 +5,7 @@ ghost use Rattle.pv_model.specs.Machine.{comparison, program_of};
 ghost use Rattle.pv_model.specs.Answers.Compare.{comparison_lines};
 ghost use Rattle.pv_questions.specs.Answering.{of_lines};
 ghost use Rattle.pv_questions.specs.Asking.{Answers, AnswersTwo};
-ghost use Rattle.pv_questions.specs.Comparing.{IsCompareStop, IsFaultIn, IsResultStop, ReportsCompared, compare_answer, machine_in, result_in, tree_in};
+ghost use Rattle.pv_questions.specs.Comparing.{IsCompareStop, IsErrorOfInput, IsResultStop, ReportsCompared, compare_answer, machine_in, result_in, input_tree};
 ghost use Rattle.pv_run.specs.Machines.{RefusesMachine};
 
 use crate::question::Format;
@@ -23,9 +23,9 @@ use std::alloc::Global;
 // Returns the store of the tree in bytes.
 fn store_in(alloc: Global, format: Format, bytes: Vec<u8>) -> Result<Store, RunFault>
     requires { length bytes.items ≤ SOURCE_BYTES }
-    ensures held { IfOk result (λ store. tree_in format bytes.items ≡ Ok store) }
-    ensures refused { IfErr result (λ fault. RefusesMachine fault (tree_in format bytes.items)) }
-    ensures kind { IfErr result (IsFaultIn format) }
+    ensures held { IfOk result (λ store. input_tree format bytes.items ≡ Ok store) }
+    ensures refused { IfErr result (λ fault. RefusesMachine fault (input_tree format bytes.items)) }
+    ensures kind { IfErr result (IsErrorOfInput format) }
 {
     match format {
         Format::Image => Ok(mount(alloc, bytes)?),
@@ -38,7 +38,7 @@ fn machine_on(alloc: Global, format: Format, bytes: Vec<u8>) -> Result<FirstMach
     requires { length bytes.items ≤ SOURCE_BYTES }
     ensures machine { IfOk result (λ machine. machine_in format bytes.items ≡ Ok machine) }
     ensures refused { IfErr result (λ fault. RefusesMachine fault (machine_in format bytes.items)) }
-    ensures kind { IfErr result (IsFaultIn format) }
+    ensures kind { IfErr result (IsErrorOfInput format) }
 {
     let store = store_in(alloc, format, bytes)?;
     store.invariant();

@@ -1,6 +1,6 @@
 //! The file at a path, and its bytes.
 ghost use Rattle.std.specs.Prelude.{◌≡◌, false, Ok, Err, IsTrue, IfOk, IfErr};
-ghost use Rattle.pv_dirs.specs.Trees.{bytes_at};
+ghost use Rattle.pv_dirs.specs.Trees.{node_bytes_at};
 ghost use Rattle.pv_model.specs.Machine.{node_of, node_at};
 ghost use Rattle.pv_questions.specs.Files.{IsFileAt, bytes_of_file, bytes_of_node, cat_of};
 ghost use Rattle.pv_streams.specs.Sinks.{Writes};
@@ -21,7 +21,7 @@ fn is_file(tree: &Tree, node: u16) -> bool
 
 // Returns the file at a place.
 fn file_of(tree: &Tree, place: &Place) -> Result<u16, AuditFault>
-    ensures found { IfOk result (λ node. IsFileAt tree.now.tree node × (bytes_of_node tree.now.tree (node_of place.now) ≡ Ok (bytes_at tree.now.tree node))) }
+    ensures found { IfOk result (λ node. IsFileAt tree.now.tree node × (bytes_of_node tree.now.tree (node_of place.now) ≡ Ok (node_bytes_at tree.now.tree node))) }
     ensures refused { IfErr result (λ fault. bytes_of_node tree.now.tree (node_of place.now) ≡ Err fault) }
 {
     let Some(node) = PlaceRef::of(place).node() else {
@@ -40,7 +40,7 @@ fn file_of(tree: &Tree, place: &Place) -> Result<u16, AuditFault>
 /// - `Walk` with the error of the walk, or with `ENOENT` if nothing exists at the path.
 /// - `NotFile`, if the path does not name a file.
 pub(crate) fn file_at(tree: &Tree, path: &[u8]) -> Result<u16, AuditFault>
-    ensures found { IfOk result (λ node. IsFileAt tree.now.tree node × (cat_of tree.now.tree path.now ≡ Ok (bytes_at tree.now.tree node))) }
+    ensures found { IfOk result (λ node. IsFileAt tree.now.tree node × (cat_of tree.now.tree path.now ≡ Ok (node_bytes_at tree.now.tree node))) }
     ensures refused { IfErr result (λ fault. cat_of tree.now.tree path.now ≡ Err fault) }
 {
     let _ = tree.sizes();
@@ -57,7 +57,7 @@ pub(crate) fn file_at(tree: &Tree, path: &[u8]) -> Result<u16, AuditFault>
 /// `Failed`, if a write failed. The sink received a prefix of the bytes.
 pub(crate) fn write_file<W: Sink>(out: &mut W, tree: &Tree, node: u16) -> Result<(), Failed>
     requires { IsFileAt tree.now.tree node }
-    ensures { Writes W.Sink (bytes_at tree.now.tree node) out.old out.new result }
+    ensures { Writes W.Sink (node_bytes_at tree.now.tree node) out.old out.new result }
 {
     let size = tree.size(node);
     let mut at = 0;

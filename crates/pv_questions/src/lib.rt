@@ -5,9 +5,10 @@
 //! manifest; `ask_by` and `ask_manifest_by` take the turns of a witness. `starting` starts these runs, and `schedules`
 //! cuts a schedule and converts the turns of a witness. `trees` answers questions of a tree: `ask_tree` for an
 //! image, and `ask_manifest` for a manifest or a bundle. `writers` writes and flushes each answer, `file` finds the
-//! file at a path, `reasons` writes verdicts with every reason, `notes` makes the notes beside an answer, and `comparing` compares two inputs. `laws` states that a bundle, a manifest and their image give the same answers. Contracts cite the
-//! answer that the bytes determine, which is a text or a refusal (`image_answer`, `bundle_answer`, `manifest_answer`,
-//! `image_tree_answer`, `manifest_tree_answer`).
+//! file at a path, `reasons` writes verdicts with every reason, `notes` makes the notes on an answer, and `comparing`
+//! compares two inputs. `laws` states that a bundle, a manifest and their image give the same answers. Contracts cite
+//! the answer that the bytes determine, which is a text or a refusal (`image_answer`, `bundle_answer`,
+//! `manifest_answer`, `image_tree_answer`, `manifest_tree_answer`).
 #![tactic(auto)]
 
 mod comparing;
@@ -31,7 +32,7 @@ pub use laws::{
 pub use pv_compare::explore::{Progress, Unshown};
 pub use pv_policy::reduced::SearchKind;
 pub use pv_run as run;
-pub use question::{Format, Question, RunQuestion, Search, TreeQuestion};
+pub use question::{Files, Format, Question, RunQuestion, Search, TreeQuestion};
 pub use runs::{ask, ask_bundle, ask_by, ask_manifest_by, ask_manifest_run};
 pub use schedules::{is_turns, text_of_turns};
 pub use stop::AskStop;

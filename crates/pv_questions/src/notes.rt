@@ -1,7 +1,7 @@
-//! Notes beside the answers about the state after a run: lines for a person.
+//! Notes on the answers about the state after a run: lines for a person.
 ghost use Rattle.std.specs.Prelude.{◌≡◌, ◌+◌, ◌++◌, IfOk, OnOk, Some, filter, flat_map, option_map};
 ghost use Rattle.pv_model.specs.Machine.{audit_node as audit_of, process_at};
-ghost use Rattle.pv_model_questions.specs.Notes.{any_below, audit_notes, ended_notes, has_init, has_dropped_unveil, drops_unveil, is_shown, is_shown_at, live_numbers, note, pledge_note, pledge_notes};
+ghost use Rattle.pv_model_questions.specs.Notes.{any_below, audit_notes, ended_notes, has_init, has_dropped_unveil, drops_unveil, shows_lock_reason, is_shown_at, live_numbers, note_line, pledge_note, pledge_notes};
 ghost use Rattle.pv_questions.specs.Noting.{record_has_dropped_unveil, notes_of, number_if_live};
 
 use crate::question::Question;
@@ -90,7 +90,7 @@ fn without_unveil(alloc: Global, parts: &Parts) -> Result<Vec<u32>, AllocError>
 // Returns whether the lines of an audit of a file give `not locked` as a reason of a process whose table is not
 // locked.
 fn is_shown(every: bool, pid: u32, found: Result<Verdict, AuditFault>) -> bool
-    ensures { result ≡ is_shown every pid found }
+    ensures { result ≡ shows_lock_reason every pid found }
 {
     match found {
         Ok(Verdict::Exposed(leak)) => {
@@ -102,7 +102,7 @@ fn is_shown(every: bool, pid: u32, found: Result<Verdict, AuditFault>) -> bool
 
 // Returns the same for the audit of all files.
 fn is_shown_in_report(session: &Session, every: bool, pid: u32) -> bool
-    ensures { result ≡ any_below (λ n. is_shown every pid (audit_of session.now (Some n))) (session.now.tree.inodes + 1) }
+    ensures { result ≡ any_below (λ n. shows_lock_reason every pid (audit_of session.now (Some n))) (session.now.tree.inodes + 1) }
 {
     for node in 0..session.tree().sizes().inodes + 1 {
         if is_shown(every, pid, session.audit_node(node)) {
@@ -124,7 +124,7 @@ fn is_shown_at(session: &Session, every: bool, pid: u32, path: Option<&[u8]>) ->
 
 // Appends a note.
 fn push_note(text: &mut Vec<u8>, words: &[u8]) -> Result<(), AllocError>
-    ensures { OnOk result (text.new.items ≡ text.old.items ++ note words.now) }
+    ensures { OnOk result (text.new.items ≡ text.old.items ++ note_line words.now) }
 {
     text.extend_from_slice(b"pvsim: note: ")?;
     text.extend_from_slice(words)?;
@@ -195,7 +195,7 @@ fn push_ended_note(
     Ok(())
 }
 
-// Returns the notes beside the verdicts of an audit, with every reason if `every`.
+// Returns the notes on the verdicts of an audit, with every reason if `every`.
 fn audit_notes(
     alloc: Global,
     every: bool,
@@ -211,7 +211,7 @@ fn audit_notes(
     Ok(text)
 }
 
-/// Returns the notes beside the answer to a question about a state after a run. `is_loaded` says whether the root of
+/// Returns the notes on the answer to a question about a state after a run. `is_loaded` says whether the root of
 /// the first tree has an entry `init`.
 ///
 /// # Errors

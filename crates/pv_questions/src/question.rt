@@ -1,4 +1,6 @@
 //! Questions.
+ghost use Rattle.std.specs.Prelude.{◌≡◌};
+ghost use Rattle.pv_questions.specs.FilePaths.{paths_of};
 
 use pv_policy::reduced::SearchKind;
 
@@ -22,8 +24,8 @@ pub enum Question<'a> {
     Reach(Option<u32>),
     /// The explained trace of the run.
     Explain {
-        /// Whether the reason is also written for each failed call that neither a promise nor a table refused, and what
-        /// each execve(2) did to the restraints of its process.
+        /// Whether the reason is also written for each failed call that neither a promise nor a table refused, and the
+        /// effect of each execve(2) on the restraints of its process.
         errors: bool,
         /// Whether a line is also written for each walk that was checked and allowed.
         allowed: bool,
@@ -56,8 +58,8 @@ pub enum TreeQuestion<'a> {
     },
     /// A search of the states of the machine that boots on the tree.
     Search {
-        /// What the search answers.
-        search: Search,
+        /// The answer of the search.
+        search: Search<'a>,
         /// The maximum number of visited states: 0 counts as 1.
         states: u32,
     },
@@ -72,16 +74,52 @@ pub enum Format {
     Manifest,
 }
 
-/// What a search of all schedules answers.
+/// The paths of the files that an answer is about: at most 8. Without a path, the answer is about all files.
 #[derive(Clone, Copy)]
-pub enum Search {
-    /// What can happen.
+pub struct Files<'a> {
+    /// The paths. They are a tuple, since the prover does not check the loans of an enum that holds an array of references.
+    pub paths: (
+        Option<&'a [u8]>,
+        Option<&'a [u8]>,
+        Option<&'a [u8]>,
+        Option<&'a [u8]>,
+        Option<&'a [u8]>,
+        Option<&'a [u8]>,
+        Option<&'a [u8]>,
+        Option<&'a [u8]>,
+    ),
+}
+
+impl<'a> Files<'a> {
+    /// Returns the paths as an array.
+    pub fn to_array(self) -> [Option<&'a [u8]>; 8]
+        ensures { result ≡ paths_of self.entry }
+    {
+        let (a, b, c, d, e, f, g, h) = self.paths;
+        [a, b, c, d, e, f, g, h]
+    }
+}
+
+/// The question that a search of all schedules answers.
+#[derive(Clone, Copy)]
+pub enum Search<'a> {
+    /// The possible steps.
     Explore(SearchKind),
-    /// Which process can access what.
-    Access(SearchKind),
-    /// What an attacker gains who takes over a process, at each line of its program.
-    Exposure(SearchKind),
-    /// What each program needs of its sandbox, and what it holds and never uses.
+    /// The accesses of each process.
+    Access {
+        /// The search.
+        kind: SearchKind,
+        /// The files that the answer is about.
+        files: Files<'a>,
+    },
+    /// The gains of an attacker who takes over a process, at each line of its program.
+    Exposure {
+        /// The search.
+        kind: SearchKind,
+        /// The files that the answer is about.
+        files: Files<'a>,
+    },
+    /// The needs of each program, and the promises and permissions that it holds and never uses.
     Policy {
         /// The search.
         kind: SearchKind,

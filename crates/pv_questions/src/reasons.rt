@@ -1,7 +1,7 @@
 //! Verdicts with every reason.
 ghost use Rattle.std.specs.Prelude.{◌≡◌, ◌∷◌, [], Some, option_map};
 ghost use Rattle.pv_run.specs.OfAudit.Reasons.{present_reasons};
-ghost use Rattle.pv_listing.specs.Failing.{FailsBy};
+ghost use Rattle.pv_listing.specs.Failing.{ListingFailsBy};
 ghost use Rattle.pv_model.specs.Machine.{audit_node, process_at, root, resolve as resolved};
 ghost use Rattle.pv_model.specs.declared.follow.Follow.TheVariants.{Last};
 ghost use Rattle.pv_questions.specs.Reasons.{all_reasons, file_lines, node_audited, reason_lines, reasons_by, reasons_report, verdict_at, with_reasons};
@@ -149,7 +149,7 @@ pub(crate) fn write_reasons_report<W: Sink>(
     session: &Session,
     out: &mut W,
 ) -> Result<(), ListStop>
-    ensures { WritesOr W.Sink FailsBy (reasons_report session.now) out.old out.new result }
+    ensures { WritesOr W.Sink ListingFailsBy (reasons_report session.now) out.old out.new result }
 {
     write_lines(alloc, session.tree(), &ReasonLines { session }, out)
 }

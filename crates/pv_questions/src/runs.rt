@@ -2,7 +2,7 @@
 ghost use Rattle.std.specs.Prelude.{◌≡◌, ◌≤◌, length, IfErr, OnOk, Err};
 ghost use Rattle.pv_model.specs.declared.limits.TheConstants.{SCHEDULE_LINES};
 ghost use Rattle.pv_model.specs.declared.run_fault.RunFault.TheVariants.{Memory};
-ghost use Rattle.pv_questions.specs.Answering.{answer_of, bundle_answer, image_answer, last_state, run_answer};
+ghost use Rattle.pv_questions.specs.Answering.{run_question_answer, bundle_answer, image_answer, last_state, run_answer};
 ghost use Rattle.pv_questions.specs.Asking.{Answers, AnswersOne, AnswersTwo, IsAnswerStop, IsBundleStop, IsImageStop};
 ghost use Rattle.pv_questions.specs.Noting.{NotedOne, NotedTwo, asked_notes, bundle_notes, image_notes, manifest_notes, run_notes};
 ghost use Rattle.pv_questions.specs.Schedules.{first_steps, turns_text};
@@ -36,7 +36,7 @@ fn run_silently(alloc: Global, session: &mut Session, turns: &[(u32, u32)]) -> R
     Ok(())
 }
 
-// Runs the schedule without writing lines, and replaces the notes by those beside the answer to a question about the
+// Runs the schedule without writing lines, and replaces the notes by those on the answer to a question about the
 // state after the run.
 fn run_noted(
     alloc: Global,
@@ -204,7 +204,7 @@ fn answer_asked<W: Sink>(
     out: &mut W,
 ) -> Result<(), AskStop>
     requires { length turns.now ≤ SCHEDULE_LINES }
-    ensures answered { Answers W.Sink (answer_of asked.entry (started_from session.old turns.now)) IsAnswerStop out.old out.new result }
+    ensures answered { Answers W.Sink (run_question_answer asked.entry (started_from session.old turns.now)) IsAnswerStop out.old out.new result }
     ensures noted { OnOk result (notes.new.items ≡ asked_notes asked.entry (started_from session.old turns.now)) }
 {
     match asked.steps {
@@ -221,7 +221,7 @@ fn answer_ready<W: Sink>(
     notes: &mut Vec<u8>,
     out: &mut W,
 ) -> Result<(), AskStop>
-    ensures answered { Answers W.Sink (answer_of asked.entry (started_from ready.old.session ready.old.schedule)) IsAnswerStop out.old out.new result }
+    ensures answered { Answers W.Sink (run_question_answer asked.entry (started_from ready.old.session ready.old.schedule)) IsAnswerStop out.old out.new result }
     ensures noted { OnOk result (notes.new.items ≡ asked_notes asked.entry (started_from ready.old.session ready.old.schedule)) }
 {
     let turns = ready.schedule.turns();
@@ -241,7 +241,7 @@ fn lists_all(question: Question<'_>) -> bool {
 /// The image and the schedule are read to their ends. The image, the schedule and the program of `init` are checked in
 /// this order before the first step. Then all steps are made, or those before the cut, and the answer is written; for
 /// `Trace` and `Explain`, the lines of each step are written before the next step is made. On success, `out` received
-/// exactly the text of the answer, all of it flushed, and `notes` is replaced by the notes beside it: lines for a person
+/// exactly the text of the answer, all of it flushed, and `notes` is replaced by the notes on it: lines for a person
 /// about an answer that could be misread.
 ///
 /// # Errors

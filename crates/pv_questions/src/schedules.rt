@@ -29,7 +29,7 @@ pub(crate) fn cut_turns(
     Ok(first)
 }
 
-/// Returns the text of a schedule that stands for turns with `, ` between, as `explore` writes a witness.
+/// Returns the text of a schedule that represents turns with `, ` between, as `explore` writes a witness.
 ///
 /// # Errors
 ///

@@ -1,9 +1,9 @@
-//! The starts of runs whose schedule is given beside an image or a manifest.
+//! The starts of runs whose schedule is given with an image or a manifest.
 ghost use Rattle.std.specs.Prelude.{◌≡◌, ◌⊎◌, ◌≤◌, length, Ok, Err, IfOk, IfErr, IfSome};
 ghost use Rattle.pv_model.specs.Machine.{image_started};
 ghost use Rattle.pv_questions.specs.Trees.{manifest_started};
-ghost use Rattle.pv_run.specs.Machines.{IsBundleMachineFault, IsMachineFault, RefusesMachine};
-ghost use Rattle.pv_run.specs.Run.{IsStartFault, RefusesStart, started_from};
+ghost use Rattle.pv_run.specs.Machines.{IsBundleMachineError, IsMachineError, RefusesMachine};
+ghost use Rattle.pv_run.specs.Run.{IsStartError, RefusesStart, started_from};
 ghost use Rattle.pv_streams.specs.Sources.{FailsToGive};
 
 use crate::trees::store_of_bytes;
@@ -22,7 +22,7 @@ pub(crate) fn ready_by<I: Source>(
 ) -> Result<Ready, RunFault>
     ensures asked { IfOk result (λ r. IfSome (I.remaining image.old) (λ bytes. image_started bytes turns.now ≡ Ok (started_from r.session r.schedule))) }
     ensures refused { IfErr result (λ fault. IfSome (I.remaining image.old) (λ bytes. RefusesMachine fault (image_started bytes turns.now))) }
-    ensures kind { IfErr result IsMachineFault }
+    ensures kind { IfErr result IsMachineError }
     ensures read { result ≡ Err RunFault.Read → FailsToGive I.Source image.old image.new }
 {
     let image = read_whole(alloc, image)?;
@@ -34,7 +34,7 @@ fn start_manifest(alloc: Global, manifest: &[u8], turns: &[u8]) -> Result<Ready,
     requires { length manifest.now ≤ SOURCE_BYTES }
     ensures asked { IfOk result (λ r. manifest_started manifest.now turns.now ≡ Ok (started_from r.session r.schedule)) }
     ensures refused { IfErr result (λ fault. RefusesStart fault (manifest_started manifest.now turns.now)) }
-    ensures kind { IfErr result IsStartFault }
+    ensures kind { IfErr result IsStartError }
 {
     let store = store_of_bytes(alloc, manifest)?;
     start_on(alloc, store, turns)
@@ -48,7 +48,7 @@ pub(crate) fn ready_on_manifest_by<I: Source>(
 ) -> Result<Ready, RunFault>
     ensures asked { IfOk result (λ r. IfSome (I.remaining manifest.old) (λ bytes. manifest_started bytes turns.now ≡ Ok (started_from r.session r.schedule))) }
     ensures refused { IfErr result (λ fault. IfSome (I.remaining manifest.old) (λ bytes. RefusesMachine fault (manifest_started bytes turns.now))) }
-    ensures kind { IfErr result IsBundleMachineFault }
+    ensures kind { IfErr result IsBundleMachineError }
     ensures read { result ≡ Err RunFault.Read → FailsToGive I.Source manifest.old manifest.new }
 {
     let manifest = read_whole(alloc, manifest)?;
@@ -65,7 +65,7 @@ pub(crate) fn ready_on_manifest<I: Source, S: Source>(
         manifest_started bytes turns ≡ Ok (started_from r.session r.schedule)))) }
     ensures refused { IfErr result (λ fault. IfSome (I.remaining manifest.old) (λ bytes. IfSome (S.remaining schedule.old) (λ turns.
         RefusesMachine fault (manifest_started bytes turns)))) }
-    ensures kind { IfErr result IsBundleMachineFault }
+    ensures kind { IfErr result IsBundleMachineError }
     ensures read { result ≡ Err RunFault.Read → FailsToGive I.Source manifest.old manifest.new ⊎ FailsToGive S.Source schedule.old schedule.new }
 {
     let manifest = read_whole(alloc, manifest)?;

@@ -1,9 +1,9 @@
 //! Questions about a tree.
 ghost use Rattle.std.specs.Prelude.{◌≡◌, ◌≤◌, length, Ok, Err, IfOk, IfErr, IfSome};
 ghost use Rattle.pv_questions.specs.Asking.{Answers, AnswersOne, IsImageTreeStop, IsManifestTreeStop, IsTreeStop, ReportsComplete};
-ghost use Rattle.pv_questions.specs.Trees.{image_tree, image_tree_answer, image_tree_is_complete, manifest_tree, manifest_tree_answer, manifest_tree_is_complete, read_manifest_of, tree_answer, tree_is_complete, GivesManifestOf, ReadsManifest, asked_manifest};
-ghost use Rattle.pv_run.specs.Machines.{IsBundleMachineFault, IsMachineFault, RefusesMachine};
-ghost use Rattle.pv_run.specs.Run.{IsStartFault, RefusesStart};
+ghost use Rattle.pv_questions.specs.Trees.{image_tree, image_tree_answer, image_tree_is_complete, tree_of_manifest_text, manifest_tree_answer, manifest_tree_is_complete, read_manifest_of, tree_answer, tree_is_complete, GivesManifestOf, ReadsManifest, asked_manifest};
+ghost use Rattle.pv_run.specs.Machines.{IsBundleMachineError, IsMachineError, RefusesMachine};
+ghost use Rattle.pv_run.specs.Run.{IsStartError, RefusesStart};
 ghost use Rattle.pv_streams.specs.Sources.{FailsToGive};
 
 use crate::file::file_at;
@@ -23,7 +23,7 @@ use std::alloc::Global;
 fn store_of_image<S: Source>(alloc: Global, image: &mut S) -> Result<Store, RunFault>
     ensures held { IfOk result (λ store. IfSome (S.remaining image.old) (λ bytes. image_tree bytes ≡ Ok store)) }
     ensures refused { IfErr result (λ fault. IfSome (S.remaining image.old) (λ bytes. RefusesMachine fault (image_tree bytes))) }
-    ensures kind { IfErr result IsMachineFault }
+    ensures kind { IfErr result IsMachineError }
     ensures read { result ≡ Err RunFault.Read → FailsToGive S.Source image.old image.new }
 {
     let bytes = read_whole(alloc, image)?;
@@ -52,7 +52,7 @@ fn manifest_of_bytes(alloc: Global, bytes: &[u8]) -> Result<Manifest, RunFault>
     requires { length bytes.now ≤ SOURCE_BYTES }
     ensures read { IfOk result (λ m. GivesManifestOf (Ok m) (read_manifest_of bytes.now)) }
     ensures refused { IfErr result (λ fault. RefusesStart fault (asked_manifest bytes.now)) }
-    ensures kind { IfErr result IsStartFault }
+    ensures kind { IfErr result IsStartError }
 {
     let manifest = parse(alloc, bytes)?;
     Ok(manifest)
@@ -75,9 +75,9 @@ pub fn read_manifest<S: Source>(alloc: Global, manifest: &mut S) -> Result<Manif
 // Returns the store of the tree that the manifest in `bytes` makes.
 pub(crate) fn store_of_bytes(alloc: Global, bytes: &[u8]) -> Result<Store, RunFault>
     requires { length bytes.now ≤ SOURCE_BYTES }
-    ensures made { IfOk result (λ store. manifest_tree bytes.now ≡ Ok store) }
-    ensures refused { IfErr result (λ fault. RefusesStart fault (manifest_tree bytes.now)) }
-    ensures kind { IfErr result IsStartFault }
+    ensures made { IfOk result (λ store. tree_of_manifest_text bytes.now ≡ Ok store) }
+    ensures refused { IfErr result (λ fault. RefusesStart fault (tree_of_manifest_text bytes.now)) }
+    ensures kind { IfErr result IsStartError }
 {
     let manifest = parse(alloc, bytes)?;
     Ok(build(alloc, &manifest)?)
@@ -85,9 +85,9 @@ pub(crate) fn store_of_bytes(alloc: Global, bytes: &[u8]) -> Result<Store, RunFa
 
 // Returns the store of the tree that a manifest makes. The manifest may be part of a bundle.
 fn store_of_manifest<S: Source>(alloc: Global, manifest: &mut S) -> Result<Store, RunFault>
-    ensures held { IfOk result (λ store. IfSome (S.remaining manifest.old) (λ bytes. manifest_tree bytes ≡ Ok store)) }
-    ensures refused { IfErr result (λ fault. IfSome (S.remaining manifest.old) (λ bytes. RefusesMachine fault (manifest_tree bytes))) }
-    ensures kind { IfErr result IsBundleMachineFault }
+    ensures held { IfOk result (λ store. IfSome (S.remaining manifest.old) (λ bytes. tree_of_manifest_text bytes ≡ Ok store)) }
+    ensures refused { IfErr result (λ fault. IfSome (S.remaining manifest.old) (λ bytes. RefusesMachine fault (tree_of_manifest_text bytes))) }
+    ensures kind { IfErr result IsBundleMachineError }
     ensures read { result ≡ Err RunFault.Read → FailsToGive S.Source manifest.old manifest.new }
 {
     let bytes = read_whole(alloc, manifest)?;
@@ -116,13 +116,13 @@ fn answer_turns<W: Sink>(
 fn answer_search<W: Sink, P: Progress>(
     alloc: Global,
     store: Store,
-    search: Search,
+    search: Search<'_>,
     states: u32,
     progress: &mut P,
     out: &mut W,
 ) -> Result<(), AskStop>
-    ensures answered { Answers W.Sink (tree_answer (TreeQuestion.Search search states) store) (IsTreeStop (TreeQuestion.Search search states)) out.old out.new result }
-    ensures complete { ReportsComplete result (tree_is_complete (TreeQuestion.Search search states) store) }
+    ensures answered { Answers W.Sink (tree_answer (TreeQuestion.Search search.entry states) store) (IsTreeStop (TreeQuestion.Search search.entry states)) out.old out.new result }
+    ensures complete { ReportsComplete result (tree_is_complete (TreeQuestion.Search search.entry states) store) }
 {
     store.invariant();
     let first_machine = match FirstMachine::new(alloc, store) {

@@ -28,8 +28,8 @@ abbrev pub with_references : List ℕ → List ℕ → List ℕ
 with_references order [] = order
 with_references order (n ∷ ns) = with_references (with_reference order n) ns
 
-abbrev pub files_of : Numbered Descriptor → List ℕ
-files_of ds = map (λ d. d.file) (present ds)
+abbrev pub descriptor_files : Numbered Descriptor → List ℕ
+descriptor_files ds = map (λ d. d.file) (present ds)
 
 abbrev pub files_of_processes : List (ℕ × ProcessRecord) → List ℕ
 files_of_processes rs = flat_map (λ p. used_files p.1) (live_processes rs)
@@ -40,8 +40,8 @@ files_of_live None = []
 files_of_live (Some p) = used_files p
 
 -- the open files in an order, in a table of 128
-abbrev pub files_in : Numbered OpenFile → List ℕ → Numbered OpenFile
-files_in files order = map (at_number files) order ++ replicate (OPEN_FILES - length order) no_file
+abbrev pub ordered_files : Numbered OpenFile → List ℕ → Numbered OpenFile
+ordered_files files order = map (at_number files) order ++ replicate (OPEN_FILES - length order) no_file
 
 -- a record with zero in dead variables, and with other numbers of open files
 abbrev pub reduced_record : (ℕ → ℕ) → ProcessRecord → ProcessRecord

@@ -1,10 +1,9 @@
--- The search of all states and the reduced search, side by side.
+-- The full search and the reduced search.
 use Rattle.std.specs.Prelude.{ℕ, Bool, true, false, List}
 use Rattle.pv_explore.specs.Observing
 use Rattle.pv_explore.specs.Visiting.{Visits}
 use Rattle.pv_laws_classes.specs.Reduced.{is_reduced_complete, reduced_found}
-use Rattle.pv_laws_classes.specs.ReducedAnswers.{classes_line, reduced_lines, reduced_access_lines, reduced_exposure_lines, reduced_granted_policy_lines, reduced_policy_lines}
-use Rattle.pv_model.specs.Answers.Access.{access_lines}
+use Rattle.pv_laws_classes.specs.ReducedAnswers.{classes_line, reduced_lines, reduced_exposure_lines, reduced_granted_policy_lines, reduced_policy_lines}
 use Rattle.pv_model.specs.Machine.{Found, is_complete, states_found, AnswerLine, Observer, Bytes, program_of, State}
 use Rattle.pv_model.specs.Answers.Explore.{explore_lines, states_line}
 use Rattle.pv_model.specs.Answers.Exposure.{exposure_lines}
@@ -34,10 +33,10 @@ count_line Reduced count complete = classes_line count complete
 -- ---- observations
 
 module _ (observe : Observer Bytes) (limit : ℕ) (s : State) where
-  -- what a search with an observer writes
+  -- the output of a search with an observer
   abbrev pub observed_by : SearchKind → Bytes
   observed_by Full = Observing.observed_bytes observe limit s
-  observed_by Reduced = Lines.observed_bytes observe limit s
+  observed_by Reduced = Lines.reduced_observed_bytes observe limit s
 
   -- its result: the number of visited states, whether no state was left out, the number of different trees at the ends of
   -- schedules, and the texts recorded
@@ -46,10 +45,6 @@ module _ (observe : Observer Bytes) (limit : ℕ) (s : State) where
   IsSearchedBy Reduced states complete ends texts = Lines.IsReducedSearched observe limit s states complete ends texts
 
 -- ---- answers
-
-abbrev pub access_lines_by : SearchKind → ℕ → State → List AnswerLine
-access_lines_by Full limit s = access_lines program_of limit s
-access_lines_by Reduced limit s = reduced_access_lines program_of limit s
 
 -- of all calls, or of the granted ones alone
 abbrev pub policy_lines_by : Bool → SearchKind → ℕ → State → List AnswerLine

@@ -1,4 +1,4 @@
--- What a reduced search with an observer writes, and its result.
+-- The output of a reduced search with an observer, and its result.
 use Rattle.std.specs.Prelude.{◌≡◌, ℕ, Bool, List, length, map, flat_map}
 use Rattle.pv_explore.specs.Observing.{observation_bytes}
 use Rattle.pv_explore.specs.Visiting.{Visits}
@@ -8,12 +8,12 @@ use Rattle.pv_model.specs.Machine.{endings, Observation, Observer, first_observa
 
 module _ (observe : Observer Bytes) (limit : ℕ) (s : State) where
   -- the texts that no earlier step has, each with its step
-  abbrev pub first_texts : List (Observation Bytes)
-  first_texts = first_observations (λ t. t) (reduced_observations observe program_of limit s)
+  abbrev pub reduced_first_texts : List (Observation Bytes)
+  reduced_first_texts = first_observations (λ t. t) (reduced_observations observe program_of limit s)
 
-  -- what a search writes
-  unfoldable pub observed_bytes : Bytes
-  observed_bytes = flat_map observation_bytes first_texts
+  -- the output of a search
+  unfoldable pub reduced_observed_bytes : Bytes
+  reduced_observed_bytes = flat_map observation_bytes reduced_first_texts
 
   -- the result of a search: the number of visited states, whether no state was left out, the number of different trees at
   -- the ends of schedules, and the texts recorded
@@ -21,7 +21,7 @@ module _ (observe : Observer Bytes) (limit : ℕ) (s : State) where
     pub states_are : states ≡ length (reduced_found program_of s limit)
     pub complete_is : complete ≡ is_reduced_complete program_of s limit
     pub endings_are : endings_found ≡ length (endings (reduced_found program_of s limit))
-    pub texts_are : texts ≡ map (λ o. o.item) first_texts
+    pub texts_are : texts ≡ map (λ o. o.item) reduced_first_texts
 
 -- the visited states of a reduced search with a limit
 abbrev pub reduced_states : ℕ → State → Visits

@@ -21,7 +21,7 @@ abbrev pub AreRows : List Bytes → List Bytes → Type 0
 AreRows parts rows = AllByRecursion (IsRowOf parts) rows
 
 -- the result of adding a list to a set with a limit, and the set after that
-abbrev pub IsAddedTo : ℕ → List Bytes → Addition → List (List Bytes) → List (List Bytes) → Type 0
-IsAddedTo limit list Known old new = (list_any (same_parts list) old ≡ true) × (new ≡ old)
-IsAddedTo limit list Full old new = (list_any (same_parts list) old ≡ false) × (limit ≤ length old) × (new ≡ old)
-IsAddedTo limit list New old new = (list_any (same_parts list) old ≡ false) × (length old < limit) × (new ≡ old ++ list ∷ [])
+abbrev pub IsListAddedTo : ℕ → List Bytes → Addition → List (List Bytes) → List (List Bytes) → Type 0
+IsListAddedTo limit list Known old new = (list_any (same_parts list) old ≡ true) × (new ≡ old)
+IsListAddedTo limit list Full old new = (list_any (same_parts list) old ≡ false) × (limit ≤ length old) × (new ≡ old)
+IsListAddedTo limit list New old new = (list_any (same_parts list) old ≡ false) × (length old < limit) × (new ≡ old ++ list ∷ [])

@@ -34,12 +34,12 @@ variable_of (Register r) = register_variable r
 variable_of (Byte k) = byte_variable k
 
 -- for each line whether a variable is live there
-abbrev pub table_of : Program → Variable → List Bool
-table_of program v = rounds program v (length program)
+abbrev pub liveness_of : Program → Variable → List Bool
+liveness_of program v = rounds program v (length program)
 
 -- the tables of a number of registers
 abbrev pub register_tables : Program → ℕ → List (List Bool)
-register_tables program count = map (λ r. table_of program (register_variable r)) (numbers_from 0 count)
+register_tables program count = map (λ r. liveness_of program (register_variable r)) (numbers_from 0 count)
 
 abbrev pub tables_of : List (Vec Bool) → List (List Bool)
 tables_of tables = map (λ t. t.items) tables
@@ -65,7 +65,7 @@ bounds_of bs = map bound_of bs
 -- the table of the last byte below a bound
 abbrev pub last_table : Program → ℕ → List Bool
 last_table program zero = []
-last_table program (suc k) = table_of program (byte_variable k)
+last_table program (suc k) = liveness_of program (byte_variable k)
 
 abbrev pub bound_table : Program → ℕ → Bound
 bound_table program bound = record { bound = bound; table = last_table program bound }
@@ -84,17 +84,17 @@ greatest_in line [] = 0
 greatest_in line (b ∷ bs) = max (bound_in line b) (greatest_in line bs)
 
 -- the live variables of a line, given the tables and the bounds
-abbrev pub line_in : List (List Bool) → List Bound → ℕ → LiveLine
-line_in tables bounds line = record { registers = registers_in tables line; bytes = greatest_in line bounds }
+abbrev pub live_line_in : List (List Bool) → List Bound → ℕ → LiveLine
+live_line_in tables bounds line = record { registers = registers_in tables line; bytes = greatest_in line bounds }
 
 abbrev pub lines_in : List (List Bool) → List Bound → ℕ → List LiveLine
-lines_in tables bounds count = map (line_in tables bounds) (numbers_from 0 count)
+lines_in tables bounds count = map (live_line_in tables bounds) (numbers_from 0 count)
 
 -- ---- the tables of several programs
 
 -- the encoding of a program
-abbrev pub program_key : Program → Bytes
-program_key program = packed_all (list_numbers instruction_numbers program)
+abbrev pub packed_program : Program → Bytes
+packed_program program = packed_all (list_numbers instruction_numbers program)
 
 abbrev pub lists_of : List (Vec LiveLine) → List (List LiveLine)
 lists_of tables = map (λ t. t.items) tables
@@ -102,5 +102,5 @@ lists_of tables = map (λ t. t.items) tables
 -- the encodings of programs, and the live variables of their lines
 pub record AreTables (keys : List Bytes) (tables : List (List LiveLine)) : Type 0 where
   pub programs : List Program
-  pub keys_are : keys ≡ map program_key programs
+  pub keys_are : keys ≡ map packed_program programs
   pub tables_are : tables ≡ map live_lines programs

@@ -46,7 +46,7 @@ fn write_done<W: Sink>(out: &mut W, searched: &Searched) -> Result<(), Failed>
 }
 
 /// Writes what can happen under any schedule, by the reduced search: it visits at most `states` states, in breadth-first
-/// order from the first state of a machine; it identifies states that are equal but for the numbers of open files and for
+/// order from the first state of a machine; it identifies states that are equal up to the numbers of open files and for
 /// dead variables; and after a step of a process on registers, the next step is of the same process. For each step text
 /// that no earlier step had, it writes a BY line with a shortest witness, that is, a schedule that leads to this step, and
 /// then the text. The last two lines, DONE, have the number of visited states, whether no state was left out, and the

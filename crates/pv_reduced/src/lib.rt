@@ -1,6 +1,6 @@
 //! A search of all schedules that visits fewer states, and the answer of `explore` by it.
 //!
-//! It identifies states that are equal but for the numbers of open files and for dead variables, and after a step of a
+//! It identifies states that are equal up to the numbers of open files and for dead variables, and after a step of a
 //! process on registers, the next step is of the same process. `liveness` computes which variables of a program are live
 //! at each line, `live_tables` stores this for each program, `order` numbers the open files in the order of their first
 //! reference, and `parts` encodes the representative of a state. `part_lists` is a table of such encodings, `search`

@@ -2,7 +2,7 @@
 ghost use Rattle.std.specs.Prelude.{◌≡◌, ◌<◌, false, bytes_eq, length, slice_get, IfOk, Some};
 ghost use Rattle.std.specs.List.{list_any};
 ghost use Rattle.pv_model.specs.Machine.{instruction_numbers, list_numbers, Program as Instructions};
-ghost use Rattle.pv_reduced.specs.Live.{AreTables, lists_of, live_line, live_lines, program_key};
+ghost use Rattle.pv_reduced.specs.Live.{AreTables, lists_of, live_line, live_lines, packed_program};
 ghost use Rattle.pv_state_encoding.specs.Packed.{packed_all};
 
 use crate::liveness::{LiveLine, live_at, live_lines};
@@ -41,7 +41,7 @@ fn add_program(
     program: &Program,
 ) -> Result<usize, AllocError>
     requires tables { AreTables programs.old (lists_of lines.old.items) }
-    requires encoded { part.now ≡ program_key program.now }
+    requires encoded { part.now ≡ packed_program program.now }
     requires other { list_any (bytes_eq part.now) programs.old ≡ false }
     ensures tables { AreTables programs.new (lists_of lines.new.items) }
     ensures there { IfOk result (λ number. slice_get (lists_of lines.new.items) number ≡ Some (live_lines program.now)) }
@@ -67,7 +67,7 @@ fn program_number(
     program: &Program,
 ) -> Result<usize, AllocError>
     requires tables { AreTables programs.old (lists_of lines.old.items) }
-    requires encoded { part.now ≡ program_key program.now }
+    requires encoded { part.now ≡ packed_program program.now }
     ensures tables { AreTables programs.new (lists_of lines.new.items) }
     ensures there { IfOk result (λ number. slice_get (lists_of lines.new.items) number ≡ Some (live_lines program.now)) }
 {

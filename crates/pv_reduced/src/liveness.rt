@@ -6,7 +6,7 @@ ghost use Rattle.std.specs.Prelude.{◌≡◌, ◌<◌, ◌||◌, false, length,
 ghost use Rattle.std.specs.List.{list_any};
 ghost use Rattle.pv_laws_classes.specs.Liveness.{bytes_taken, line_after, has_line, is_byte_at, is_byte_below, is_needed, is_register, is_result, next_table, operand_reads, origin_reads, read_bound, reads_variable, sets_variable, targets};
 ghost use Rattle.pv_model.specs.Machine.{Program as Instructions};
-ghost use Rattle.pv_reduced.specs.Live.{bound_in, bound_of, bound_table, bound_tables, bounds_of, greatest_in, last_table, line_in, lines_in, live_line, live_lines, register_tables, registers_in, table_in, table_of, tables_of, variable_of};
+ghost use Rattle.pv_reduced.specs.Live.{bound_in, bound_of, bound_table, bound_tables, bounds_of, greatest_in, last_table, live_line_in, lines_in, live_line, live_lines, register_tables, registers_in, table_in, liveness_of, tables_of, variable_of};
 
 use pv_model::limits::{BUFFER, REGISTERS};
 use pv_model::{Instruction, Operand, Origin};
@@ -171,7 +171,7 @@ fn read_bound(instruction: &Instruction) -> usize
 // ---- the lines where a variable is live
 
 // Returns whether a table contains a line. Each table contains line 0, which does not exist.
-#[tactic(auto, using(crate::proofs::Lively::line_there))]
+#[tactic(auto, using(crate::proofs::LivenessComputation::line_there))]
 fn has_line(table: &[bool], line: usize) -> bool
     ensures { result ≡ has_line table.now line }
 {
@@ -189,7 +189,7 @@ fn following(program: &Program, line: usize) -> usize
 }
 
 // Returns whether a table contains a line where a program may continue after an instruction.
-#[tactic(auto, using(crate::proofs::Lively::or_nothing))]
+#[tactic(auto, using(crate::proofs::LivenessComputation::or_nothing))]
 fn has_target(program: &Program, table: &[bool], line: usize, instruction: &Instruction) -> bool
     ensures { result ≡ list_any (has_line table.now) (targets program.now line instruction.now) }
 {
@@ -245,7 +245,7 @@ fn no_lines(alloc: Global, program: &Program) -> Result<Vec<bool>, AllocError>
 
 // Returns the lines where a variable is live.
 fn rounds(alloc: Global, program: &Program, variable: Variable) -> Result<Vec<bool>, AllocError>
-    ensures { IfOk result (λ table. table.items ≡ table_of program.now (variable_of variable)) }
+    ensures { IfOk result (λ table. table.items ≡ liveness_of program.now (variable_of variable)) }
 {
     let mut table = no_lines(alloc, program)?;
     for _ in 0..program.len() {
@@ -269,7 +269,7 @@ fn register_tables(alloc: Global, program: &Program) -> Result<Vec<Vec<bool>>, A
 }
 
 // Returns the lines where the last byte below a bound is live, or no line if the bound is 0.
-#[tactic(auto, using(crate::proofs::Lively::no_last, crate::proofs::Lively::last_there))]
+#[tactic(auto, using(crate::proofs::LivenessComputation::no_last, crate::proofs::LivenessComputation::last_there))]
 fn last_table(alloc: Global, program: &Program, bound: usize) -> Result<Vec<bool>, AllocError>
     ensures { IfOk result (λ table. table.items ≡ last_table program.now bound) }
 {
@@ -358,7 +358,7 @@ fn greatest_in(bounds: &[BoundTable], line: usize) -> usize
 // Returns the live variables of a line.
 fn line_in(tables: &[Vec<bool>], bounds: &[BoundTable], line: usize) -> LiveLine
     requires { length tables.now ≡ REGISTERS }
-    ensures { result ≡ line_in (tables_of tables.now) (bounds_of bounds.now) line }
+    ensures { result ≡ live_line_in (tables_of tables.now) (bounds_of bounds.now) line }
 {
     LiveLine {
         registers: registers_in(tables, line),

@@ -1,6 +1,6 @@
 //! The order of open files in which descriptors refer to them first.
 ghost use Rattle.std.specs.Prelude.{◌≡◌, ◌∷◌, [], IfOk, OnOk};
-ghost use Rattle.pv_reduced.specs.Keys.{files_of, files_of_live, files_of_processes, with_reference, with_references};
+ghost use Rattle.pv_reduced.specs.Keys.{descriptor_files, files_of_live, files_of_processes, with_reference, with_references};
 ghost use Rattle.pv_laws_classes.specs.Canonical.{index_in};
 ghost use Rattle.pv_model.specs.Machine.{at_number};
 ghost use Rattle.pv_state_encoding.specs.OfProcs.ProcessTable.{process_in};
@@ -11,7 +11,7 @@ use pv_state_encoding::procs::Processes;
 use std::alloc::{AllocError, Global};
 
 /// Returns the index of a number, or the length of the list if it does not contain the number.
-#[tactic(auto, using(crate::proofs::Ordering::index_next, crate::proofs::Ordering::index_there, crate::proofs::Ordering::index_past))]
+#[tactic(auto, using(crate::proofs::DescriptorOrder::index_next, crate::proofs::DescriptorOrder::index_there, crate::proofs::DescriptorOrder::index_past))]
 pub(crate) fn index_in(order: &[usize], file: usize) -> usize
     ensures { result ≡ index_in order.now file }
 {
@@ -23,7 +23,7 @@ pub(crate) fn index_in(order: &[usize], file: usize) -> usize
 }
 
 // Appends an open file if it is new.
-#[tactic(auto, using(crate::proofs::Ordering::reference_old, crate::proofs::Ordering::reference_new))]
+#[tactic(auto, using(crate::proofs::DescriptorOrder::reference_old, crate::proofs::DescriptorOrder::reference_new))]
 fn push_reference(order: &mut Vec<usize>, file: usize) -> Result<(), AllocError>
     ensures { OnOk result (order.new.items ≡ with_reference order.old.items file) }
 {
@@ -40,7 +40,7 @@ fn push_descriptor_file(
     descriptors: &Descriptors,
     number: u8,
 ) -> Result<(), AllocError>
-    ensures { OnOk result (order.new.items ≡ with_references order.old.items (files_of (at_number descriptors.now number ∷ []))) }
+    ensures { OnOk result (order.new.items ≡ with_references order.old.items (descriptor_files (at_number descriptors.now number ∷ []))) }
 {
     match descriptors.at(i32::from(number)) {
         Ok(file) => push_reference(order, file),
@@ -49,9 +49,9 @@ fn push_descriptor_file(
 }
 
 // Appends the open files of descriptors in ascending order, if they are new.
-#[tactic(auto, using(crate::proofs::Ordering::files_next, crate::proofs::Ordering::files_end))]
+#[tactic(auto, using(crate::proofs::DescriptorOrder::files_next, crate::proofs::DescriptorOrder::files_end))]
 fn push_files_of(order: &mut Vec<usize>, descriptors: &Descriptors) -> Result<(), AllocError>
-    ensures { OnOk result (order.new.items ≡ with_references order.old.items (files_of descriptors.now)) }
+    ensures { OnOk result (order.new.items ≡ with_references order.old.items (descriptor_files descriptors.now)) }
 {
     descriptors.invariant();
     for number in 0..DESCRIPTORS as u8 {

@@ -1,6 +1,6 @@
 //! A set of lists of parts.
 ghost use Rattle.std.specs.Prelude.{◌≡◌, [], length, IfOk};
-ghost use Rattle.pv_reduced.specs.Lists.{IsAddedTo};
+ghost use Rattle.pv_reduced.specs.Lists.{IsListAddedTo};
 ghost use Rattle.pv_explore.specs.Rows.{parts_in};
 
 use pv_explore::learn_row;
@@ -70,7 +70,7 @@ impl PartLists {
         limit: usize,
         list: &[Vec<u8>],
     ) -> Result<Addition, AllocError>
-        ensures { IfOk result (λ addition. IsAddedTo limit (parts_in list.now) addition self.old self.new) }
+        ensures { IfOk result (λ addition. IsListAddedTo limit (parts_in list.now) addition self.old self.new) }
     {
         let row = learn_row(alloc, &mut self.parts, list)?;
         if self.rows.contains(&row) {

@@ -9,7 +9,7 @@ ghost use Rattle.pv_laws_classes.specs.Renumbering.{renumbered_descriptors};
 ghost use Rattle.pv_model.specs.declared.limits.TheConstants.{OPEN_FILES};
 ghost use Rattle.pv_model.specs.Machine.{bytes_numbers, descriptor_numbers, file_numbers, list_numbers, option_numbers, at_number, Program as Instructions};
 ghost use Rattle.pv_state_encoding.specs.OfProcs.ProcessTable.{process_in};
-ghost use Rattle.pv_reduced.specs.Keys.{files_in, held_under, location_under, parts_under, promised_under, reduced_parts};
+ghost use Rattle.pv_reduced.specs.Keys.{ordered_files, held_under, location_under, parts_under, promised_under, reduced_parts};
 ghost use Rattle.pv_reduced.specs.Live.{live_line};
 ghost use Rattle.pv_state_encoding.specs.Groups.{counts_part, files_part, parts_of};
 ghost use Rattle.pv_state_encoding.specs.Packed.{IsAdded, packed_all};
@@ -52,8 +52,8 @@ fn live_registers(registers: &[i32; REGISTERS], live: LiveLine) -> [i32; REGISTE
     cleared
 }
 
-// Appends zeros, at most as many as a buffer has bytes.
-#[tactic(auto, using(crate::proofs::Keying::zeros_added))]
+// Appends zeros, at most one for each byte of a buffer.
+#[tactic(auto, using(crate::proofs::StateKeys::zeros_added))]
 fn push_zeros(part: &mut Vec<u8>, count: usize) -> Result<(), AllocError>
     requires { count ≤ BUFFER }
     ensures { OnOk result (IsAdded (replicate count 0) part.old.items part.new.items) }
@@ -89,7 +89,7 @@ fn file_of(descriptors: &Descriptors, number: u8) -> Option<usize>
 }
 
 // Appends the descriptor of a number, if it is open, with the index of its open file.
-#[tactic(auto, using(crate::proofs::Keying::added_descriptor, crate::proofs::Keying::added_no_descriptor))]
+#[tactic(auto, using(crate::proofs::StateKeys::added_descriptor, crate::proofs::StateKeys::added_no_descriptor))]
 fn push_descriptor(
     part: &mut Vec<u8>,
     descriptors: &Descriptors,
@@ -122,7 +122,7 @@ fn push_each_descriptor(
 }
 
 // Appends all descriptors.
-#[tactic(auto, using(pv_state_encoding::proofs::Adding::added_then, crate::proofs::Keying::long_under))]
+#[tactic(auto, using(pv_state_encoding::proofs::AppendedNumbers::added_then, crate::proofs::StateKeys::long_under))]
 fn push_descriptors(
     part: &mut Vec<u8>,
     descriptors: &Descriptors,
@@ -136,7 +136,7 @@ fn push_descriptors(
 }
 
 // Appends the line, the registers, the parent and the directory.
-#[tactic(auto, using(pv_state_encoding::proofs::Adding::added_both))]
+#[tactic(auto, using(pv_state_encoding::proofs::AppendedNumbers::added_both))]
 fn push_location(
     part: &mut Vec<u8>,
     owned: &ProcessRecord,
@@ -152,7 +152,7 @@ fn push_location(
 }
 
 // Appends the line, the registers, the parent, the directory, the lock and the promises.
-#[tactic(auto, using(pv_state_encoding::proofs::Adding::added_both))]
+#[tactic(auto, using(pv_state_encoding::proofs::AppendedNumbers::added_both))]
 fn push_promised(
     part: &mut Vec<u8>,
     owned: &ProcessRecord,
@@ -183,7 +183,7 @@ fn push_held(
 }
 
 // Returns the part of a live process that has neither its program nor its buffer.
-#[tactic(auto, using(pv_state_encoding::proofs::Adding::added_then, pv_state_encoding::proofs::Grouping::added_whole))]
+#[tactic(auto, using(pv_state_encoding::proofs::AppendedNumbers::added_then, pv_state_encoding::proofs::StateGroups::added_whole))]
 fn part_held(
     alloc: Global,
     pid: u32,
@@ -248,7 +248,7 @@ fn push_live(
 }
 
 // Appends the parts of a process, if there is such a process.
-#[tactic(auto, using(crate::proofs::Keying::ended_under, crate::proofs::Keying::nobody_under))]
+#[tactic(auto, using(crate::proofs::StateKeys::ended_under, crate::proofs::StateKeys::nobody_under))]
 fn push_process(
     alloc: Global,
     parts: &mut Vec<Vec<u8>>,
@@ -290,7 +290,7 @@ fn push_processes(
 // ---- open files
 
 // Appends open files in this order.
-#[tactic(auto, using(pv_state_encoding::proofs::Adding::added_each))]
+#[tactic(auto, using(pv_state_encoding::proofs::AppendedNumbers::added_each))]
 fn push_files_in_order(
     part: &mut Vec<u8>,
     files: &OpenFiles,
@@ -306,7 +306,7 @@ fn push_files_in_order(
 
 // Returns the part of the table of open files in this order.
 fn part_of_files(alloc: Global, files: &OpenFiles, order: &[usize]) -> Result<Vec<u8>, AllocError>
-    ensures { IfOk result (λ part. part.items ≡ files_part (files_in files.now.files order.now)) }
+    ensures { IfOk result (λ part. part.items ≡ files_part (ordered_files files.now.files order.now)) }
 {
     let rest = OPEN_FILES.saturating_sub(order.len());
     let mut part = Vec::new(alloc);
@@ -319,7 +319,7 @@ fn part_of_files(alloc: Global, files: &OpenFiles, order: &[usize]) -> Result<Ve
 // ---- states
 
 // Returns the part of a process number that must make the next step, or 0.
-#[tactic(auto, using(pv_state_encoding::proofs::Grouping::added_whole))]
+#[tactic(auto, using(pv_state_encoding::proofs::StateGroups::added_whole))]
 fn part_of_bound(alloc: Global, bound: u32) -> Result<Vec<u8>, AllocError>
     ensures { IfOk result (λ part. part.items ≡ packed_all (bound ∷ [])) }
 {
@@ -329,7 +329,7 @@ fn part_of_bound(alloc: Global, bound: u32) -> Result<Vec<u8>, AllocError>
 }
 
 // Returns the part of the last process number given and the number of processes.
-#[tactic(auto, using(pv_state_encoding::proofs::Adding::added_then, pv_state_encoding::proofs::Grouping::added_whole))]
+#[tactic(auto, using(pv_state_encoding::proofs::AppendedNumbers::added_then, pv_state_encoding::proofs::StateGroups::added_whole))]
 fn part_of_counts(alloc: Global, processes: &Processes) -> Result<Vec<u8>, AllocError>
     ensures { IfOk result (λ part. part.items ≡ counts_part processes.now.last_process (length processes.now.processes)) }
 {

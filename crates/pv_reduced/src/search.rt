@@ -1,8 +1,8 @@
 //! The reduced search.
 ghost use Rattle.std.specs.Prelude.{◌≡◌, ◌<◌, ◌++◌, ◌∷◌, [], true, filter, length, IfOk, IfSome, OnOk};
 ghost use Rattle.pv_reduced.specs.Keys.{reduced_parts};
-ghost use Rattle.pv_reduced.specs.Plan.{first_visited, reported_from, visited_from, with_found_at};
-ghost use Rattle.pv_reduced.specs.Searches.{HasMoved, HasMovedAll, HaveWitnesses, moving_of, state_of, text_of_move, text_of_moves, visited_of};
+ghost use Rattle.pv_reduced.specs.Plan.{reduced_first_visited, reduced_reported_from, reduced_visited_from, reduced_with_found_at};
+ghost use Rattle.pv_reduced.specs.Searches.{MakesReducedStep, MakesReducedSteps, HaveWitnesses, moving_of, reduced_state_of, reduced_text_of_move, reduced_text_of_moves, reduced_visited_of};
 ghost use Rattle.pv_explore.specs.Rows.{parts_in};
 ghost use Rattle.pv_explore.specs.Witnesses.{longer};
 ghost use Rattle.pv_laws_classes.specs.Reduced.{bound_by, may_step};
@@ -144,7 +144,7 @@ impl<O: Observer + Drop> ReducedSearch<O> {
         observer: O,
         first_machine: &FirstMachine,
     ) -> Result<ReducedSearch<O>, StepFault>
-        ensures { IfOk result (λ search. visited_of search ≡ first_visited first_machine.now) }
+        ensures { IfOk result (λ search. reduced_visited_of search ≡ reduced_first_visited first_machine.now) }
     {
         let position = first_machine.machine();
         let mut tables = LiveTables::new(alloc);
@@ -165,10 +165,10 @@ impl<O: Observer + Drop> ReducedSearch<O> {
 
     /// Returns the result of the search.
     pub(crate) fn end(self) -> Searched
-        ensures states { result.states ≡ length (visited_of self).keys }
-        ensures complete { result.complete ≡ (visited_of self).complete }
-        ensures endings { result.endings ≡ length (visited_of self).endings }
-        ensures texts { result.texts ≡ (visited_of self).reported }
+        ensures states { result.states ≡ length (reduced_visited_of self).keys }
+        ensures complete { result.complete ≡ (reduced_visited_of self).complete }
+        ensures endings { result.endings ≡ length (reduced_visited_of self).endings }
+        ensures texts { result.texts ≡ (reduced_visited_of self).reported }
     {
         let ReducedSearch {
             observer: _,
@@ -190,8 +190,8 @@ impl<O: Observer + Drop> ReducedSearch<O> {
 
     /// Returns the witnesses of the visited states, and whether no state was left out.
     pub(crate) fn into_witnesses(self) -> (Witnesses, bool)
-        ensures witnesses { result.0 ≡ (visited_of self).witnesses }
-        ensures complete { result.1 ≡ (visited_of self).complete }
+        ensures witnesses { result.0 ≡ (reduced_visited_of self).witnesses }
+        ensures complete { result.1 ≡ (reduced_visited_of self).complete }
     {
         let ReducedSearch {
             observer: _,
@@ -217,8 +217,8 @@ impl<O: Observer + Drop> ReducedSearch<O> {
         bound: u32,
         position: &Position,
     ) -> Result<(), StepFault>
-        requires { number < length (visited_of self.old).witnesses }
-        ensures { OnOk result (visited_of self.new ≡ with_found_at limit (visited_of self.old) bound (longer (visited_of self.old).witnesses number pid) position.now) }
+        requires { number < length (reduced_visited_of self.old).witnesses }
+        ensures { OnOk result (reduced_visited_of self.new ≡ reduced_with_found_at limit (reduced_visited_of self.old) bound (longer (reduced_visited_of self.old).witnesses number pid) position.now) }
     {
         let parts = parts_at(alloc, &mut self.tables, bound, position)?;
         let addition = self.lists.add(alloc, limit as usize, &parts)?;
@@ -244,9 +244,9 @@ impl<O: Observer + Drop> ReducedSearch<O> {
         checkpoints: &mut Checkpoints<'_>,
         number: u32,
     ) -> Result<Position, StepFault>
-        requires { number < length (visited_of self.now).witnesses }
+        requires { number < length (reduced_visited_of self.now).witnesses }
         ensures unchanged { checkpoints.new ≡ checkpoints.old }
-        ensures at { IfOk result (λ position. position ≡ state_of checkpoints.old self.now number) }
+        ensures at { IfOk result (λ position. position ≡ reduced_state_of checkpoints.old self.now number) }
     {
         let witness = self.witnesses.at(alloc, number)?;
         checkpoints.position(alloc, &witness)
@@ -264,11 +264,11 @@ impl<O: Observer + Drop> ReducedSearch<O> {
         pid: u32,
         out: &mut W,
     ) -> Result<(), Stop>
-        requires found { number < length (visited_of self.old).witnesses }
-        requires at { from ≡ state_of checkpoints.old self.old number }
+        requires found { number < length (reduced_visited_of self.old).witnesses }
+        requires at { from ≡ reduced_state_of checkpoints.old self.old number }
         ensures unchanged { checkpoints.new ≡ checkpoints.old }
-        ensures visited { OnOk result (HasMoved O.observe limit checkpoints.old number pid self.old self.new) }
-        ensures written { WritesOr W.Sink FailsBy (text_of_move O.observe limit checkpoints.old number pid self.old) out.old out.new result }
+        ensures visited { OnOk result (MakesReducedStep O.observe limit checkpoints.old number pid self.old self.new) }
+        ensures written { WritesOr W.Sink FailsBy (reduced_text_of_move O.observe limit checkpoints.old number pid self.old) out.old out.new result }
     {
         let bound = bound_by(from.parts(), pid);
         let ObservedStep {
@@ -292,9 +292,9 @@ impl<O: Observer + Drop> ReducedSearch<O> {
 
     // Returns the processes that make a step in state `number`, given a machine in this state.
     fn moving(&self, alloc: Global, machine: &Position, number: u32) -> Result<Vec<u32>, StepFault>
-        requires found { number < length (visited_of self.now).witnesses }
-        requires bounds { HaveWitnesses (visited_of self.now) }
-        ensures { IfOk result (λ pids. (s : State) → machine.now ≡ state_of s self.now number → pids.items ≡ moving_of s self.now number) }
+        requires found { number < length (reduced_visited_of self.now).witnesses }
+        requires bounds { HaveWitnesses (reduced_visited_of self.now) }
+        ensures { IfOk result (λ pids. (s : State) → machine.now ≡ reduced_state_of s self.now number → pids.items ≡ moving_of s self.now number) }
     {
         let pids = machine.live(alloc)?;
         Ok(those_moving(alloc, self.bounds[number as usize], &pids)?)
@@ -308,10 +308,10 @@ impl<O: Observer + Drop> ReducedSearch<O> {
         number: u32,
         machine: Option<Position>,
     ) -> Result<Position, StepFault>
-        requires found { number < length (visited_of self.now).witnesses }
-        requires at { IfSome machine (λ m. m ≡ state_of checkpoints.old self.now number) }
+        requires found { number < length (reduced_visited_of self.now).witnesses }
+        requires at { IfSome machine (λ m. m ≡ reduced_state_of checkpoints.old self.now number) }
         ensures unchanged { checkpoints.new ≡ checkpoints.old }
-        ensures at { IfOk result (λ position. position ≡ state_of checkpoints.old self.now number) }
+        ensures at { IfOk result (λ position. position ≡ reduced_state_of checkpoints.old self.now number) }
     {
         match machine {
             Some(machine) => Ok(machine),
@@ -328,11 +328,11 @@ impl<O: Observer + Drop> ReducedSearch<O> {
         number: u32,
         out: &mut W,
     ) -> Result<(), Stop>
-        requires found { number < length (visited_of self.old).witnesses }
-        requires bounds { HaveWitnesses (visited_of self.old) }
+        requires found { number < length (reduced_visited_of self.old).witnesses }
+        requires bounds { HaveWitnesses (reduced_visited_of self.old) }
         ensures unchanged { checkpoints.new ≡ checkpoints.old }
-        ensures visited { OnOk result (HasMovedAll O.observe limit checkpoints.old number self.old self.new) }
-        ensures written { WritesOr W.Sink FailsBy (text_of_moves O.observe limit checkpoints.old number self.old) out.old out.new result }
+        ensures visited { OnOk result (MakesReducedSteps O.observe limit checkpoints.old number self.old self.new) }
+        ensures written { WritesOr W.Sink FailsBy (reduced_text_of_moves O.observe limit checkpoints.old number self.old) out.old out.new result }
     {
         let machine = self.position(alloc, checkpoints, number)?;
         let pids = self.moving(alloc, &machine, number)?;
@@ -361,9 +361,9 @@ impl<O: Observer + Drop> ReducedSearch<O> {
         progress: &mut P,
         out: &mut W,
     ) -> Result<(), Stop>
-        requires { HaveWitnesses (visited_of self.old) }
-        ensures visited { OnOk result (visited_of self.new ≡ visited_from O.observe limit program_of first_machine.now limit 0 (visited_of self.old)) }
-        ensures written { WritesOr W.Sink FailsBy (reported_from O.observe limit program_of first_machine.now limit 0 (visited_of self.old)) out.old out.new result }
+        requires { HaveWitnesses (reduced_visited_of self.old) }
+        ensures visited { OnOk result (reduced_visited_of self.new ≡ reduced_visited_from O.observe limit program_of first_machine.now limit 0 (reduced_visited_of self.old)) }
+        ensures written { WritesOr W.Sink FailsBy (reduced_reported_from O.observe limit program_of first_machine.now limit 0 (reduced_visited_of self.old)) out.old out.new result }
     {
         let mut checkpoints = Checkpoints::new(alloc, first_machine);
         for number in 0..limit {

@@ -1,8 +1,8 @@
 //! The reduced search with an observer, its result, and the states that it visits.
 ghost use Rattle.std.specs.Prelude.{◌≡◌, ◌≤◌, IfOk, OnOk};
-ghost use Rattle.pv_reduced.specs.Lines.{IsReducedSearched, observed_bytes, reduced_states};
-ghost use Rattle.pv_reduced.specs.Plan.{first_visited};
-ghost use Rattle.pv_reduced.specs.Searches.{all_reported, all_visited, visited_of};
+ghost use Rattle.pv_reduced.specs.Lines.{IsReducedSearched, reduced_observed_bytes, reduced_states};
+ghost use Rattle.pv_reduced.specs.Plan.{reduced_first_visited};
+ghost use Rattle.pv_reduced.specs.Searches.{reduced_all_reported, reduced_all_visited, reduced_visited_of};
 ghost use Rattle.pv_explore.specs.OfSession.Running.{FailsBy};
 ghost use Rattle.pv_streams.specs.Sinks.{WritesOr};
 
@@ -22,9 +22,9 @@ fn search_all<O: Observer + Drop, W: Sink, P: Progress>(
     progress: &mut P,
     out: &mut W,
 ) -> Result<(), Stop>
-    requires { visited_of search.old ≡ first_visited first_machine.now }
-    ensures visited { OnOk result (visited_of search.new ≡ all_visited O.observe states first_machine.now) }
-    ensures written { WritesOr W.Sink FailsBy (all_reported O.observe states first_machine.now) out.old out.new result }
+    requires { reduced_visited_of search.old ≡ reduced_first_visited first_machine.now }
+    ensures visited { OnOk result (reduced_visited_of search.new ≡ reduced_all_visited O.observe states first_machine.now) }
+    ensures written { WritesOr W.Sink FailsBy (reduced_all_reported O.observe states first_machine.now) out.old out.new result }
 {
     let end = search.search(alloc, first_machine, states, progress, out);
     progress.end();
@@ -32,7 +32,7 @@ fn search_all<O: Observer + Drop, W: Sink, P: Progress>(
 }
 
 /// Searches all schedules with an observer, by the reduced search: it visits at most `states` states, in breadth-first
-/// order from the first state of a machine; it identifies states that are equal but for the numbers of open files and for
+/// order from the first state of a machine; it identifies states that are equal up to the numbers of open files and for
 /// dead variables; and after a step of a process on registers, the next step is of the same process. Of the texts
 /// observed, each that no earlier step had is recorded, and is written unless it is empty or begins with byte 0: first a
 /// BY line with a shortest witness, that is, a schedule that leads to the step, and then the text. Returns the result of
@@ -53,7 +53,7 @@ pub(crate) fn search_reduced<O: Observer + Drop, W: Sink, P: Progress>(
     out: &mut W,
 ) -> Result<Searched, Stop>
     requires { 1 ≤ states }
-    ensures written { WritesOr W.Sink FailsBy (observed_bytes O.observe states first_machine.now) out.old out.new result }
+    ensures written { WritesOr W.Sink FailsBy (reduced_observed_bytes O.observe states first_machine.now) out.old out.new result }
     ensures found { IfOk result (λ r. IsReducedSearched O.observe states first_machine.now r.states r.complete r.endings r.texts) }
 {
     let mut search = ReducedSearch::new(alloc, observer, first_machine)?;

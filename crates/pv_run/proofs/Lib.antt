@@ -1,10 +1,10 @@
--- Lemmas about runs from bytes to bytes: Starting (the checks of the input), Begun (a run, complete or up to a point),
--- Left (the machine after it), Written (the image after it), Made (manifests), Audited (audits), Unwritten (the output
--- that is not written when a run stops).
-pub mod Audited
-pub mod Begun
-pub mod Left
-pub mod Made
-pub mod Starting
-pub mod Unwritten
-pub mod Written
+-- Lemmas about runs from bytes to bytes: InputChecks (the checks of the input), RunPrefixes (a run, complete or up to a
+-- point), FinalMachine (the machine after it), ImageRuns (the image after it), ManifestImages (manifests), AuditOutput
+-- (audits), StoppedOutput (the output that is not written when a run stops).
+pub mod AuditOutput
+pub mod RunPrefixes
+pub mod FinalMachine
+pub mod ManifestImages
+pub mod InputChecks
+pub mod StoppedOutput
+pub mod ImageRuns

@@ -7,20 +7,20 @@ use Rattle.pv_model.specs.declared.verdict.AuditFault.{AuditFault}
 use Rattle.pv_model.specs.declared.verdict.Verdict.{Verdict}
 use Rattle.pv_model.specs.Machine.{Bytes, report, image_started, State, Rose}
 use Rattle.pv_model.specs.Sealed.{audit, verdict_line}
-use Rattle.pv_run.specs.Machines.{IsLeftBy, IsMachineFault, RefusesMachine}
+use Rattle.pv_run.specs.Machines.{IsLeftBy, IsMachineError, RefusesMachine}
 use Rattle.pv_run.specs.Run.{EitherFailsToGive, IfBoth}
 use Rattle.pv_streams.specs.Sinks.{and_all, WritesPrefix}
 use Rattle.pv_run.specs.declared.auditing.AuditStop.{AuditStop}
 use Rattle.pv_run.specs.declared.auditing.AuditStop.TheVariants.{Machine, Path, Write}
 
 -- the line of a verdict
-abbrev pub line_of : Result Verdict AuditFault → Result Bytes AuditFault
-line_of (Ok found) = Ok (verdict_line found)
-line_of (Err fault) = Err fault
+abbrev pub verdict_line_of : Result Verdict AuditFault → Result Bytes AuditFault
+verdict_line_of (Ok found) = Ok (verdict_line found)
+verdict_line_of (Err fault) = Err fault
 
 -- the text of an audit: the line of the file at a path or, without a path, the report on all files
 abbrev pub audit_text : State → Option Bytes → Result Bytes AuditFault
-audit_text s (Some path) = line_of (audit s path)
+audit_text s (Some path) = verdict_line_of (audit s path)
 audit_text s None = Ok (report s)
 
 -- exactly this text was written
@@ -53,19 +53,19 @@ AppearsInAudit image turns path before after Write = OnLeft image turns (λ s. B
 
 -- the reasons why an audit may fail; out of memory is not nested in another error
 abbrev pub IsAuditStop : AuditStop → Type 0
-IsAuditStop (Machine fault) = IsMachineFault fault
+IsAuditStop (Machine fault) = IsMachineError fault
 IsAuditStop stop = ⊤
 
 -- nothing was written, unless there was no memory or a write failed
-abbrev pub WritesNothingUnlessStopped : Option Bytes → Option Bytes → AuditStop → Type 0
-WritesNothingUnlessStopped before after (Machine Memory) = ⊤
-WritesNothingUnlessStopped before after Write = ⊤
-WritesNothingUnlessStopped before after stop = after ≡ before
+abbrev pub AuditWritesNothingUnlessStopped : Option Bytes → Option Bytes → AuditStop → Type 0
+AuditWritesNothingUnlessStopped before after (Machine Memory) = ⊤
+AuditWritesNothingUnlessStopped before after Write = ⊤
+AuditWritesNothingUnlessStopped before after stop = after ≡ before
 
 -- everything that was written is flushed, unless a write failed
-abbrev pub BufferedOnlyIfUnwritten : AuditStop → ℕ → Type 0
-BufferedOnlyIfUnwritten Write waiting = ⊤
-BufferedOnlyIfUnwritten stop waiting = waiting ≡ 0
+abbrev pub AuditBufferedOnlyIfUnwritten : AuditStop → ℕ → Type 0
+AuditBufferedOnlyIfUnwritten Write waiting = ⊤
+AuditBufferedOnlyIfUnwritten stop waiting = waiting ≡ 0
 
 -- the run of the schedule that a source gives on the image that another gives was audited: the file at a path or,
 -- without a path, all files
@@ -78,9 +78,9 @@ pub record AuditsImage {A B W : Type 0} (reading : Reading A) (other : Reading B
   pub refused : IfErr result (λ stop. IfBoth (reading.remaining first) (other.remaining second) (λ bytes turns.
       AppearsInAudit bytes turns path (sink.written old) (sink.written new) stop))
   pub kind : IfErr result IsAuditStop
-  pub unwritten : IfErr result (WritesNothingUnlessStopped (sink.written old) (sink.written new))
+  pub unwritten : IfErr result (AuditWritesNothingUnlessStopped (sink.written old) (sink.written new))
   pub empty : OnOk result (sink.buffered new ≡ 0)
-  pub stopped : IfErr result (λ stop. sink.buffered old ≡ 0 → BufferedOnlyIfUnwritten stop (sink.buffered new))
+  pub stopped : IfErr result (λ stop. sink.buffered old ≡ 0 → AuditBufferedOnlyIfUnwritten stop (sink.buffered new))
   -- a failed read or write was counted
   pub read : result ≡ Err (Machine Read) → EitherFailsToGive reading other first last second second_last
   pub write : result ≡ Err Write → Rose (sink.failures old) (sink.failures new)

@@ -18,8 +18,8 @@ abbrev pub WrittenImage : Tree → Option Bytes → Option Bytes → Type 0
 WrittenImage t before after = WritesImage (named_tree t) before after
 
 -- a prefix of bytes that hold a tree was written
-abbrev pub BeginsImage : Tree → Option Bytes → Option Bytes → Type 0
-BeginsImage t before after = BeginsWrittenImage (named_tree t) before after
+abbrev pub BeginsNamedImage : Tree → Option Bytes → Option Bytes → Type 0
+BeginsNamedImage t before after = BeginsWrittenImage (named_tree t) before after
 
 -- the tree after a run
 abbrev pub last_tree : Started → Tree
@@ -43,10 +43,10 @@ pub record HasRunUncut (asked : Result Started RunFault) (trace_before trace_aft
   pub summary : Summary
   pub is_run : IsTextOf asked text summary
   pub written : trace_after ≡ and_all trace_before text
-  pub begun : BeginsImage (last_tree is_run.it) image_before image_after
+  pub begun : BeginsNamedImage (last_tree is_run.it) image_before image_after
 
 -- a run was made, and its text was written
-pub record HasRunWhole (asked : Result Started RunFault) (before after : Option Bytes) : Type 0 where
+pub record HasRunToEnd (asked : Result Started RunFault) (before after : Option Bytes) : Type 0 where
   pub text : Bytes
   pub summary : Summary
   pub is_run : IsTextOf asked text summary
@@ -57,31 +57,31 @@ pub record HasRunWhole (asked : Result Started RunFault) (before after : Option 
 abbrev pub AppearsOn : Result Started RunFault → Option Bytes → Option Bytes → Option Bytes → Option Bytes → RunFault → Type 0
 AppearsOn asked tb ta ib ia WriteImage = HasRunUncut asked tb ta ib ia
 AppearsOn asked tb ta ib ia WriteTrace = HasBegun asked tb ta × (ia ≡ ib)
-AppearsOn asked tb ta ib ia Memory = ((ta ≡ tb) ⊎ (HasStopped asked tb ta ⊎ HasRunWhole asked tb ta)) × (ia ≡ ib)
+AppearsOn asked tb ta ib ia Memory = ((ta ≡ tb) ⊎ (HasStopped asked tb ta ⊎ HasRunToEnd asked tb ta)) × (ia ≡ ib)
 AppearsOn asked tb ta ib ia Read = (ta ≡ tb) × (ia ≡ ib)
 AppearsOn asked tb ta ib ia fault = (asked ≡ Err fault) × (ta ≡ tb) × (ia ≡ ib)
 
 -- the possible errors of the start of a run on an image; out of memory is not nested in another error
-abbrev pub IsImageFault : RunFault → Type 0
-IsImageFault (Image ImageMemory) = ⊥
-IsImageFault (Image fault) = ⊤
-IsImageFault (ScheduleLine n) = ⊤
-IsImageFault (Init n) = ⊤
-IsImageFault Memory = ⊤
-IsImageFault fault = ⊥
+abbrev pub IsImageError : RunFault → Type 0
+IsImageError (Image ImageMemory) = ⊥
+IsImageError (Image fault) = ⊤
+IsImageError (ScheduleLine n) = ⊤
+IsImageError (Init n) = ⊤
+IsImageError Memory = ⊤
+IsImageError fault = ⊥
 
 -- the possible errors of writing an image
-abbrev pub IsWriteFault : RunFault → Type 0
-IsWriteFault Memory = ⊤
-IsWriteFault WriteImage = ⊤
-IsWriteFault fault = ⊥
+abbrev pub IsWriteError : RunFault → Type 0
+IsWriteError Memory = ⊤
+IsWriteError WriteImage = ⊤
+IsWriteError fault = ⊥
 
 -- the possible errors of a run on an image
-abbrev pub IsRunFault : RunFault → Type 0
-IsRunFault Read = ⊤
-IsRunFault WriteTrace = ⊤
-IsRunFault WriteImage = ⊤
-IsRunFault fault = IsImageFault fault
+abbrev pub IsRunError : RunFault → Type 0
+IsRunError Read = ⊤
+IsRunError WriteTrace = ⊤
+IsRunError WriteImage = ⊤
+IsRunError fault = IsImageError fault
 
 -- nothing was written, unless the run stopped; no image was written, unless its writing failed
 abbrev pub WritesNeitherUnlessCut : Option Bytes → Option Bytes → Option Bytes → Option Bytes → RunFault → Type 0
@@ -90,8 +90,8 @@ WritesNeitherUnlessCut tb ta ib ia WriteTrace = ia ≡ ib
 WritesNeitherUnlessCut tb ta ib ia Memory = ia ≡ ib
 WritesNeitherUnlessCut tb ta ib ia fault = (ta ≡ tb) × (ia ≡ ib)
 
--- a schedule was run on an image: `given` says what holds of the bytes of both if they are known, and `Unread` that a
--- read failed
+-- a schedule was run on an image: `given` is the condition on the bytes of both if they are known, and `Unread` states
+-- that a read failed
 pub record RunsGivenImage {W O : Type 0} (tracing : Writing W) (writing : Writing O) (given : (Bytes → Bytes → Type 0) → Type 0) (Unread : Type 0)
     (trace trace_new : W) (image image_new : O) (result : Result Summary RunFault) : Type 0 where
   -- success: the trace grew by exactly the text of the machine's run, and the sink received bytes that hold the tree
@@ -101,7 +101,7 @@ pub record RunsGivenImage {W O : Type 0} (tracing : Writing W) (writing : Writin
   -- failure: the error is the first of the bytes, or the trace or the image could not be written completely
   pub refused : IfErr result (λ fault. given (λ bytes turns.
       AppearsOn (image_started bytes turns) (tracing.written trace) (tracing.written trace_new) (writing.written image) (writing.written image_new) fault))
-  pub kind : IfErr result IsRunFault
+  pub kind : IfErr result IsRunError
   pub unwritten : IfErr result (WritesNeitherUnlessCut (tracing.written trace) (tracing.written trace_new) (writing.written image) (writing.written image_new))
   -- everything that was written is flushed
   pub empty : OnOk result (tracing.buffered trace_new ≡ 0)

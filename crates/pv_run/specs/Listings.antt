@@ -26,16 +26,16 @@ pub record HasBegunListing (held : Result Tree ImageFault) (before after : Optio
 
 -- the image is refused and nothing was written; or there was no memory or a write failed, and a prefix of the listing
 -- was written
-abbrev pub AppearsInImage : Result Tree ImageFault → Option Bytes → Option Bytes → ListFault → Type 0
-AppearsInImage held before after Read = after ≡ before
-AppearsInImage held before after (Image fault) = (held ≡ Err fault) × (after ≡ before)
-AppearsInImage held before after Memory = (after ≡ before) ⊎ HasBegunListing held before after
-AppearsInImage held before after Write = HasBegunListing held before after
+abbrev pub StopsListing : Result Tree ImageFault → Option Bytes → Option Bytes → ListFault → Type 0
+StopsListing held before after Read = after ≡ before
+StopsListing held before after (Image fault) = (held ≡ Err fault) × (after ≡ before)
+StopsListing held before after Memory = (after ≡ before) ⊎ HasBegunListing held before after
+StopsListing held before after Write = HasBegunListing held before after
 
 -- the possible errors of the listing of an image: out of memory is not nested in another error
-abbrev pub IsListFault : ListFault → Type 0
-IsListFault (Image ImageMemory) = ⊥
-IsListFault fault = ⊤
+abbrev pub IsListError : ListFault → Type 0
+IsListError (Image ImageMemory) = ⊥
+IsListError fault = ⊤
 
 -- nothing was written, unless there was no memory or a write failed
 abbrev pub WritesNothingUnlessBegun : Option Bytes → Option Bytes → ListFault → Type 0
@@ -48,7 +48,7 @@ abbrev pub BufferedOnlyIfUnlisted : ListFault → ℕ → Type 0
 BufferedOnlyIfUnlisted Write waiting = ⊤
 BufferedOnlyIfUnlisted fault waiting = waiting ≡ 0
 
--- a text was written and flushed: the whole text, or a prefix of it if there is no memory or a write failed
+-- a text was written and flushed: the complete text, or a prefix of it if there is no memory or a write failed
 pub record WritesFlushed {W : Type 0} (sink : Writing W) (text : Bytes) (old new : W) (result : Result (Unit {0}) ListStop) : Type 0 where
   pub whole : OnOk result (sink.written new ≡ and_all (sink.written old) text)
   pub empty : OnOk result (sink.buffered new ≡ 0)
@@ -56,13 +56,13 @@ pub record WritesFlushed {W : Type 0} (sink : Writing W) (text : Bytes) (old new
   pub stopped : result ≡ Err NoMemory → sink.buffered new ≡ 0
   pub failed : result ≡ Err NotWritten → Rose (sink.failures old) (sink.failures new)
 
--- an image was listed: `given` says what holds of its bytes if they are known, and `Unread` that a read failed
+-- an image was listed: `given` is the condition on its bytes if they are known, and `Unread` states that a read failed
 pub record ListsGiven {W : Type 0} (sink : Writing W) (given : (Bytes → Type 0) → Type 0) (Unread : Type 0) (old new : W) (result : Result (Unit {0}) ListFault) : Type 0 where
   -- success: the sink received exactly the listing of the image's tree
   pub listed : OnOk result (given (λ bytes. HasListed (mounted bytes) (sink.written old) (sink.written new)))
   -- failure: the error is the first of the bytes, or the listing could not be written completely
-  pub refused : IfErr result (λ fault. given (λ bytes. AppearsInImage (mounted bytes) (sink.written old) (sink.written new) fault))
-  pub kind : IfErr result IsListFault
+  pub refused : IfErr result (λ fault. given (λ bytes. StopsListing (mounted bytes) (sink.written old) (sink.written new) fault))
+  pub kind : IfErr result IsListError
   pub unwritten : IfErr result (WritesNothingUnlessBegun (sink.written old) (sink.written new))
   pub empty : OnOk result (sink.buffered new ≡ 0)
   pub stopped : IfErr result (λ fault. sink.buffered old ≡ 0 → BufferedOnlyIfUnlisted fault (sink.buffered new))

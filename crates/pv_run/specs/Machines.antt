@@ -4,8 +4,8 @@ use Rattle.pv_model.specs.declared.run_fault.RunFault.{RunFault}
 use Rattle.pv_model.specs.declared.run_fault.RunFault.TheVariants.{Read}
 use Rattle.pv_model.specs.Machine.{Bytes, Started, image_started, State}
 use Rattle.pv_laws_runs.specs.Asked.{AsksOfImage}
-use Rattle.pv_run.specs.Images.{IsImageFault}
-use Rattle.pv_run.specs.Run.{IsStartFault, RefusesStart}
+use Rattle.pv_run.specs.Images.{IsImageError}
+use Rattle.pv_run.specs.Run.{IsStartError, RefusesStart}
 use Rattle.pv_session.specs.Running.{run_of}
 
 -- s is the state after a run on an image: the bytes are an image of a tree on which the machine boots, the text parses
@@ -23,11 +23,11 @@ RefusesMachine Read asked = ⊤
 RefusesMachine fault asked = RefusesStart fault asked
 
 -- the reasons why there may be no machine of an image
-abbrev pub IsMachineFault : RunFault → Type 0
-IsMachineFault Read = ⊤
-IsMachineFault fault = IsImageFault fault
+abbrev pub IsMachineError : RunFault → Type 0
+IsMachineError Read = ⊤
+IsMachineError fault = IsImageError fault
 
 -- the reasons why there may be no machine of a bundle
-abbrev pub IsBundleMachineFault : RunFault → Type 0
-IsBundleMachineFault Read = ⊤
-IsBundleMachineFault fault = IsStartFault fault
+abbrev pub IsBundleMachineError : RunFault → Type 0
+IsBundleMachineError Read = ⊤
+IsBundleMachineError fault = IsStartError fault

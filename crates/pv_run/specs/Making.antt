@@ -21,27 +21,27 @@ AppearsInManifest made before after (Manifest fault) = (made ≡ Err fault) × (
 AppearsInManifest made before after fault = after ≡ before
 
 -- the possible errors of making an image; out of memory is not nested in another error
-abbrev pub IsMakeFault : RunFault → Type 0
-IsMakeFault Read = ⊤
-IsMakeFault (Manifest ManifestMemory) = ⊥
-IsMakeFault (Manifest fault) = ⊤
-IsMakeFault Memory = ⊤
-IsMakeFault WriteImage = ⊤
-IsMakeFault fault = ⊥
+abbrev pub IsMakeError : RunFault → Type 0
+IsMakeError Read = ⊤
+IsMakeError (Manifest ManifestMemory) = ⊥
+IsMakeError (Manifest fault) = ⊤
+IsMakeError Memory = ⊤
+IsMakeError WriteImage = ⊤
+IsMakeError fault = ⊥
 
 -- nothing was written, unless a write failed
 abbrev pub WritesNothingUnlessWritten : Option Bytes → Option Bytes → RunFault → Type 0
 WritesNothingUnlessWritten before after WriteImage = ⊤
 WritesNothingUnlessWritten before after fault = after ≡ before
 
--- the image of a manifest was made: `given` says what holds of the bytes of the manifest if they are known, and `Unread`
--- that a read failed
+-- the image of a manifest was made: `given` is the condition on the bytes of the manifest if they are known, and
+-- `Unread` states that a read failed
 pub record MakesGiven {W : Type 0} (sink : Writing W) (given : (Bytes → Type 0) → Type 0) (Unread : Type 0) (old new : W) (result : Result (Unit {0}) RunFault) : Type 0 where
   -- success: the sink received exactly bytes that hold the manifest's tree
   pub made : OnOk result (given (λ bytes. WritesImageOf (λ t. tree_made bytes ≡ Ok t) (sink.written old) (sink.written new)))
   -- failure: the error is the first of the bytes, or the image could not be written completely
   pub refused : IfErr result (λ fault. given (λ bytes. AppearsInManifest (tree_made bytes) (sink.written old) (sink.written new) fault))
-  pub kind : IfErr result IsMakeFault
+  pub kind : IfErr result IsMakeError
   pub unwritten : IfErr result (WritesNothingUnlessWritten (sink.written old) (sink.written new))
   pub flushed : OnOk result (sink.buffered new ≡ 0)
   -- a failed read or write was counted

@@ -30,7 +30,8 @@ abbrev pub WritesNothingUnlessBroken : Option Bytes → Option Bytes → Migrate
 WritesNothingUnlessBroken before after Write = ⊤
 WritesNothingUnlessBroken before after stop = after ≡ before
 
--- an image was migrated: `given` says what holds of its bytes if they are known, and `Unread` that a read failed
+-- an image was migrated: `given` is the condition on its bytes if they are known, and `Unread` states that a read
+-- failed
 pub record MigratesGiven {W : Type 0} (sink : Writing W) (blocks inodes : ℕ) (given : (Bytes → Type 0) → Type 0) (Unread : Type 0) (old new : W)
     (result : Result (Unit {0}) MigrateStop) : Type 0 where
   -- success: the sink received exactly bytes that hold the migrated tree

@@ -81,26 +81,26 @@ AppearsIn asked before after Memory = (after ≡ before) ⊎ HasStopped asked be
 AppearsIn asked before after fault = asked ≡ Err fault
 
 -- the possible errors of the start on a tree
-abbrev pub IsFaultOnTree : RunFault → Type 0
-IsFaultOnTree (ScheduleLine n) = ⊤
-IsFaultOnTree (Init n) = ⊤
-IsFaultOnTree Memory = ⊤
-IsFaultOnTree fault = ⊥
+abbrev pub IsErrorOnTree : RunFault → Type 0
+IsErrorOnTree (ScheduleLine n) = ⊤
+IsErrorOnTree (Init n) = ⊤
+IsErrorOnTree Memory = ⊤
+IsErrorOnTree fault = ⊥
 
 -- the possible errors of the start of a bundle's run; out of memory is not nested in another error
-abbrev pub IsStartFault : RunFault → Type 0
-IsStartFault (Manifest ManifestMemory) = ⊥
-IsStartFault (Manifest fault) = ⊤
-IsStartFault (ScheduleLine n) = ⊤
-IsStartFault (Init n) = ⊤
-IsStartFault Memory = ⊤
-IsStartFault fault = ⊥
+abbrev pub IsStartError : RunFault → Type 0
+IsStartError (Manifest ManifestMemory) = ⊥
+IsStartError (Manifest fault) = ⊤
+IsStartError (ScheduleLine n) = ⊤
+IsStartError (Init n) = ⊤
+IsStartError Memory = ⊤
+IsStartError fault = ⊥
 
 -- the possible errors of a run of a bundle
-abbrev pub IsBundleFault : RunFault → Type 0
-IsBundleFault Read = ⊤
-IsBundleFault WriteTrace = ⊤
-IsBundleFault fault = IsStartFault fault
+abbrev pub IsBundleError : RunFault → Type 0
+IsBundleError Read = ⊤
+IsBundleError WriteTrace = ⊤
+IsBundleError fault = IsStartError fault
 
 -- nothing was written, unless the trace could not be written completely, or a step needed memory
 abbrev pub WritesNothingUnlessCut : Option Bytes → Option Bytes → RunFault → Type 0
@@ -120,7 +120,7 @@ RefusesStart fault asked = asked ≡ Err fault
 
 -- ---- contracts of functions that run
 
--- what holds of the bytes of two sources, if both are known
+-- the condition on the bytes of two sources, if both are known
 abbrev pub IfBoth : Option Bytes → Option Bytes → (Bytes → Bytes → Type 0) → Type 0
 IfBoth first second holds = IfSome first (λ bytes. IfSome second (λ text. holds bytes text))
 
@@ -128,13 +128,13 @@ IfBoth first second holds = IfSome first (λ bytes. IfSome second (λ text. hold
 abbrev pub EitherFailsToGive : {A B : Type 0} → Reading A → Reading B → (first last : A) → (second second_last : B) → Type 0
 EitherFailsToGive reading other first last second second_last = FailsToGive reading first last ⊎ FailsToGive other second second_last
 
--- a bundle was run: `given` says what holds of its bytes if they are known, and `Unread` that a read failed
+-- a bundle was run: `given` is the condition on its bytes if they are known, and `Unread` states that a read failed
 pub record RunsGiven {W : Type 0} (sink : Writing W) (given : (Bytes → Type 0) → Type 0) (Unread : Type 0) (old new : W) (result : Result Summary RunFault) : Type 0 where
   -- success: the trace grew by exactly the text of the machine's run
   pub ran : IfOk result (λ summary. given (λ bytes. HasRun bytes (sink.written old) (sink.written new) summary))
   -- failure: the error is the first of the bytes, or the trace could not be written completely
   pub refused : IfErr result (λ fault. given (λ bytes. AppearsIn (bundle_started bytes) (sink.written old) (sink.written new) fault))
-  pub kind : IfErr result IsBundleFault
+  pub kind : IfErr result IsBundleError
   pub unwritten : IfErr result (WritesNothingUnlessCut (sink.written old) (sink.written new))
   pub empty : OnOk result (sink.buffered new ≡ 0)
   pub stopped : IfErr result (λ fault. sink.buffered old ≡ 0 → BufferedOnlyIfCut fault (sink.buffered new))

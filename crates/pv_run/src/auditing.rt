@@ -4,7 +4,7 @@ ghost use Rattle.pv_model.specs.Machine.{report, Rose};
 ghost use Rattle.pv_model.specs.Sealed.{verdict_line};
 ghost use Rattle.pv_streams.specs.Sinks.{and_all, WritesPrefix};
 ghost use Rattle.pv_run.specs.Listings.{WritesFlushed};
-ghost use Rattle.pv_run.specs.Auditing.{AppearsInState, AuditsImage, BufferedOnlyIfUnwritten, WritesAudit};
+ghost use Rattle.pv_run.specs.Auditing.{AppearsInState, AuditsImage, AuditBufferedOnlyIfUnwritten, WritesAudit};
 ghost use Rattle.pv_run.specs.declared.auditing.AuditStop.TheVariants.{Machine as MachineStop, Path as PathStop, Write as WriteStop};
 
 use crate::machine::machine_after;
@@ -63,7 +63,7 @@ impl fmt::Display for AuditStop {
 }
 
 // Writes the line of a verdict, and flushes it.
-#[tactic(auto, using(pv_streams::proofs::Sinks::begins_whole))]
+#[tactic(auto, using(pv_streams::proofs::SinkWrites::begins_whole))]
 fn report_verdict<W: Sink>(verdict: &Verdict, out: &mut W) -> Result<(), Failed>
     ensures whole { OnOk result (W.written out.new ≡ and_all (W.written out.old) (verdict_line verdict.now)) }
     ensures empty { OnOk result (W.buffered out.new ≡ 0) }
@@ -75,7 +75,7 @@ fn report_verdict<W: Sink>(verdict: &Verdict, out: &mut W) -> Result<(), Failed>
 }
 
 // Writes the verdicts on all files of a machine, and flushes them.
-#[tactic(auto, using(pv_streams::proofs::Sinks::begins_whole))]
+#[tactic(auto, using(pv_streams::proofs::SinkWrites::begins_whole))]
 fn report_verdicts<W: Sink>(alloc: Global, session: &Session, out: &mut W) -> Result<(), ListStop>
     ensures { WritesFlushed W.Sink (report session.now) out.old out.new result }
 {
@@ -102,7 +102,7 @@ fn audit_machine<W: Sink>(
     ensures written { OnOk result (WritesAudit session.now (option_map (λ p. p.now) path.entry) (W.written out.old) (W.written out.new)) }
     ensures empty { OnOk result (W.buffered out.new ≡ 0) }
     ensures refused { IfErr result (AppearsInState session.now (option_map (λ p. p.now) path.entry) (W.written out.old) (W.written out.new)) }
-    ensures stopped { IfErr result (λ stop. W.buffered out.old ≡ 0 → BufferedOnlyIfUnwritten stop (W.buffered out.new)) }
+    ensures stopped { IfErr result (λ stop. W.buffered out.old ≡ 0 → AuditBufferedOnlyIfUnwritten stop (W.buffered out.new)) }
     ensures failed { result ≡ Err AuditStop.Write → Rose (W.failures out.old) (W.failures out.new) }
 {
     let Some(path) = path else {

@@ -1,8 +1,8 @@
 //! Runs of bundles.
 ghost use Rattle.std.specs.Prelude.{◌≡◌, ◌≤◌, length, Some, Ok, Err, IfOk, IfErr, IfSome};
 ghost use Rattle.pv_model.specs.Machine.{program_of, bundle_started, boot};
-ghost use Rattle.pv_run.specs.Machines.{IsBundleMachineFault, RefusesMachine};
-ghost use Rattle.pv_run.specs.Run.{IsStartFault, RefusesStart, RunsBundle, RunsGiven, started_from};
+ghost use Rattle.pv_run.specs.Machines.{IsBundleMachineError, RefusesMachine};
+ghost use Rattle.pv_run.specs.Run.{IsStartError, RefusesStart, RunsBundle, RunsGiven, started_from};
 ghost use Rattle.pv_streams.specs.Sources.{FailsToGive};
 
 use crate::turns::{Ready, Summary, make_turns, start_on};
@@ -17,7 +17,7 @@ fn start_bundle(alloc: Global, bytes: &[u8]) -> Result<Ready, RunFault>
     ensures asked { IfOk result (λ r. bundle_started bytes.now ≡ Ok (started_from r.session r.schedule)) }
     ensures machine { IfOk result (λ r. boot program_of r.session.tree ≡ Some r.session) }
     ensures fault { IfErr result (λ f. RefusesStart f (bundle_started bytes.now)) }
-    ensures kind { IfErr result IsStartFault }
+    ensures kind { IfErr result IsStartError }
 {
     let bundle = Bundle::parse(alloc, bytes)?;
     let store = build(alloc, &bundle.manifest)?;
@@ -38,7 +38,7 @@ fn start_bundle(alloc: Global, bytes: &[u8]) -> Result<Ready, RunFault>
 pub fn ready_on_bundle<S: Source>(alloc: Global, bundle: &mut S) -> Result<Ready, RunFault>
     ensures asked { IfOk result (λ r. IfSome (S.remaining bundle.old) (λ bytes. bundle_started bytes ≡ Ok (started_from r.session r.schedule))) }
     ensures refused { IfErr result (λ fault. IfSome (S.remaining bundle.old) (λ bytes. RefusesMachine fault (bundle_started bytes))) }
-    ensures kind { IfErr result IsBundleMachineFault }
+    ensures kind { IfErr result IsBundleMachineError }
 
     // Each failed read is counted.
     ensures read { result ≡ Err RunFault.Read → FailsToGive S.Source bundle.old bundle.new }

@@ -1,8 +1,8 @@
 //! Runs on images.
 ghost use Rattle.std.specs.Prelude.{◌≡◌, ◌⊎◌, ◌≤◌, length, Some, Ok, Err, IfOk, IfErr, IfSome, OnOk};
 ghost use Rattle.pv_model.specs.Machine.{program_of, mounted, image_started, boot, Rose};
-ghost use Rattle.pv_run.specs.Images.{BeginsImage, IsImageFault, IsWriteFault, RunsGivenImage, RunsImage, WrittenImage};
-ghost use Rattle.pv_run.specs.Machines.{IsMachineFault, RefusesMachine};
+ghost use Rattle.pv_run.specs.Images.{BeginsNamedImage, IsImageError, IsWriteError, RunsGivenImage, RunsImage, WrittenImage};
+ghost use Rattle.pv_run.specs.Machines.{IsMachineError, RefusesMachine};
 ghost use Rattle.pv_run.specs.Run.{RefusesStart, started_from};
 ghost use Rattle.pv_streams.specs.Sources.{FailsToGive};
 
@@ -44,7 +44,7 @@ pub fn start_image(
     ensures asked { IfOk result (λ r. image_started image.items schedule.now ≡ Ok (started_from r.session r.schedule)) }
     ensures machine { IfOk result (λ r. boot program_of r.session.tree ≡ Some r.session) }
     ensures fault { IfErr result (λ f. RefusesStart f (image_started image.items schedule.now)) }
-    ensures kind { IfErr result IsImageFault }
+    ensures kind { IfErr result IsImageError }
 {
     let store = store_of(alloc, image, listed)?;
     start_on(alloc, store, schedule)
@@ -59,11 +59,11 @@ pub fn start_image(
 /// - `WriteImage`, if a write failed. The sink received a prefix of the bytes.
 pub fn write_image<O: Sink>(alloc: Global, tree: &Tree, image: &mut O) -> Result<(), RunFault>
     ensures whole { OnOk result (WrittenImage tree.now.tree (O.written image.old) (O.written image.new)) }
-    ensures cut { result ≡ Err RunFault.WriteImage → BeginsImage tree.now.tree (O.written image.old) (O.written image.new) }
+    ensures cut { result ≡ Err RunFault.WriteImage → BeginsNamedImage tree.now.tree (O.written image.old) (O.written image.new) }
     ensures failed { result ≡ Err RunFault.WriteImage → Rose (O.failures image.old) (O.failures image.new) }
     ensures memory { result ≡ Err RunFault.Memory → O.written image.new ≡ O.written image.old }
     ensures flushed { OnOk result (O.buffered image.new ≡ 0) }
-    ensures kind { IfErr result IsWriteFault }
+    ensures kind { IfErr result IsWriteError }
 {
     match write_tree(alloc, tree, image) {
         Ok(()) => Ok(()),
@@ -94,7 +94,7 @@ pub fn ready_on_image<I: Source, S: Source>(
         image_started bytes turns ≡ Ok (started_from r.session r.schedule)))) }
     ensures refused { IfErr result (λ fault. IfSome (I.remaining image.old) (λ bytes. IfSome (S.remaining schedule.old) (λ turns.
         RefusesMachine fault (image_started bytes turns)))) }
-    ensures kind { IfErr result IsMachineFault }
+    ensures kind { IfErr result IsMachineError }
 
     // Each failed read is counted.
     ensures read { result ≡ Err RunFault.Read → FailsToGive I.Source image.old image.new ⊎ FailsToGive S.Source schedule.old schedule.new }

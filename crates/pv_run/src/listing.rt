@@ -10,7 +10,7 @@ use pv_tree::Tree;
 use std::alloc::Global;
 
 // Writes the listing of a tree, and flushes it.
-#[tactic(auto, using(pv_streams::proofs::Sinks::begins_whole))]
+#[tactic(auto, using(pv_streams::proofs::SinkWrites::begins_whole))]
 fn write_all<W: Sink>(alloc: Global, tree: &Tree, out: &mut W) -> Result<(), ListStop>
     ensures { WritesFlushed W.Sink (listing tree.now.tree) out.old out.new result }
 {

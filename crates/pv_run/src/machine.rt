@@ -1,8 +1,8 @@
 //! The machine after a run on an image.
 ghost use Rattle.std.specs.Prelude.{◌≡◌, ◌⊎◌, ◌≤◌, length, Err, IfOk, IfErr, IfSome};
 ghost use Rattle.pv_model.specs.Machine.{image_started, Rose};
-ghost use Rattle.pv_run.specs.Images.{IsImageFault};
-ghost use Rattle.pv_run.specs.Machines.{IsLeftBy, IsMachineFault, RefusesMachine};
+ghost use Rattle.pv_run.specs.Images.{IsImageError};
+ghost use Rattle.pv_run.specs.Machines.{IsLeftBy, IsMachineError, RefusesMachine};
 ghost use Rattle.pv_run.specs.Run.{RefusesStart};
 ghost use Rattle.pv_streams.specs.Sources.{FailsToGive};
 
@@ -14,12 +14,12 @@ use pv_streams::{SOURCE_BYTES, Source, read_whole};
 use std::alloc::Global;
 
 // Returns the machine after a run, given the bytes of the image and of the schedule.
-#[tactic(auto, using(crate::proofs::Left::left_by))]
+#[tactic(auto, using(crate::proofs::FinalMachine::left_by))]
 fn machine_of(alloc: Global, image: Vec<u8>, schedule: &[u8]) -> Result<Session, RunFault>
     requires { length schedule.now ≤ SOURCE_BYTES }
     ensures left { IfOk result (IsLeftBy image.items schedule.now) }
     ensures refused { IfErr result (λ fault. RefusesStart fault (image_started image.items schedule.now)) }
-    ensures kind { IfErr result IsImageFault }
+    ensures kind { IfErr result IsImageError }
 {
     let Ready {
         mut session,
@@ -51,7 +51,7 @@ pub fn machine_after<I: Source, S: Source>(
         IsLeftBy bytes turns session))) }
     ensures refused { IfErr result (λ fault. IfSome (I.remaining image.old) (λ bytes. IfSome (S.remaining schedule.old) (λ turns.
         RefusesMachine fault (image_started bytes turns)))) }
-    ensures kind { IfErr result IsMachineFault }
+    ensures kind { IfErr result IsMachineError }
 
     // Each failed read is counted.
     ensures read { result ≡ Err RunFault.Read → FailsToGive I.Source image.old image.new ⊎ FailsToGive S.Source schedule.old schedule.new }

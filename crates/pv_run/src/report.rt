@@ -1,6 +1,6 @@
 //! Reports on all files.
 ghost use Rattle.std.specs.Prelude.{◌≡◌, Some, Ok};
-ghost use Rattle.pv_listing.specs.Failing.{FailsBy};
+ghost use Rattle.pv_listing.specs.Failing.{ListingFailsBy};
 ghost use Rattle.pv_model.specs.Machine.{report, audit_node};
 ghost use Rattle.pv_model.specs.Listing.{found_line};
 ghost use Rattle.pv_streams.specs.Sinks.{Writes, WritesOr};
@@ -52,7 +52,7 @@ impl<'a> Remarks for FoundLines<'a> {
 /// - `Memory`, if there is no memory for a path. The sink received a prefix of the report.
 #[tactic(auto, unfolding(pv_model::specs::Listing::report))]
 pub fn write_report<W: Sink>(alloc: Global, session: &Session, out: &mut W) -> Result<(), ListStop>
-    ensures { WritesOr W.Sink FailsBy (report session.now) out.old out.new result }
+    ensures { WritesOr W.Sink ListingFailsBy (report session.now) out.old out.new result }
 {
     write_lines(alloc, session.tree(), &FoundLines { session }, out)
 }

@@ -1,7 +1,7 @@
 //! The start of a run, and the turns of its schedule.
 ghost use Rattle.std.specs.Prelude.{◌≡◌, Some, Ok, IfOk, IfErr, OnOk, OnErr};
 ghost use Rattle.pv_model.specs.Machine.{lines_of, program_of, started_on, boot, Rose, trace_bytes};
-ghost use Rattle.pv_run.specs.Run.{IsFaultOnTree, IsSummaryOf, RefusesStart, StopsBy, BufferedOnlyIfCut, IsOutOfMemoryAtExecve, started_from};
+ghost use Rattle.pv_run.specs.Run.{IsErrorOnTree, IsSummaryOf, RefusesStart, StopsBy, BufferedOnlyIfCut, IsOutOfMemoryAtExecve, started_from};
 ghost use Rattle.pv_session.specs.Running.{run_of};
 ghost use Rattle.pv_streams.specs.Sinks.{WritesOr};
 
@@ -41,7 +41,7 @@ pub fn start_on(alloc: Global, store: Store, schedule: &[u8]) -> Result<Ready, R
     ensures asked { IfOk result (λ r. started_on store (lines_of schedule.now) ≡ Ok (started_from r.session r.schedule)) }
     ensures machine { IfOk result (λ r. boot program_of r.session.tree ≡ Some r.session) }
     ensures fault { IfErr result (λ f. RefusesStart f (started_on store (lines_of schedule.now))) }
-    ensures kind { IfErr result IsFaultOnTree }
+    ensures kind { IfErr result IsErrorOnTree }
 {
     store.invariant();
     let schedule = Schedule::parse(alloc, schedule)?;

@@ -1,6 +1,6 @@
 -- Lemmas of programs and contexts: WholePrograms (a loop over the lines of a program, for any line parser),
--- WholeSchedules, Contexts (instructions on registers), Buffers (a buffer is zero past `used`).
-pub mod Buffers
-pub mod Contexts
+-- WholeSchedules, ContextEffects (instructions on registers), BufferBytes (a buffer is zero past `used`).
+pub mod BufferBytes
+pub mod ContextEffects
 pub mod WholePrograms
 pub mod WholeSchedules

@@ -15,8 +15,8 @@ pub record Context : Type 0 where
 unfoldable pub first_context : Context
 first_context = record { line = 1; registers = no_registers; buffer = no_bytes }
 
-abbrev pub at_line : ℕ → Context → Context
-at_line line c = record c { line = line }
+abbrev pub context_at_line : ℕ → Context → Context
+context_at_line line c = record c { line = line }
 
 -- a process with a program and a context
 abbrev pub in_context : Process → Program → Context → Process
@@ -39,23 +39,23 @@ is_on_registers (JumpIfNegative r line) = true
 is_on_registers _ = false
 
 -- whether an instruction is a call without texts
-abbrev pub is_plain : Instruction → Bool
-is_plain Fork = true
-is_plain Wait = true
-is_plain GetPid = true
-is_plain GetPpid = true
-is_plain (Exit code) = true
-is_plain (Close d) = true
-is_plain (Dup d) = true
-is_plain (Fstat d) = true
-is_plain (Getdents d) = true
-is_plain (Fchdir d) = true
-is_plain (Dup2 d e) = true
-is_plain (Read d n) = true
-is_plain (Write d n) = true
-is_plain (Ftruncate d n) = true
-is_plain (Lseek d by whence) = true
-is_plain _ = false
+abbrev pub is_without_texts : Instruction → Bool
+is_without_texts Fork = true
+is_without_texts Wait = true
+is_without_texts GetPid = true
+is_without_texts GetPpid = true
+is_without_texts (Exit code) = true
+is_without_texts (Close d) = true
+is_without_texts (Dup d) = true
+is_without_texts (Fstat d) = true
+is_without_texts (Getdents d) = true
+is_without_texts (Fchdir d) = true
+is_without_texts (Dup2 d e) = true
+is_without_texts (Read d n) = true
+is_without_texts (Write d n) = true
+is_without_texts (Ftruncate d n) = true
+is_without_texts (Lseek d by whence) = true
+is_without_texts _ = false
 
 abbrev pub is_some_on_registers : Option Instruction → Bool
 is_some_on_registers None = false

@@ -30,7 +30,7 @@ impl Model for Context {
 }
 
 // Returns the sum of two numbers, saturated to 32 bits.
-#[tactic(auto, using(crate::proofs::Contexts::clamped))]
+#[tactic(auto, using(crate::proofs::ContextEffects::clamped))]
 fn held_sum(a: i32, b: i32) -> i32
     ensures { result ≡ clamp (a +ℤ b) }
 {
@@ -90,7 +90,7 @@ fn inside_at(program: &Program, line: u16) -> Option<&Instruction>
 // Returns the next line, at most the one after the last.
 #[inline]
 fn line_after(line: u16, program: &Program) -> u16
-    ensures { (c : Context) → Changes at_next_line program.now (at_line line c) (at_line result c) }
+    ensures { (c : Context) → Changes at_next_line program.now (context_at_line line c) (context_at_line result c) }
 {
     let count = program.len() as u16;
     if line <= count { line + 1 } else { count + 1 }
@@ -99,7 +99,7 @@ fn line_after(line: u16, program: &Program) -> u16
 // Returns `target` if `holds` is true, otherwise the next line.
 #[inline]
 fn jump_if(holds: bool, line: u16, target: u16, program: &Program) -> u16
-    ensures { (c : Context) → Changes (λ p. jump_if holds p target) program.now (at_line line c) (at_line result c) }
+    ensures { (c : Context) → Changes (λ p. jump_if holds p target) program.now (context_at_line line c) (context_at_line result c) }
 {
     if holds {
         target
@@ -108,7 +108,7 @@ fn jump_if(holds: bool, line: u16, target: u16, program: &Program) -> u16
     }
 }
 
-ghost use Rattle.pv_script.specs.Context.{Context, first_context, in_context, at_line, Changes, is_on_registers, is_some_on_registers, is_inside, IsNext, is_plain};
+ghost use Rattle.pv_script.specs.Context.{Context, first_context, in_context, context_at_line, Changes, is_on_registers, is_some_on_registers, is_inside, IsNext, is_without_texts};
 ghost use Rattle.pv_script.specs.Passing.{Passes};
 
 impl Context {
@@ -224,7 +224,7 @@ impl Context {
     // Returns the call of an instruction without texts.
     #[tactic(auto, unfolding(pv_model::specs::Program::perform))]
     fn plain_call<'a>(&self, instruction: &Instruction) -> CallRef<'a>
-        requires { is_plain instruction.now ≡ true }
+        requires { is_without_texts instruction.now ≡ true }
         ensures { (p : Process) (program : Instructions) → perform (in_context p program self.now) instruction.now ≡ calls_for (call_of result) }
     {
         match instruction {
@@ -311,7 +311,7 @@ impl Context {
     // Sets a register and returns the next line.
     #[inline]
     fn set(&mut self, line: u16, number: Register, value: i32, program: &Program) -> u16
-        ensures { Changes (λ p. at_next_line (with_register p number value)) program.now (at_line line self.old) (at_line result self.new) }
+        ensures { Changes (λ p. at_next_line (with_register p number value)) program.now (context_at_line line self.old) (context_at_line result self.new) }
     {
         self.assign(number, value);
         line_after(line, program)
@@ -322,7 +322,7 @@ impl Context {
     #[tactic(auto, unfolding(pv_model::specs::Program::perform))]
     fn make(&mut self, line: u16, instruction: &Instruction, program: &Program) -> u16
         requires { is_on_registers instruction.now ≡ true }
-        ensures { (p : Process) → perform (in_context p program.now (at_line line self.old)) instruction.now ≡ inside (in_context p program.now (at_line result self.new)) }
+        ensures { (p : Process) → perform (in_context p program.now (context_at_line line self.old)) instruction.now ≡ inside (in_context p program.now (context_at_line result self.new)) }
     {
         match instruction {
             Instruction::Set(register, n) => self.set(line, *register, *n, program),

@@ -1,14 +1,14 @@
--- Lemmas about steps and runs: Stepping (a step, by the fetched instruction and the answer), Writes (a write keeps the
--- buffer of its process, so its line shows the written bytes), Passing (instructions made at once, as a run), Turns (of a
--- schedule), Stopped (out of memory), Restrained (restraints), Audited (the verdict on a file, and its meaning for all
--- runs).
-pub mod Audited
-pub mod Passing
-pub mod Restrained
-pub mod Stepping
-pub mod Stopped
-pub mod Turns
-pub mod Writes
+-- Lemmas about steps and runs: MachineSteps (a step, by the fetched instruction and the answer), BufferAfterWrite (a
+-- write keeps the buffer of its process, so its line shows the written bytes), InsideRuns (instructions made at once,
+-- as a run), TurnRuns (of a schedule), StoppedRuns (out of memory), StepRestraints (restraints), AuditMeaning (the
+-- verdict on a file, and its meaning for all runs).
+pub mod AuditMeaning
+pub mod InsideRuns
+pub mod StepRestraints
+pub mod MachineSteps
+pub mod StoppedRuns
+pub mod TurnRuns
+pub mod BufferAfterWrite
 pub use Rattle.pv_calls.proofs.OfCallsPath
 pub use Rattle.pv_calls.proofs.OfLawsAccess
 pub use Rattle.pv_calls.proofs.OfLawsRuns

@@ -7,7 +7,7 @@ use Rattle.pv_model.specs.declared.verdict.AuditFault.{AuditFault}
 use Rattle.pv_model.specs.declared.verdict.Verdict.{Verdict}
 use Rattle.pv_model.specs.declared.verdict.Verdict.TheVariants.{Sealed, Frozen, Exposed}
 use Rattle.pv_model.specs.Machine.{Bytes, node_of, program_of, State, run, file_bytes, root, resolve}
-use Rattle.pv_calls.specs.OfLawsAccess.Sealing.{IsLeftFrozen, WritesNothing}
+use Rattle.pv_calls.specs.OfLawsAccess.Sealing.{StaysFrozen, WritesNothing}
 
 abbrev pub node_there : Result Place Errno → Option ℕ
 node_there (Ok place) = node_of place
@@ -24,7 +24,7 @@ IsSecret s f = (pids : List ℕ) (bytes : Bytes) → length bytes ≡ length (fi
 
 -- for all steps of a run, the bytes of the file stay unchanged
 abbrev pub IsUnchanging : State → ℕ → Type 0
-IsUnchanging s f = (pids : List ℕ) → IsLeftFrozen f s (run program_of pids s).final
+IsUnchanging s f = (pids : List ℕ) → StaysFrozen f s (run program_of pids s).final
 
 -- a file with the verdict sealed is secret, and a file with the verdict frozen is also unchanging
 abbrev pub KeepsSecretAt : State → ℕ → Result Verdict AuditFault → Type 0

@@ -10,8 +10,8 @@ abbrev pub stepped : State → ℕ → Stepped
 stepped s pid = step program_of s pid
 
 -- `count` steps of a process
-abbrev pub turn : State → ℕ → ℕ → Run
-turn s pid count = run program_of (replicate count pid) s
+abbrev pub run_of_turn : State → ℕ → ℕ → Run
+run_of_turn s pid count = run program_of (replicate count pid) s
 
 -- a run over the first `count` turns of a schedule
 abbrev pub run_of_first : State → ℕ → Schedule → Run

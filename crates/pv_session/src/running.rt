@@ -3,7 +3,7 @@ ghost use Rattle.std.specs.Prelude.{◌≡◌, ◌*◌, ◌≤◌, length, repli
 ghost use Rattle.pv_model.specs.declared.limits.TheConstants.{SCHEDULE_LINES};
 ghost use Rattle.pv_model.specs.Machine.{steps_of, trace_bytes};
 ghost use Rattle.pv_session.specs.Stopping.{StopsOn, StopsUnread};
-ghost use Rattle.pv_session.specs.Running.{FailsBy, turn, run_of};
+ghost use Rattle.pv_session.specs.Running.{FailsBy, run_of_turn, run_of};
 ghost use Rattle.pv_streams.specs.Sinks.{WritesOr};
 
 use crate::session::{Session, Stop};
@@ -20,10 +20,10 @@ fn run_turn<W: Sink>(
     count: u32,
     trace: &mut W,
 ) -> Result<u64, Stop>
-    ensures after { OnOk result (session.new ≡ (turn session.old pid count).final) }
+    ensures after { OnOk result (session.new ≡ (run_of_turn session.old pid count).final) }
     ensures written { WritesOr W.Sink FailsBy
-        (trace_bytes (turn session.old pid count).lines) trace.old trace.new result }
-    ensures lines { IfOk result (λ n. n ≡ length (turn session.old pid count).lines) }
+        (trace_bytes (run_of_turn session.old pid count).lines) trace.old trace.new result }
+    ensures lines { IfOk result (λ n. n ≡ length (run_of_turn session.old pid count).lines) }
     ensures few { IfOk result (λ n. n ≤ 7 * count) }
     ensures stopped { IfErr result
         (λ stop. StopsOn stop (replicate count pid) session.old session.new
@@ -73,7 +73,7 @@ pub fn run_schedule<W: Sink>(
 
 // Makes `count` steps of a process without writing lines. Consecutive steps on registers are made at once.
 fn pass_turn(alloc: Global, session: &mut Session, pid: u32, count: u32) -> Result<(), StepFault>
-    ensures after { OnOk result (session.new ≡ (turn session.old pid count).final) }
+    ensures after { OnOk result (session.new ≡ (run_of_turn session.old pid count).final) }
     ensures stopped { OnErr result (StopsUnread (replicate count pid) session.old session.new) }
 {
     let mut made = 0;

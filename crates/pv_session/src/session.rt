@@ -11,10 +11,10 @@ ghost use Rattle.pv_calls.specs.OfCallsState.Changes.{StepsInside};
 ghost use Rattle.pv_calls.specs.OfProcs.Turns.{AwaitsCall, CallsNext, IsFetched, RegisterNext};
 ghost use Rattle.pv_calls.specs.OfTree.Sizes.{HaveSameSizes};
 ghost use Rattle.pv_session.specs.Audits.{KeepsSecret, KeepsSecretAt};
-ghost use Rattle.pv_session.specs.Restraints.{ChildBeginsAlike, GainsNothing, LeavesOthers};
+ghost use Rattle.pv_session.specs.Restraints.{ChildBeginsWithSameRights, GainsNothing, LeavesOthers};
 ghost use Rattle.pv_session.specs.declared.session.Stop.TheVariants.{Memory, Write};
 ghost use Rattle.pv_session.specs.Stopping.{NextLoads, StopsOn};
-ghost use Rattle.pv_session.specs.Running.{FailsBy, stepped, turn};
+ghost use Rattle.pv_session.specs.Running.{FailsBy, stepped, run_of_turn};
 ghost use Rattle.pv_streams.specs.Sinks.{WritesOr};
 
 use pv_calls::Kernel;
@@ -166,11 +166,11 @@ impl Session {
         ensures memory { OnErr result (NextLoads self.old pid) }
         ensures justified { IsJustified program_of self.old pid }
 
-        // The process gains nothing within one program image; the other processes keep what they have; a child starts
+        // The process gains nothing within one program image; the other processes are unchanged; a child starts
         // restrained.
         ensures own { IfOk result (λ outcome. GainsNothing self.old pid outcome self.new) }
         ensures others { OnOk result (LeavesOthers self.old pid self.new) }
-        ensures child { IfOk result (λ outcome. ChildBeginsAlike self.old pid outcome self.new) }
+        ensures child { IfOk result (λ outcome. ChildBeginsWithSameRights self.old pid outcome self.new) }
     {
         self.invariant();
         let kernel = &mut *self.kernel;
@@ -185,8 +185,8 @@ impl Session {
     /// if the process is not live. These steps write no lines.
     pub fn pass(&mut self, pid: u32, most: u32) -> u32
         ensures few { result ≤ most }
-        ensures after { self.new ≡ (turn self.old pid result).final }
-        ensures no_lines { (turn self.old pid result).lines ≡ [] }
+        ensures after { self.new ≡ (run_of_turn self.old pid result).final }
+        ensures no_lines { (run_of_turn self.old pid result).lines ≡ [] }
         ensures whole { result < most → AwaitsCall (process_at self.new pid) }
     {
         self.kernel.pass(pid, most)

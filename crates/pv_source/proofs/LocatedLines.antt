@@ -11,20 +11,20 @@ use Rattle.pv_model.specs.Source.Written.{bytes_of_lines}
 use Rattle.pv_source.specs.declared.blocks.Block.{Block as ReadBlock}
 use Rattle.pv_source.specs.declared.blocks.Kind.{Kind}
 use Rattle.pv_source.specs.declared.blocks.Kind.TheVariants.{Single, Program, Taken, CutOff, Schedule}
-use Rattle.pv_source.specs.Located.{Located, located_block, located_from, located_in, located_instruction, located_text, located_texts, place_text}
+use Rattle.pv_source.specs.Located.{LocatedInstruction, located_block, located_from, located_block_lines, located_instruction, located_text, located_texts, place_text}
 use Rattle.pv_source.specs.Reading.{numbered_text}
-use Rattle.pv_source.specs.ReadBlocks.{block_by, block_of}
+use Rattle.pv_source.specs.ReadBlocks.{block_by, parsed_block}
 use Rattle.pv_source.proofs.SourcePrograms.{counted_as_words, instruction_some}
 use Rattle.pv_source.proofs.WrittenTexts.{ended_both, ended_one}
 
 -- a block without the path of a program has no lines
-pub no_path : (out : Bytes) (b : ReadBlock) → exec_path (words_from b.words.now between) ≡ None → out ≡ out ++ ended (located_in (block_of b))
+pub no_path : (out : Bytes) (b : ReadBlock) → exec_path (words_from b.words.now between) ≡ None → out ≡ out ++ ended (located_block_lines (parsed_block b))
 no_path out b none = by b.kind
   where
-    nothing : (located : List Located) → out ≡ out ++ ended (located_texts (exec_path (words_from b.words.now between)) located)
+    nothing : (located : List LocatedInstruction) → out ≡ out ++ ended (located_texts (exec_path (words_from b.words.now between)) located)
     nothing located = sym (append-nil out) ∙ ap (λ path. out ++ ended (located_texts path located)) (sym none)
 
-    by : (k : Kind) → out ≡ out ++ ended (located_in (block_by k b.number (words_from b.words.now between) (numbered_text (b.number + 1) b.body.now)))
+    by : (k : Kind) → out ≡ out ++ ended (located_block_lines (block_by k b.number (words_from b.words.now between) (numbered_text (b.number + 1) b.body.now)))
     by Single = sym (append-nil out)
     by Program = nothing (located_from 1 (program_lines (numbered_text (b.number + 1) b.body.now)))
     by Taken = nothing (located_from 1 (taken_lines (numbered_text (b.number + 1) b.body.now)))
@@ -82,7 +82,7 @@ located_end path out all number lines none preserved =
 
 -- ---- the numbers of the instructions
 
-abbrev pub number_and_text : Located → ℕ × Bytes
+abbrev pub number_and_text : LocatedInstruction → ℕ × Bytes
 number_and_text located = (located.number, located.text)
 
 pub numbers_from : (k : ℕ) (lines : List ProgramLine) → map number_and_text (located_from k lines) ≡ counted_from k (instructions_of lines)

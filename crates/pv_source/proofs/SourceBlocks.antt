@@ -6,8 +6,8 @@ use Rattle.pv_model.specs.Machine.{Bytes, lines_of, Block, single, taken, blocks
 use Rattle.pv_text.specs.Reading.{up_to_greatest}
 use Rattle.pv_source.specs.declared.blocks.Block.{Block as ReadBlock}
 use Rattle.pv_source.specs.declared.lines.Lines.{Lines}
-use Rattle.pv_source.specs.Reading.{BeginsWith, numbered_text, numbered, if_words, first_that_counts, Ends, Takes}
-use Rattle.pv_source.specs.ReadBlocks.{block_of, Reads}
+use Rattle.pv_source.specs.Reading.{HasFirstWord, numbered_text, numbered_lines, if_words, first_that_counts, Ends, Takes}
+use Rattle.pv_source.specs.ReadBlocks.{parsed_block, ReadsBlock}
 use Rattle.pv_model.specs.Source.Blocks.{program, schedule, lines_up_to, exec_by, exec_block, or_cut_off, blocks_at}
 use Rattle.pv_source.proofs.SourceLines.{length-counted}
 
@@ -31,7 +31,7 @@ blocks_first (line ∷ lines) = by (words_of line.1) (blocks_first lines)
     by [] h = h
     by (word ∷ words) h = refl
 
-module _ (n : ℕ) (word : Bytes) (words : List Bytes) (lines rest : List NumberedLine) (first : first_that_counts lines ≡ Some ((n, words), rest)) (begins : BeginsWith word words) where
+module _ (n : ℕ) (word : Bytes) (words : List Bytes) (lines rest : List NumberedLine) (first : first_that_counts lines ≡ Some ((n, words), rest)) (begins : HasFirstWord word words) where
   from_first : blocks_from lines 0 ≡ blocks_at n (word ∷ begins.0) rest (blocks_from rest)
   from_first = blocks_first lines ∙ ap blocks_then first ∙ ap (λ ws. blocks_at n ws rest (blocks_from rest)) begins.1
 
@@ -66,32 +66,32 @@ none_held None is = refl
 none_held (Some k) is = cc
 
 -- a parsed block, and the blocks after it
-pub read_first : (n : ℕ) (lines : List NumberedLine) (expected : Option (Block × ℕ)) (p : ReadBlock × Lines) → Reads (Some p) expected lines
-    → or_cut_off n (blocks_from lines) expected ≡ block_of p.0 ∷ blocks_from (numbered p.1) 0
+pub read_first : (n : ℕ) (lines : List NumberedLine) (expected : Option (Block × ℕ)) (p : ReadBlock × Lines) → ReadsBlock (Some p) expected lines
+    → or_cut_off n (blocks_from lines) expected ≡ parsed_block p.0 ∷ blocks_from (numbered_lines p.1) 0
 read_first n lines expected p reads =
-    ap (or_cut_off n (blocks_from lines)) reads.1 ∙ ap (λ bs. block_of p.0 ∷ bs) (blocks_skip lines reads.0 ∙ ap (λ ls. blocks_from ls 0) reads.2)
+    ap (or_cut_off n (blocks_from lines)) reads.1 ∙ ap (λ bs. parsed_block p.0 ∷ bs) (blocks_skip lines reads.0 ∙ ap (λ ls. blocks_from ls 0) reads.2)
 
 -- ---- the block of an `exec` line
 
 module _ (n : ℕ) (words : List Bytes) (lines : Lines) where
   pub up_to_mark : (mark body : Bytes) (rest : Lines) → lines.number ≡ n + 1 → Ends mark lines body rest
-      → exec_by n words (numbered lines) (Some mark) None ≡ Some (program n words (numbered_text (n + 1) body), suc (length (lines_of body)))
+      → exec_by n words (numbered_lines lines) (Some mark) None ≡ Some (program n words (numbered_text (n + 1) body), suc (length (lines_of body)))
   up_to_mark mark body rest next ends =
       ap (λ o. option_map (λ b. (program n words b, suc (length b))) o) ends.before
       ∙ ap (λ k. Some (program n words (numbered_text lines.number body), suc k)) (length-counted lines.number (lines_of body))
       ∙ ap (λ k. Some (program n words (numbered_text k body), suc (length (lines_of body)))) next
 
-  pub no_mark : (mark : Bytes) → lines_up_to mark (numbered lines) ≡ None → exec_by n words (numbered lines) (Some mark) None ≡ None
+  pub no_mark : (mark : Bytes) → lines_up_to mark (numbered_lines lines) ≡ None → exec_by n words (numbered_lines lines) (Some mark) None ≡ None
   no_mark mark none = ap (λ o. option_map (λ b. (program n words b, suc (length b))) o) none
 
   pub so_many : (count : ℕ) (body : Bytes) (rest : Lines) → lines.number ≡ n + 1 → Takes count lines body rest
-      → exec_by n words (numbered lines) None (Some count) ≡ Some (taken n words (numbered_text (n + 1) body), count)
+      → exec_by n words (numbered_lines lines) None (Some count) ≡ Some (taken n words (numbered_text (n + 1) body), count)
   so_many count body rest next takes =
-      let enough : nat_le count (length (numbered lines)) ≡ true = le-leb count (length (numbered lines)) (omega (arith, takes.enough, length-counted lines.number (lines_of lines.text.now))) in
+      let enough : nat_le count (length (numbered_lines lines)) ≡ true = le-leb count (length (numbered_lines lines)) (omega (arith, takes.enough, length-counted lines.number (lines_of lines.text.now))) in
       rw enough
       (ap (λ ls. Some (taken n words ls, count)) takes.first ∙ ap (λ k. Some (taken n words (numbered_text k body), count)) next)
 
-  pub too_few : (count : ℕ) → length (lines_of lines.text.now) < count → exec_by n words (numbered lines) None (Some count) ≡ None
+  pub too_few : (count : ℕ) → length (lines_of lines.text.now) < count → exec_by n words (numbered_lines lines) None (Some count) ≡ None
   too_few count few =
-      let less : nat_le count (length (numbered lines)) ≡ false = lt-leb count (length (numbered lines)) (omega (arith, few, length-counted lines.number (lines_of lines.text.now))) in
+      let less : nat_le count (length (numbered_lines lines)) ≡ false = lt-leb count (length (numbered_lines lines)) (omega (arith, few, length-counted lines.number (lines_of lines.text.now))) in
       rw less refl

@@ -8,7 +8,7 @@ use Rattle.pv_model.specs.Grammar.Manifests.{Taking}
 use Rattle.pv_source.specs.declared.blocks.Block.{Block as ReadBlock}
 use Rattle.pv_source.specs.declared.blocks.Kind.TheVariants.{Taken}
 use Rattle.pv_source.specs.Reading.{numbered_text}
-use Rattle.pv_source.specs.ReadBlocks.{block_by, block_of}
+use Rattle.pv_source.specs.ReadBlocks.{block_by, parsed_block}
 use Rattle.pv_source.specs.ReadEntries.{numbered_entry}
 use Rattle.pv_model.specs.Source.Judged.{exec_path, executable, entry_of_block}
 use Rattle.pv_source.proofs.SourceLines.{length-counted}
@@ -33,13 +33,13 @@ module _ (b : ReadBlock) (is : b.kind ≡ Taken) where
   its_length : length (numbered_text (b.number + 1) b.body.now) ≡ length (lines_of b.body.now)
   its_length = length-counted (b.number + 1) (lines_of b.body.now)
 
-  pub taken_many : 9999 < length (lines_of b.body.now) → entry_of_block (block_of b) ≡ None
+  pub taken_many : 9999 < length (lines_of b.body.now) → entry_of_block (parsed_block b) ≡ None
   unfolding entry_of_block
   taken_many many =
       let less : nat_le (length (numbered_text (b.number + 1) b.body.now)) 9999 ≡ false = lt-leb _ 9999 (omega (arith, many, its_length)) in
       ap (λ k. entry_of_block (block_by k b.number its_words (numbered_text (b.number + 1) b.body.now))) is ∙ rw less refl
 
-  pub taken_few : length (lines_of b.body.now) ≤ 9999 → entry_of_block (block_of b) ≡ executable (lines_of b.body.now) (exec_path its_words)
+  pub taken_few : length (lines_of b.body.now) ≤ 9999 → entry_of_block (parsed_block b) ≡ executable (lines_of b.body.now) (exec_path its_words)
   unfolding entry_of_block
   taken_few few =
       let enough : nat_le (length (numbered_text (b.number + 1) b.body.now)) 9999 ≡ true = le-leb _ 9999 (omega (arith, few, its_length)) in

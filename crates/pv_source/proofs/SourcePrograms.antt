@@ -3,13 +3,13 @@ use Rattle.std.proofs.Common.{◌≡◌, ◌≢◌, ◌∙◌, ap, ℕ, suc, ◌
 use Rattle.std.specs.List.{cons_option}
 use Rattle.std.specs.Prelude.{◌||◌, MatchBool, bytes_eq, not, map}
 use Rattle.std.proofs.lemmas.List.{append-nil}
-use Rattle.pv_model.specs.Machine.{Bytes, is_empty, LabelledLine, labelled_lines, labels_from, instruction_text, program_line_of, taken_lines, instructions_of, reported_if, invalid_lines, program_faults, spaced, counted_from, lines_of, NumberedLine, NumberedWords, words_of, lines_that_count}
+use Rattle.pv_model.specs.Machine.{Bytes, is_empty, LabelledLine, labelled_lines, labels_from, instruction_text, program_line_of, taken_lines, instructions_of, reported_if, invalid_lines, program_errors, spaced, counted_from, lines_of, NumberedLine, NumberedWords, words_of, lines_that_count}
 use Rattle.pv_source.specs.declared.programs.Label.{Label}
 use Rattle.pv_source.specs.Reading.{numbered_text, if_words, first_that_counts}
 use Rattle.pv_source.specs.ReadPrograms.{label_value}
 use Rattle.pv_model.specs.Source.Programs.{labelled_words, or_exit, with_exit, count_words, onto_labels, number_of_label, without_labels, is_set_in, and_label, count_instruction, is_invalid}
 use Rattle.pv_model.specs.Source.Judged.{invalid_turn, invalid_turns}
-use Rattle.pv_source.specs.Reporting.{Reports}
+use Rattle.pv_source.specs.Reporting.{ReportsLines}
 use Rattle.pv_source.proofs.ReportedLines.{ReportedSoFar, ReportedSoFar-start, ReportedSoFar-step}
 
 -- ---- optional words
@@ -136,7 +136,7 @@ counted_as_words labels (word ∷ words) = refl
 -- one step of a loop that reports the lines of a program
 module _ (first now after all : List ℕ) (count before next : ℕ) where
   pub program_step : (labels : List (Bytes × ℕ)) (names more : List Bytes) (lines following : List LabelledLine) (line : LabelledLine) → lines ≡ line ∷ following → more ≡ and_label line.label names → next ≡ before + count_words line.words
-      → Reports now after (reported_if (is_set_in line.label names || is_invalid count before (instruction_text labels line.words)) line.number [])
+      → ReportsLines now after (reported_if (is_set_in line.label names || is_invalid count before (instruction_text labels line.words)) line.number [])
       → ReportedSoFar first now (invalid_lines count names before (map (program_line_of labels) lines)) all → ReportedSoFar first after (invalid_lines count more next (map (program_line_of labels) following)) all
   program_step labels names more lines following line read pushed counted reports preserved =
       let left = invalid_lines count (and_label line.label names) (before + count_instruction (instruction_text labels line.words)) (map (program_line_of labels) following) in
@@ -147,7 +147,7 @@ module _ (first now after all : List ℕ) (count before next : ℕ) where
       subst (λ k. ReportedSoFar first after (invalid_lines count more k (map (program_line_of labels) following)) all) at
       (subst (λ ns. ReportedSoFar first after (invalid_lines count ns (before + count_instruction (instruction_text labels line.words)) (map (program_line_of labels) following)) all) (sym pushed) step)
 
-  pub taken_step : (n m : ℕ) (rest line following : Bytes) → m ≡ n + 1 → lines_of rest ≡ line ∷ lines_of following → next ≡ before + 1 → Reports now after (reported_if (is_invalid count before (Some line)) n [])
+  pub taken_step : (n m : ℕ) (rest line following : Bytes) → m ≡ n + 1 → lines_of rest ≡ line ∷ lines_of following → next ≡ before + 1 → ReportsLines now after (reported_if (is_invalid count before (Some line)) n [])
       → ReportedSoFar first now (invalid_lines count [] before (taken_lines (numbered_text n rest))) all → ReportedSoFar first after (invalid_lines count [] next (taken_lines (numbered_text m following))) all
   taken_step n m rest line following then read counted reports preserved =
       let left = invalid_lines count [] (before + 1) (taken_lines (numbered_text (n + 1) following)) in
@@ -156,21 +156,21 @@ module _ (first now after all : List ℕ) (count before next : ℕ) where
       (ReportedSoFar-step first now after left all (is_invalid count before (Some line)) n reports
       (subst (λ ls. ReportedSoFar first now (invalid_lines count [] before (taken_lines (counted_from n ls))) all) read preserved)))
 
-  pub turns_step : (lines following : List NumberedWords) (line : NumberedWords) → lines ≡ line ∷ following → next ≡ before + 1 → Reports now after (reported_if (invalid_turn before line.1) line.0 [])
+  pub turns_step : (lines following : List NumberedWords) (line : NumberedWords) → lines ≡ line ∷ following → next ≡ before + 1 → ReportsLines now after (reported_if (invalid_turn before line.1) line.0 [])
       → ReportedSoFar first now (invalid_turns before lines) all → ReportedSoFar first after (invalid_turns next following) all
   turns_step lines following line read counted reports preserved =
       let is : suc before ≡ next = omega (arith, counted) in
       subst (λ k. ReportedSoFar first after (invalid_turns k following) all) is
       (ReportedSoFar-step first now after (invalid_turns (suc before) following) all (invalid_turn before line.1) line.0 reports (subst (λ ls. ReportedSoFar first now (invalid_turns before ls) all) read preserved))
 
--- lines that are copied unchanged are as many instructions
+-- the number of lines that are copied unchanged is the number of instructions
 taken-count : (n : ℕ) (ls : List Bytes) → length (instructions_of (taken_lines (counted_from n ls))) ≡ length ls
 taken-count n [] = refl
 taken-count n (l ∷ ls) = ap suc (taken-count (n + 1) ls)
 
 pub taken_start : (reported : List ℕ) (n : ℕ) (text : Bytes) (count : ℕ) → count ≡ length (lines_of text)
-    → ReportedSoFar reported reported (invalid_lines count [] 0 (taken_lines (numbered_text (n + 0) text))) (program_faults (taken_lines (numbered_text n text)))
-unfolding program_faults
+    → ReportedSoFar reported reported (invalid_lines count [] 0 (taken_lines (numbered_text (n + 0) text))) (program_errors (taken_lines (numbered_text n text)))
+unfolding program_errors
 taken_start reported n text count is =
     let all = taken_lines (numbered_text n text) in
     let at : n + 0 ≡ n = omega arith in

@@ -6,7 +6,7 @@ use Rattle.std.specs.List.{list_any, position_or_len}
 use Rattle.std.proofs.lemmas.Bool.{eq-eqb, ne_eqb}
 use Rattle.std.proofs.lemmas.List.{append-nil}
 use Rattle.pv_model.specs.Machine.{spaced, Bytes, onto_first, between, words_from}
-use Rattle.pv_source.specs.Reading.{BeginsNoBlank, spaced_more}
+use Rattle.pv_source.specs.Reading.{DoesNotBeginWithBlank, spaced_more}
 use Rattle.pv_model.specs.Source.Words.{in_word, in_text, is_blank, begun, with_last_word, before_last}
 
 -- ---- the last byte
@@ -120,17 +120,17 @@ unended_length b bs n none is = rw is (by (b == 34))
     by false = word_end bs
 
 -- a word, from the length after its first byte
-pub first_word : (bytes bs : Bytes) (b n : ℕ) → bytes ≡ b ∷ bs → BeginsNoBlank bytes → b ≢ 35 → words_from bs (begun b bs) ≡ take n bs ∷ words_from (drop n bs) between
+pub first_word : (bytes bs : Bytes) (b n : ℕ) → bytes ≡ b ∷ bs → DoesNotBeginWithBlank bytes → b ≢ 35 → words_from bs (begun b bs) ≡ take n bs ∷ words_from (drop n bs) between
     → words_from bytes between ≡ take (1 + n) bytes ∷ words_from (drop (1 + n) bytes) between
 first_word bytes bs b n is begins other h =
-    let blank : is_blank b ≡ false = subst BeginsNoBlank is begins in
+    let blank : is_blank b ≡ false = subst DoesNotBeginWithBlank is begins in
     let hash : (b == 35) ≡ false = ne_eqb b 35 other in
     let one_more : 1 + n ≡ suc n = omega arith in
     rw (is, blank, hash, h, one_more) refl
 
-pub comment_begins : (bytes bs : Bytes) (b : ℕ) → bytes ≡ b ∷ bs → BeginsNoBlank bytes → b ≡ 35 → words_from bytes between ≡ []
+pub comment_begins : (bytes bs : Bytes) (b : ℕ) → bytes ≡ b ∷ bs → DoesNotBeginWithBlank bytes → b ≡ 35 → words_from bytes between ≡ []
 comment_begins bytes bs b is begins hash =
-    let blank : is_blank b ≡ false = subst BeginsNoBlank is begins in
+    let blank : is_blank b ≡ false = subst DoesNotBeginWithBlank is begins in
     let same : (b == 35) ≡ true = eq-eqb b 35 hash in
     rw (is, blank, same) refl
 

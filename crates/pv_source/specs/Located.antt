@@ -9,23 +9,23 @@ use Rattle.pv_model.specs.Source.Programs.{ProgramLine, count_instruction}
 use Rattle.pv_source.specs.Appending.{AppendsLines}
 
 -- an instruction: its line in the source, its line in its program, and its text
-pub record Located : Type 0 where
+pub record LocatedInstruction : Type 0 where
   pub line : ℕ
   pub number : ℕ
   pub text : Bytes
 
 -- the instruction of a line of a program, if it has one
-abbrev pub located_instruction : ℕ → ℕ → Option Bytes → List Located
+abbrev pub located_instruction : ℕ → ℕ → Option Bytes → List LocatedInstruction
 located_instruction line number None = []
 located_instruction line number (Some text) = record { line = line; number = number; text = text } ∷ []
 
 -- the instructions of lines; the first has this number
-abbrev pub located_from : ℕ → List ProgramLine → List Located
+abbrev pub located_from : ℕ → List ProgramLine → List LocatedInstruction
 located_from number [] = []
 located_from number (line ∷ lines) = located_instruction line.number number line.instruction ++ located_from (number + count_instruction line.instruction) lines
 
 -- the instructions of the program in a block
-abbrev pub located_block : Block → List Located
+abbrev pub located_block : Block → List LocatedInstruction
 located_block (program n words body) = located_from 1 (program_lines body)
 located_block (taken n words body) = located_from 1 (taken_lines body)
 located_block block = []
@@ -40,27 +40,27 @@ block_path block = None
 abbrev pub place_text : Bytes → ℕ → ℕ → Bytes
 place_text path line number = decimal line ++ codes " " ++ quote path ++ codes ":" ++ decimal number ++ codes " "
 
-abbrev pub located_text : Bytes → Located → Bytes
+abbrev pub located_text : Bytes → LocatedInstruction → Bytes
 located_text path located = place_text path located.line located.number ++ located.text
 
 -- success: the lines of exactly these instructions of the program with this path were appended
-abbrev pub AppendsLocated : {T E : Type 0} → Bytes → List Located → (before after : Vec ℕ) → Result T E → Type 0
+abbrev pub AppendsLocated : {T E : Type 0} → Bytes → List LocatedInstruction → (before after : Vec ℕ) → Result T E → Type 0
 AppendsLocated path located before after result = AppendsLines (map (located_text path) located) before after result
 
-abbrev pub located_texts : Option Bytes → List Located → List Bytes
+abbrev pub located_texts : Option Bytes → List LocatedInstruction → List Bytes
 located_texts None located = []
 located_texts (Some path) located = map (located_text path) located
 
 -- the lines that are written for a block: one for each instruction
-abbrev pub located_in : Block → List Bytes
-located_in block = located_texts (block_path block) (located_block block)
+abbrev pub located_block_lines : Block → List Bytes
+located_block_lines block = located_texts (block_path block) (located_block block)
 
 -- the lines that are written for a source
 unfoldable pub located_lines : Bytes → Bytes
-located_lines source = ended (flat_map located_in (blocks_of source))
+located_lines source = ended (flat_map located_block_lines (blocks_of source))
 
 -- the instruction with number k is line k of the program that is written for the block, after the line with its path
 abbrev pub NumbersAreOfTranslation : Type 0
 NumbersAreOfTranslation =
     (block : Block) → is_exec_block block ≡ true
-    → map (λ (located : Located). (located.number, located.text)) (located_block block) ≡ counted_from 1 (drop 1 (written_lines block))
+    → map (λ (located : LocatedInstruction). (located.number, located.text)) (located_block block) ≡ counted_from 1 (drop 1 (written_lines block))

@@ -15,14 +15,14 @@ use Rattle.pv_source.specs.Saying.{IsPrintable}
 use Rattle.pv_streams.specs.Sinks.{and_all, WritesPrefix}
 
 -- an error: its line, and its message
-abbrev pub reported_of : Fault → ℕ × Bytes
-reported_of fault = (fault.line, fault.what)
+abbrev pub line_and_message : Fault → ℕ × Bytes
+line_and_message fault = (fault.line, fault.what)
 
-abbrev pub fault_line : Bytes → ℕ × Bytes → Bytes
-fault_line name reported = codes "pvsim: " ++ name ++ codes ":" ++ decimal reported.0 ++ codes ": " ++ reported.1 ++ codes "\n"
+abbrev pub message_line : Bytes → ℕ × Bytes → Bytes
+message_line name reported = codes "pvsim: " ++ name ++ codes ":" ++ decimal reported.0 ++ codes ": " ++ reported.1 ++ codes "\n"
 
-abbrev pub fault_lines : Bytes → List (ℕ × Bytes) → Bytes
-fault_lines name reported = flat_map (fault_line name) reported
+abbrev pub message_lines : Bytes → List (ℕ × Bytes) → Bytes
+message_lines name reported = flat_map (message_line name) reported
 
 -- each message is one line
 abbrev pub AreLines : List (ℕ × Bytes) → Type 0
@@ -34,29 +34,29 @@ output_of Translation source text = text
 output_of ProgramLines source text = located_lines source
 
 -- the output for a source without errors was written
-abbrev pub WritesText : Output → Bytes → Option Bytes → Option Bytes → Type 0
-WritesText output source before after = (text : Bytes) × (read_source source ≡ Ok text) × (after ≡ and_all before (output_of output source text))
+abbrev pub WritesSourceOutput : Output → Bytes → Option Bytes → Option Bytes → Type 0
+WritesSourceOutput output source before after = (text : Bytes) × (read_source source ≡ Ok text) × (after ≡ and_all before (output_of output source text))
 
 -- the lines with errors were reported in order, each in a line with a message
-abbrev pub ReportsFaults : Bytes → Bytes → Option Bytes → Option Bytes → Type 0
-ReportsFaults name source before after =
-    (reported : List (ℕ × Bytes)) × (read_source source ≡ Err (map (λ t. t.0) reported)) × (after ≡ and_all before (fault_lines name reported)) × AreLines reported
+abbrev pub ReportsErrors : Bytes → Bytes → Option Bytes → Option Bytes → Type 0
+ReportsErrors name source before after =
+    (reported : List (ℕ × Bytes)) × (read_source source ≡ Err (map (λ t. t.0) reported)) × (after ≡ and_all before (message_lines name reported)) × AreLines reported
 
 -- a prefix of the output, or of the report, was written
 abbrev pub BeginsText : Output → Bytes → Option Bytes → Option Bytes → Type 0
 BeginsText output source before after = (text : Bytes) × (read_source source ≡ Ok text) × WritesPrefix (output_of output source text) before after
 
-abbrev pub BeginsFaults : Bytes → Bytes → Option Bytes → Option Bytes → Type 0
-BeginsFaults name source before after =
-    (reported : List (ℕ × Bytes)) × (read_source source ≡ Err (map (λ t. t.0) reported)) × WritesPrefix (fault_lines name reported) before after × AreLines reported
+abbrev pub BeginsErrors : Bytes → Bytes → Option Bytes → Option Bytes → Type 0
+BeginsErrors name source before after =
+    (reported : List (ℕ × Bytes)) × (read_source source ≡ Err (map (λ t. t.0) reported)) × WritesPrefix (message_lines name reported) before after × AreLines reported
 
 -- an error that occurs before anything is written
-abbrev pub IsBefore : SourceStop → Type 0
-IsBefore Read = Unit {0}
-IsBefore Memory = Unit {0}
-IsBefore _ = ⊥
+abbrev pub IsBeforeOutput : SourceStop → Type 0
+IsBeforeOutput Read = Unit {0}
+IsBeforeOutput Memory = Unit {0}
+IsBeforeOutput _ = ⊥
 
 -- the error of reading a source
-abbrev pub stop_of : RunFault → SourceStop
-stop_of MemoryFault = Memory
-stop_of _ = Read
+abbrev pub source_stop_of : RunFault → SourceStop
+source_stop_of MemoryFault = Memory
+source_stop_of _ = Read

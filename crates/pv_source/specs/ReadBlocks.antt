@@ -4,7 +4,7 @@ use Rattle.pv_source.specs.declared.blocks.Block.{Block as ReadBlock}
 use Rattle.pv_source.specs.declared.blocks.Kind.{Kind}
 use Rattle.pv_source.specs.declared.blocks.Kind.TheVariants.{Single, Program, Taken, CutOff, Schedule}
 use Rattle.pv_source.specs.declared.lines.Lines.{Lines}
-use Rattle.pv_source.specs.Reading.{IsWithin, numbered, numbered_text, words_in}
+use Rattle.pv_source.specs.Reading.{IsWithin, numbered_lines, numbered_text, words_in}
 use Rattle.pv_model.specs.Machine.{Block, single, taken, blocks_from, NumberedLine}
 use Rattle.pv_model.specs.Source.Blocks.{program, cut_off, schedule}
 
@@ -16,18 +16,18 @@ block_by CutOff n words body = cut_off n
 block_by Schedule n words body = schedule n words body
 
 -- the parsed block
-abbrev pub block_of : ReadBlock → Block
-block_of b = block_by b.kind b.number (words_in b.words.now) (numbered_text (b.number + 1) b.body.now)
+abbrev pub parsed_block : ReadBlock → Block
+parsed_block b = block_by b.kind b.number (words_in b.words.now) (numbered_text (b.number + 1) b.body.now)
 
 -- a parsed block, and the blocks of the lines after it
 abbrev pub blocks_read : Option (ReadBlock × Lines) → List Block
 blocks_read None = []
-blocks_read (Some p) = block_of p.0 ∷ blocks_from (numbered p.1) 0
+blocks_read (Some p) = parsed_block p.0 ∷ blocks_from (numbered_lines p.1) 0
 
 -- the block and the lines after it agree with the specification's block and number of lines
-abbrev pub Reads : Option (ReadBlock × Lines) → Option (Block × ℕ) → List NumberedLine → Type 0
-Reads None block lines = block ≡ None
-Reads (Some p) block lines = (count : ℕ) × (block ≡ Some (block_of p.0, count)) × (drop count lines ≡ numbered p.1)
+abbrev pub ReadsBlock : Option (ReadBlock × Lines) → Option (Block × ℕ) → List NumberedLine → Type 0
+ReadsBlock None block lines = block ≡ None
+ReadsBlock (Some p) block lines = (count : ℕ) × (block ≡ Some (parsed_block p.0, count)) × (drop count lines ≡ numbered_lines p.1)
 
 -- a block and the lines after it are within the given lines
 abbrev pub IsInside : Option (ReadBlock × Lines) → Lines → Type 0

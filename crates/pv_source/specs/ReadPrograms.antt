@@ -5,14 +5,14 @@ use Rattle.pv_model.specs.Machine.{Bytes, LabelledLine, instruction_text, labell
 use Rattle.pv_source.specs.declared.lines.Lines.{Lines}
 use Rattle.pv_source.specs.declared.programs.Label.{Label}
 use Rattle.pv_source.specs.declared.programs.Labelled.{Labelled}
-use Rattle.pv_source.specs.Reading.{numbered, words_in}
+use Rattle.pv_source.specs.Reading.{numbered_lines, words_in}
 use Rattle.pv_model.specs.Source.Programs.{ProgramLine}
 
-abbrev pub bytes_of : Bor Bytes → Bytes
-bytes_of bytes = bytes.now
+abbrev pub borrowed_bytes : Bor Bytes → Bytes
+borrowed_bytes bytes = bytes.now
 
 abbrev pub name_value : Option (Bor Bytes) → Option Bytes
-name_value name = option_map bytes_of name
+name_value name = option_map borrowed_bytes name
 
 abbrev pub labelled_value : Labelled → LabelledLine
 labelled_value l = record { number = l.number; label = name_value l.label; words = words_in l.words.now }
@@ -29,15 +29,15 @@ instruction_with labels line = instruction_text (label_values labels) (words_in 
 
 -- the lines of a program up to END, with their labels and their words
 abbrev pub labelled_in : Lines → List LabelledLine
-labelled_in lines = labelled_lines (numbered lines)
+labelled_in lines = labelled_lines (numbered_lines lines)
 
 -- the lines of a program up to END, with their instructions
-abbrev pub program_in : Lines → List ProgramLine
-program_in lines = program_lines (numbered lines)
+abbrev pub program_lines_in : Lines → List ProgramLine
+program_lines_in lines = program_lines (numbered_lines lines)
 
 -- the lines of a program that are copied unchanged
 abbrev pub taken_in : Lines → List ProgramLine
-taken_in lines = taken_lines (numbered lines)
+taken_in lines = taken_lines (numbered_lines lines)
 
 -- a parsed line, and those of the lines after it
 abbrev pub then_labelled : Option (Labelled × Lines) → List LabelledLine

@@ -13,17 +13,17 @@ abbrev pub words_in : Bytes → List Bytes
 words_in bytes = words_from bytes between
 
 -- the first byte is not a blank
-abbrev pub BeginsNoBlank : Bytes → Type 0
-BeginsNoBlank [] = Unit {0}
-BeginsNoBlank (b ∷ bs) = is_blank b ≡ false
+abbrev pub DoesNotBeginWithBlank : Bytes → Type 0
+DoesNotBeginWithBlank [] = Unit {0}
+DoesNotBeginWithBlank (b ∷ bs) = is_blank b ≡ false
 
 -- words, each after a space
 abbrev pub spaced_more : List Bytes → Bytes
 spaced_more words = flat_map (λ word. codes " " ++ word) words
 
 -- the first of some words
-abbrev pub BeginsWith : Bytes → List Bytes → Type 0
-BeginsWith first words = (others : List Bytes) × (words ≡ first ∷ others)
+abbrev pub HasFirstWord : Bytes → List Bytes → Type 0
+HasFirstWord first words = (others : List Bytes) × (words ≡ first ∷ others)
 
 -- ---- lines
 
@@ -31,12 +31,12 @@ BeginsWith first words = (others : List Bytes) × (words ≡ first ∷ others)
 abbrev pub numbered_text : ℕ → Bytes → List NumberedLine
 numbered_text n text = counted_from n (lines_of text)
 
-abbrev pub numbered : Lines → List NumberedLine
-numbered lines = numbered_text lines.number lines.text.now
+abbrev pub numbered_lines : Lines → List NumberedLine
+numbered_lines lines = numbered_text lines.number lines.text.now
 
 -- the lines that have a word
 abbrev pub worded_in : Lines → List NumberedWords
-worded_in lines = lines_that_count (numbered lines)
+worded_in lines = lines_that_count (numbered_lines lines)
 
 -- lines end where other lines end, or before
 abbrev pub IsWithin : Lines → Lines → Type 0
@@ -57,11 +57,11 @@ first_that_counts (line ∷ lines) = if_words line.0 (words_of line.1) lines (fi
 
 -- a body is the lines before the first that is the mark alone, and the rest is the lines after that one
 pub record Ends (mark : Bytes) (lines : Lines) (body : Bytes) (rest : Lines) : Type 0 where
-  pub before : lines_up_to mark (numbered lines) ≡ Some (numbered_text lines.number body)
-  pub after : drop (suc (length (lines_of body))) (numbered lines) ≡ numbered rest
+  pub before : lines_up_to mark (numbered_lines lines) ≡ Some (numbered_text lines.number body)
+  pub after : drop (suc (length (lines_of body))) (numbered_lines lines) ≡ numbered_lines rest
 
 -- a body is the first `count` lines, and the rest is the lines after them
 pub record Takes (count : ℕ) (lines : Lines) (body : Bytes) (rest : Lines) : Type 0 where
   pub enough : count ≤ length (lines_of lines.text.now)
-  pub first : take count (numbered lines) ≡ numbered_text lines.number body
-  pub after : drop count (numbered lines) ≡ numbered rest
+  pub first : take count (numbered_lines lines) ≡ numbered_text lines.number body
+  pub after : drop count (numbered_lines lines) ≡ numbered_lines rest

@@ -19,12 +19,12 @@ abbrev pub said_byte : ℕ → Bytes
 said_byte b = if is_printable b then b ∷ [] else codes "\\x" ++ hex_byte b
 
 -- the text of bytes
-abbrev pub said : Bytes → Bytes
-said bytes = flat_map said_byte bytes
+abbrev pub printable_text : Bytes → Bytes
+printable_text bytes = flat_map said_byte bytes
 
 -- the text of bytes of the source: of the first 57 if there are more than 60
 abbrev pub said_excerpt : Bytes → Bytes
-said_excerpt bytes = if nat_le (length bytes) 60 then said bytes else said (take 57 bytes) ++ codes "..."
+said_excerpt bytes = if nat_le (length bytes) 60 then printable_text bytes else printable_text (take 57 bytes) ++ codes "..."
 
 -- the text of an excerpt in quotation marks
 abbrev pub said_marked : Bytes → Bytes
@@ -32,7 +32,7 @@ said_marked bytes = codes "'" ++ said_excerpt bytes ++ codes "'"
 
 -- the text of a part
 abbrev pub said_part : Part → Bytes
-said_part (Plain bytes) = said bytes.now
+said_part (Plain bytes) = printable_text bytes.now
 said_part (Marked bytes) = said_marked bytes.now
-said_part (Number n) = said (decimal n)
+said_part (Number n) = printable_text (decimal n)
 said_part (Hex b) = hex_byte b

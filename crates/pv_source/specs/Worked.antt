@@ -1,13 +1,13 @@
--- Worked examples: the lines of a source that are warned of, and the lines of its programs.
+-- Worked examples: the lines of a source that get a warning, and the lines of its programs.
 use Rattle.std.specs.Prelude.{◌≡◌, [], ◌∷◌, codes, refl}
 use Rattle.pv_model.specs.Source.OnLiterals.{sources_on_literals}
-use Rattle.pv_laws_worked.specs.Bundles.{lines_text}
+use Rattle.pv_laws_worked.specs.Bundles.{text_of_lines}
 use Rattle.pv_laws_worked.specs.Stated.{Stated}
 use Rattle.pv_source.specs.Located.{located_lines}
 use Rattle.pv_source.specs.Warnings.{warned_lines}
 
 -- each program up to END, and `/init`, but no other file
-pub unknown_words_are_warned_of : warned_lines (lines_text (
+pub unknown_words_are_warned_of : warned_lines (text_of_lines (
     codes "image 16 16" ∷
     codes "exec \"/bin\" <<END" ∷
     codes "pledge \"stdio rpaht\" null # two letters are exchanged" ∷
@@ -23,9 +23,9 @@ pub unknown_words_are_warned_of : warned_lines (lines_text (
 unfolding sources_on_literals warned_lines
 unknown_words_are_warned_of = refl
 
--- lines without an instruction have no number, labels are replaced, and a last label gets an `exit 0`; lines that are
--- copied stay as they are
-pub lines_have_their_numbers : located_lines (lines_text (
+-- lines without an instruction have no number, labels are replaced, and a last label gets an `exit 0`; copied lines are
+-- unchanged
+pub lines_have_their_numbers : located_lines (text_of_lines (
     codes "image 16 16 # the sizes" ∷
     codes "dir \"/bin\"" ∷
     codes "exec \"/bin/a b\" <<END" ∷
@@ -40,7 +40,7 @@ pub lines_have_their_numbers : located_lines (lines_text (
     codes "fork" ∷
     codes "exit 0" ∷
     codes "schedule" ∷
-    codes "1" ∷ [])) ≡ lines_text (
+    codes "1" ∷ [])) ≡ text_of_lines (
     codes "5 \"/bin/a b\":1 getpid" ∷
     codes "7 \"/bin/a b\":2 jnz 1" ∷
     codes "8 \"/bin/a b\":3 exit 0" ∷
@@ -49,6 +49,6 @@ pub lines_have_their_numbers : located_lines (lines_text (
 unfolding sources_on_literals located_lines
 lines_have_their_numbers = refl
 
-pub record AllWorked : Type 0 where
+pub record AllSourcesWorked : Type 0 where
   pub unknown_words_are_warned_of : Stated unknown_words_are_warned_of
   pub lines_have_their_numbers : Stated lines_have_their_numbers

@@ -2,8 +2,8 @@
 ghost use Rattle.std.specs.Prelude.{◌≡◌, ◌+◌, ◌<◌, ◌^◌, [], length, None, Some, IfSome};
 ghost use Rattle.pv_model.specs.Machine.{blocks_from};
 ghost use Rattle.pv_model.specs.Source.Blocks.{exec_by, exec_block};
-ghost use Rattle.pv_source.specs.Reading.{numbered, words_in};
-ghost use Rattle.pv_source.specs.ReadBlocks.{blocks_read, Reads, IsInside};
+ghost use Rattle.pv_source.specs.Reading.{numbered_lines, words_in};
+ghost use Rattle.pv_source.specs.ReadBlocks.{blocks_read, ReadsBlock, IsInside};
 
 use crate::lines::{Line, Lines, lines_before_mark, next_line, next_lines};
 use crate::words::{last_word, mark_of};
@@ -60,7 +60,7 @@ fn program_block<'a>(
 ) -> Option<(Block<'a>, Lines<'a>)>
     requires next { lines.number ≡ line.number + 1 }
     requires few { lines.number + length lines.text.now < 2 ^ 31 }
-    ensures reads { Reads result (exec_by line.entry.number (words_in line.entry.words.now) (numbered lines.entry) (Some mark.now) None) (numbered lines.entry) }
+    ensures reads { ReadsBlock result (exec_by line.entry.number (words_in line.entry.words.now) (numbered_lines lines.entry) (Some mark.now) None) (numbered_lines lines.entry) }
     ensures inside { IsInside result lines.entry }
 {
     let Some((body, rest)) = lines_before_mark(mark, lines) else {
@@ -79,7 +79,7 @@ fn program_block<'a>(
 fn taken_block<'a>(line: Line<'a>, count: u32, lines: Lines<'a>) -> Option<(Block<'a>, Lines<'a>)>
     requires next { lines.number ≡ line.number + 1 }
     requires few { lines.number + length lines.text.now < 2 ^ 31 }
-    ensures reads { Reads result (exec_by line.entry.number (words_in line.entry.words.now) (numbered lines.entry) None (Some count)) (numbered lines.entry) }
+    ensures reads { ReadsBlock result (exec_by line.entry.number (words_in line.entry.words.now) (numbered_lines lines.entry) None (Some count)) (numbered_lines lines.entry) }
     ensures inside { IsInside result lines.entry }
 {
     let Some((body, rest)) = next_lines(count, lines) else {
@@ -98,7 +98,7 @@ fn taken_block<'a>(line: Line<'a>, count: u32, lines: Lines<'a>) -> Option<(Bloc
 fn exec_block<'a>(line: Line<'a>, lines: Lines<'a>) -> Option<(Block<'a>, Lines<'a>)>
     requires next { lines.number ≡ line.number + 1 }
     requires few { lines.number + length lines.text.now < 2 ^ 31 }
-    ensures reads { Reads result (exec_block line.entry.number (words_in line.entry.words.now) (numbered lines.entry)) (numbered lines.entry) }
+    ensures reads { ReadsBlock result (exec_block line.entry.number (words_in line.entry.words.now) (numbered_lines lines.entry)) (numbered_lines lines.entry) }
     ensures inside { IsInside result lines.entry }
 {
     let last = last_word(line.words);
@@ -113,7 +113,7 @@ fn exec_block<'a>(line: Line<'a>, lines: Lines<'a>) -> Option<(Block<'a>, Lines<
 
 // Returns the empty sequence of lines at the end of a text.
 fn no_lines<'a>(lines: Lines<'a>) -> Lines<'a>
-    ensures none { numbered result ≡ [] }
+    ensures none { numbered_lines result ≡ [] }
     ensures number { result.number ≡ lines.entry.number }
     ensures text { result.text.now ≡ [] }
 {
@@ -126,7 +126,7 @@ fn no_lines<'a>(lines: Lines<'a>) -> Lines<'a>
 /// Returns the first block, with the lines after it, or `None` if no line has a word.
 pub fn next_block<'a>(lines: Lines<'a>) -> Option<(Block<'a>, Lines<'a>)>
     requires { lines.number + length lines.text.now < 2 ^ 31 }
-    ensures block { blocks_from (numbered lines.entry) 0 ≡ blocks_read result }
+    ensures block { blocks_from (numbered_lines lines.entry) 0 ≡ blocks_read result }
     ensures inside { IsInside result lines.entry }
     ensures shorter { IfSome result (λ p. length p.1.text.now < length lines.entry.text.now) }
 {

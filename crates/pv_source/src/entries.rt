@@ -4,9 +4,9 @@ ghost use Rattle.pv_image_manifest.specs.Entries.{entry_of_line};
 ghost use Rattle.pv_model.specs.Machine.{Bytes, lines_of, entry_of, ended, single, instructions_of};
 ghost use Rattle.pv_model.specs.Source.Judged.{second_text, has_three_words, exec_path, executable, entry_of_block};
 ghost use Rattle.pv_source.specs.Reading.{words_in};
-ghost use Rattle.pv_source.specs.ReadBlocks.{block_of};
+ghost use Rattle.pv_source.specs.ReadBlocks.{parsed_block};
 ghost use Rattle.pv_source.specs.ReadEntries.{IsEntryOf};
-ghost use Rattle.pv_source.specs.ReadPrograms.{program_in};
+ghost use Rattle.pv_source.specs.ReadPrograms.{program_lines_in};
 
 use crate::blocks::{Block, Kind};
 use crate::lines::{Lines, line_count};
@@ -112,7 +112,7 @@ fn executable(
 // Returns the bytes of a program up to its END.
 fn program_bytes(alloc: Global, body: Lines) -> Result<Vec<u8>, AllocError>
     requires { body.number + length body.text.now < 2 ^ 31 }
-    ensures { IfOk result (λ bytes. bytes.items ≡ ended (instructions_of (program_in body.entry))) }
+    ensures { IfOk result (λ bytes. bytes.items ≡ ended (instructions_of (program_lines_in body.entry))) }
 {
     let (labels, _) = labels_of(alloc, body)?;
     let mut bytes = Vec::new(alloc);
@@ -137,7 +137,7 @@ fn taken_bytes(alloc: Global, text: &[u8]) -> Result<Vec<u8>, AllocError>
 #[tactic(auto, unfolding(pv_model::specs::Source::Judged::entry_of_block))]
 pub fn entry_of_block(alloc: Global, block: &Block) -> Result<Option<Entry>, AllocError>
     requires { block.now.number + 1 + length block.now.body.now < 2 ^ 31 }
-    ensures { IfOk result (IsEntryOf block.now.number (entry_of_block (block_of block.now))) }
+    ensures { IfOk result (IsEntryOf block.now.number (entry_of_block (parsed_block block.now))) }
 {
     match block.kind {
         Kind::Single => single_entry(alloc, block.number, block.words),

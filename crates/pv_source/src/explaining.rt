@@ -1,4 +1,4 @@
-//! The message of an error: what was found, and what is expected.
+//! The message of an error: the text that was found, and the expected text.
 //!
 //! The message of a line explains its leftmost error. `saying` formats bytes, `texts` and `words` explain an argument,
 //! `instructions` a line of a program, and `entries` a line of a manifest. The contracts state that a message is one

@@ -1,6 +1,6 @@
 //! The reported errors of a source.
 ghost use Rattle.std.specs.Prelude.{◌≡◌, ◌↔◌, ◌≤◌, ◌∷◌, [], length, map, OnOk, IsTrue};
-ghost use Rattle.pv_source.specs.Reporting.{Reports, line_of};
+ghost use Rattle.pv_source.specs.Reporting.{ReportsLines, line_of_error};
 
 use crate::explaining::Saying;
 use std::alloc::{AllocError, Global};
@@ -14,7 +14,7 @@ pub const REPORTED: usize = 20;
 pub struct Fault {
     /// The number of the line, counted from 1.
     pub line: u32,
-    /// The message: what was found and what is expected.
+    /// The message: the text that was found and the expected text.
     pub what: Saying,
 }
 
@@ -27,11 +27,11 @@ pub struct Faults {
 impl Model for Faults {
     ghost use Rattle.std.specs.Prelude.{ℕ, List, map, length, ◌≤◌};
     ghost use Rattle.pv_source.specs.declared.faults.TheConstants.{REPORTED};
-    ghost use Rattle.pv_source.specs.Reporting.{line_of};
+    ghost use Rattle.pv_source.specs.Reporting.{line_of_error};
 
     ghost Value = { List ℕ };
 
-    ghost view = { λ f. map line_of f.reported.items };
+    ghost view = { λ f. map line_of_error f.reported.items };
 
     ghost invariant = { λ f. length f.reported.items ≤ REPORTED };
 }
@@ -53,7 +53,7 @@ impl Faults {
     /// Returns `AllocError` if memory cannot be allocated.
     #[tactic(auto, using(crate::proofs::ReportedLines::reported_full, crate::proofs::ReportedLines::reported_one))]
     pub fn report(&mut self, line: u32, what: Saying) -> Result<(), AllocError>
-        ensures { OnOk result (Reports self.old self.new (line ∷ [])) }
+        ensures { OnOk result (ReportsLines self.old self.new (line ∷ [])) }
     {
         if self.reported.len() == REPORTED {
             return Ok(());
@@ -79,7 +79,7 @@ impl Faults {
 
     /// Returns the errors, in the order in which they were reported.
     pub fn reported(&self) -> &[Fault]
-        ensures { map line_of result.now ≡ self.now }
+        ensures { map line_of_error result.now ≡ self.now }
     {
         self.reported.as_slice()
     }

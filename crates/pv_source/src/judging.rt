@@ -1,12 +1,12 @@
 //! Checking the lines that belong to blocks: programs and schedules.
 ghost use Rattle.std.specs.Prelude.{◌≡◌, ◌+◌, ◌<◌, ◌^◌, ◌||◌, [], length, map, IfOk, OnOk, Some};
-ghost use Rattle.pv_model.specs.Source.Judged.{is_init, second_text, faults_in, invalid_turns, invalid_turn};
-ghost use Rattle.pv_model.specs.Machine.{reported_if, program_faults};
+ghost use Rattle.pv_model.specs.Source.Judged.{is_init, second_text, errors_in, invalid_turns, invalid_turn};
+ghost use Rattle.pv_model.specs.Machine.{reported_if, program_errors};
 ghost use Rattle.pv_model.specs.Source.Programs.{is_set_in, and_label, is_invalid};
 ghost use Rattle.pv_source.specs.Reading.{words_in, worded_in};
-ghost use Rattle.pv_source.specs.ReadBlocks.{block_of};
-ghost use Rattle.pv_source.specs.ReadPrograms.{bytes_of, name_value, instruction_with, program_in, taken_in};
-ghost use Rattle.pv_source.specs.Reporting.{Reports};
+ghost use Rattle.pv_source.specs.ReadBlocks.{parsed_block};
+ghost use Rattle.pv_source.specs.ReadPrograms.{borrowed_bytes, name_value, instruction_with, program_lines_in, taken_in};
+ghost use Rattle.pv_source.specs.Reporting.{ReportsLines};
 
 use crate::blocks::{Block, Kind};
 use crate::entries::second_text;
@@ -33,7 +33,7 @@ fn is_invalid(count: u32, before: u32, text: &[u8]) -> bool
 
 // Returns whether a label is in a list of names.
 fn is_set(label: Option<&[u8]>, names: &[&[u8]]) -> bool
-    ensures { result ≡ is_set_in (name_value label.entry) (map bytes_of names.now) }
+    ensures { result ≡ is_set_in (name_value label.entry) (map borrowed_bytes names.now) }
 {
     let Some(own) = label else {
         return false;
@@ -85,7 +85,7 @@ fn report_line(
     text: &mut Vec<u8>,
     faults: &mut Faults,
 ) -> Result<(), AllocError>
-    ensures { OnOk result (Reports faults.old faults.new (reported_if (is_set_in (name_value line.now.label) (map bytes_of names.now) || is_invalid program.now.count before (instruction_with program.now.labels.items line.now)) line.now.number [])) }
+    ensures { OnOk result (ReportsLines faults.old faults.new (reported_if (is_set_in (name_value line.now.label) (map borrowed_bytes names.now) || is_invalid program.now.count before (instruction_with program.now.labels.items line.now)) line.now.number [])) }
 {
     if faults.is_full() {
         return Ok(());
@@ -103,7 +103,7 @@ fn report_line(
 
 // Appends the label that a line sets, if it sets one.
 fn push_name<'a>(names: &mut Vec<&'a [u8]>, label: Option<&'a [u8]>) -> Result<(), AllocError>
-    ensures { OnOk result (map bytes_of names.new.items ≡ and_label (name_value label.entry) (map bytes_of names.old.items)) }
+    ensures { OnOk result (map borrowed_bytes names.new.items ≡ and_label (name_value label.entry) (map borrowed_bytes names.old.items)) }
 {
     if let Some(name) = label {
         names.push(name)?;
@@ -114,7 +114,7 @@ fn push_name<'a>(names: &mut Vec<&'a [u8]>, label: Option<&'a [u8]>) -> Result<(
 // Reports the lines with errors of a program that ends with END.
 fn report_program(alloc: Global, body: Lines, faults: &mut Faults) -> Result<(), AllocError>
     requires { body.number + length body.text.now < 2 ^ 31 }
-    ensures { OnOk result (Reports faults.old faults.new (program_faults (program_in body.entry))) }
+    ensures { OnOk result (ReportsLines faults.old faults.new (program_errors (program_lines_in body.entry))) }
 {
     let (labels, count) = labels_of(alloc, body)?;
     let program = Judged { labels, count };
@@ -141,7 +141,7 @@ fn report_taken_line(
     line: &[u8],
     faults: &mut Faults,
 ) -> Result<(), AllocError>
-    ensures { OnOk result (Reports faults.old faults.new (reported_if (is_invalid count before (Some line.now)) number [])) }
+    ensures { OnOk result (ReportsLines faults.old faults.new (reported_if (is_invalid count before (Some line.now)) number [])) }
 {
     if faults.is_full() {
         return Ok(());
@@ -156,7 +156,7 @@ fn report_taken_line(
 // Reports the lines with errors of a program whose lines are copied unchanged.
 fn report_taken(alloc: Global, body: Lines, faults: &mut Faults) -> Result<(), AllocError>
     requires { body.number + length body.text.now < 2 ^ 31 }
-    ensures { OnOk result (Reports faults.old faults.new (program_faults (taken_in body.entry))) }
+    ensures { OnOk result (ReportsLines faults.old faults.new (program_errors (taken_in body.entry))) }
 {
     let count = line_count(body.text);
     let mut before: u32 = 0;
@@ -179,7 +179,7 @@ fn report_turn(
     text: &mut Vec<u8>,
     faults: &mut Faults,
 ) -> Result<(), AllocError>
-    ensures { OnOk result (Reports faults.old faults.new (reported_if (invalid_turn before (words_in line.entry.words.now)) line.entry.number [])) }
+    ensures { OnOk result (ReportsLines faults.old faults.new (reported_if (invalid_turn before (words_in line.entry.words.now)) line.entry.number [])) }
 {
     if faults.is_full() {
         return Ok(());
@@ -195,7 +195,7 @@ fn report_turn(
 // Reports the lines with errors of a schedule.
 fn report_turns(alloc: Global, lines: Lines, faults: &mut Faults) -> Result<(), AllocError>
     requires { lines.number + length lines.text.now < 2 ^ 31 }
-    ensures { OnOk result (Reports faults.old faults.new (invalid_turns 0 (worded_in lines.entry))) }
+    ensures { OnOk result (ReportsLines faults.old faults.new (invalid_turns 0 (worded_in lines.entry))) }
 {
     let mut text = Vec::new(alloc);
     let mut before: u32 = 0;
@@ -225,7 +225,7 @@ pub fn names_init(words: &[u8]) -> bool
 /// Returns `AllocError` if memory cannot be allocated.
 pub fn report_lines(alloc: Global, block: &Block, faults: &mut Faults) -> Result<(), AllocError>
     requires { block.now.number + 1 + length block.now.body.now < 2 ^ 31 }
-    ensures { OnOk result (Reports faults.old faults.new (faults_in (block_of block.now))) }
+    ensures { OnOk result (ReportsLines faults.old faults.new (errors_in (parsed_block block.now))) }
 {
     match block.kind {
         Kind::Program => report_program(alloc, block.lines(), faults),

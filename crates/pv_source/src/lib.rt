@@ -5,9 +5,9 @@
 //! those that belong to it. `programs` handles labels and instructions, and `entries` the entry of a block. `judging`
 //! checks the lines of programs and of the schedule, `so_far` the lines of the manifest with the tree that they build,
 //! and `whole` the whole source. `faults` collects the errors, and `explaining` writes their messages, each proved to
-//! be one printable line. `warnings` finds what is valid but fails in every run. `texts` produces the translated text,
+//! be one printable line. `warnings` finds valid lines that fail in every run. `texts` produces the translated text,
 //! `located` the lines of the programs with their places, and `source` reads a source and writes the result;
-//! `translation` does so in memory. `worked` states what the definitions compute on small sources.
+//! `translation` does so in memory. `worked` states the values of the definitions on small sources.
 #![tactic(auto)]
 
 mod blocks;

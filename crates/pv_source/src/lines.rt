@@ -2,7 +2,7 @@
 ghost use Rattle.std.specs.Prelude.{◌≡◌, ◌+◌, ◌<◌, ◌≤◌, ◌^◌, length, None, MatchOption, IfSome, option_map};
 ghost use Rattle.pv_model.specs.Machine.{lines_of};
 ghost use Rattle.pv_model.specs.Source.Blocks.{lines_up_to};
-ghost use Rattle.pv_source.specs.Reading.{first_that_counts, numbered, worded, BeginsWith, Ends, Takes, IsWithin, words_in};
+ghost use Rattle.pv_source.specs.Reading.{first_that_counts, numbered_lines, worded, HasFirstWord, Ends, Takes, IsWithin, words_in};
 
 use crate::words::{content, is_alone, next_word};
 use pv_text::lines::split_line;
@@ -30,8 +30,8 @@ pub struct Line<'a> {
 /// Returns the first line that has a word, with the lines after it, or `None` if no line has one.
 pub fn next_line<'a>(lines: Lines<'a>) -> Option<(Line<'a>, Lines<'a>)>
     requires { lines.number + length lines.text.now < 2 ^ 32 }
-    ensures counts { first_that_counts (numbered lines.entry) ≡ option_map (λ p. (worded p.0, numbered p.1)) result }
-    ensures first { IfSome result (λ p. BeginsWith p.0.first.now (words_in p.0.words.now)) }
+    ensures counts { first_that_counts (numbered_lines lines.entry) ≡ option_map (λ p. (worded p.0, numbered_lines p.1)) result }
+    ensures first { IfSome result (λ p. HasFirstWord p.0.first.now (words_in p.0.words.now)) }
     ensures next { IfSome result (λ p. p.1.number ≡ p.0.number + 1) }
     ensures room { IfSome result (λ p. IsWithin p.1 lines.entry) }
     ensures shorter { IfSome result (λ p. length p.1.text.now < length lines.entry.text.now) }
@@ -62,7 +62,7 @@ pub fn next_line<'a>(lines: Lines<'a>) -> Option<(Line<'a>, Lines<'a>)>
 /// `None` if there is no such line.
 pub fn lines_before_mark<'a>(mark: &[u8], lines: Lines<'a>) -> Option<(&'a [u8], Lines<'a>)>
     requires { lines.number + length lines.text.now < 2 ^ 32 }
-    ensures found { MatchOption result (lines_up_to mark.now (numbered lines.entry) ≡ None) (λ p. Ends mark.now lines.entry p.0.now p.1) }
+    ensures found { MatchOption result (lines_up_to mark.now (numbered_lines lines.entry) ≡ None) (λ p. Ends mark.now lines.entry p.0.now p.1) }
     ensures within { IfSome result (λ p. length p.0.now ≤ length lines.entry.text.now) }
     ensures room { IfSome result (λ p. IsWithin p.1 lines.entry) }
     ensures shorter { IfSome result (λ p. length p.1.text.now < length lines.entry.text.now) }

@@ -1,10 +1,10 @@
 //! The instructions of the programs of a source, each with its line in the source and its line in the program.
 ghost use Rattle.std.specs.Prelude.{◌≡◌, ◌+◌, ◌<◌, ◌^◌, length, IfOk};
 ghost use Rattle.pv_model.specs.Machine.{quote, quote_byte};
-ghost use Rattle.pv_source.specs.Located.{NumbersAreOfTranslation, located_from, located_in, located_instruction, located_lines, place_text, AppendsLocated};
-ghost use Rattle.pv_source.specs.ReadBlocks.{block_of};
-ghost use Rattle.pv_source.specs.ReadPrograms.{instruction_with, program_in, taken_in};
-ghost use Rattle.pv_source.specs.Appending.{Appends, AppendsLines};
+ghost use Rattle.pv_source.specs.Located.{NumbersAreOfTranslation, located_from, located_block_lines, located_instruction, located_lines, place_text, AppendsLocated};
+ghost use Rattle.pv_source.specs.ReadBlocks.{parsed_block};
+ghost use Rattle.pv_source.specs.ReadPrograms.{instruction_with, program_lines_in, taken_in};
+ghost use Rattle.pv_source.specs.Appending.{AppendsText, AppendsLines};
 
 use crate::blocks::{Block, Kind, next_block};
 use crate::entries::exec_path;
@@ -25,7 +25,7 @@ pub fn numbers_are_of_the_translation()
 
 // Appends a byte as it is written between quotation marks.
 fn push_quoted_byte(byte: u8, out: &mut Vec<u8>) -> Result<(), AllocError>
-    ensures { Appends (quote_byte byte) out.old out.new result }
+    ensures { AppendsText (quote_byte byte) out.old out.new result }
 {
     if is_plain(byte) {
         out.push(byte)?;
@@ -36,7 +36,7 @@ fn push_quoted_byte(byte: u8, out: &mut Vec<u8>) -> Result<(), AllocError>
 
 // Appends a text in quotation marks.
 fn push_quoted(text: &[u8], out: &mut Vec<u8>) -> Result<(), AllocError>
-    ensures { Appends (quote text.now) out.old out.new result }
+    ensures { AppendsText (quote text.now) out.old out.new result }
 {
     out.push(b'"')?;
     for byte in text {
@@ -48,7 +48,7 @@ fn push_quoted(text: &[u8], out: &mut Vec<u8>) -> Result<(), AllocError>
 
 // Appends the place of an instruction: its line in the source, the path of its program, and its line in the program.
 fn push_place(path: &[u8], line: u32, number: u32, out: &mut Vec<u8>) -> Result<(), AllocError>
-    ensures { Appends (place_text path.now line number) out.old out.new result }
+    ensures { AppendsText (place_text path.now line number) out.old out.new result }
 {
     let mut buffer = Buffer::new();
     out.extend_from_slice(buffer.format(line).as_bytes())?;
@@ -86,7 +86,7 @@ fn push_program_lines(
     out: &mut Vec<u8>,
 ) -> Result<(), AllocError>
     requires { body.number + length body.text.now < 2 ^ 31 }
-    ensures { AppendsLocated path.now (located_from 1 (program_in body.entry)) out.old out.new result }
+    ensures { AppendsLocated path.now (located_from 1 (program_lines_in body.entry)) out.old out.new result }
 {
     let (labels, _) = labels_of(alloc, body)?;
     let mut number: u32 = 1;
@@ -136,7 +136,7 @@ fn push_taken_lines(path: &[u8], body: Lines, out: &mut Vec<u8>) -> Result<(), A
 #[tactic(auto, using(crate::proofs::LocatedLines::no_path))]
 fn push_block_lines(alloc: Global, block: &Block, out: &mut Vec<u8>) -> Result<(), AllocError>
     requires { block.now.number + 1 + length block.now.body.now < 2 ^ 31 }
-    ensures { AppendsLines (located_in (block_of block.now)) out.old out.new result }
+    ensures { AppendsLines (located_block_lines (parsed_block block.now)) out.old out.new result }
 {
     let Some(path) = exec_path(block.words) else {
         return Ok(());

@@ -5,8 +5,8 @@ ghost use Rattle.pv_model.specs.Machine.{spaced, labels_from, instructions_of, l
 ghost use Rattle.pv_model.specs.Source.Programs.{is_label_byte, is_label, label_of, labelled_words, or_exit, count_words, onto_labels, number_of_label, is_jump, begins_with_letter, target_word, without_labels};
 ghost use Rattle.pv_model.specs.Source.Words.{with_last_word};
 ghost use Rattle.pv_source.specs.Reading.{spaced_more, IsWithin, words_in};
-ghost use Rattle.pv_source.specs.ReadPrograms.{name_value, labelled_value, then_labelled, program_in, labelled_in, label_values};
-ghost use Rattle.pv_source.specs.Appending.{Appends, AppendsLines};
+ghost use Rattle.pv_source.specs.ReadPrograms.{name_value, labelled_value, then_labelled, program_lines_in, labelled_in, label_values};
+ghost use Rattle.pv_source.specs.Appending.{AppendsText, AppendsLines};
 
 use crate::lines::{Line, Lines, next_line};
 use crate::words::{
@@ -153,7 +153,7 @@ fn push_label<'a>(
 pub fn labels_of<'a>(alloc: Global, body: Lines<'a>) -> Result<(Vec<Label<'a>>, u32), AllocError>
     requires { body.number + length body.text.now < 2 ^ 31 }
     ensures labels { IfOk result (λ p. label_values p.0.items ≡ labels_from 1 (labelled_in body.entry)) }
-    ensures count { IfOk result (λ p. p.1 ≡ length (instructions_of (program_in body.entry))) }
+    ensures count { IfOk result (λ p. p.1 ≡ length (instructions_of (program_lines_in body.entry))) }
 {
     let mut labels = Vec::new(alloc);
     let mut count: u32 = 0;
@@ -219,7 +219,7 @@ fn push_jump(labels: &[Label], words: &[u8], out: &mut Vec<u8>) -> Result<(), Al
 ///
 /// Returns `AllocError` if memory cannot be allocated.
 pub fn push_instruction(labels: &[Label], words: &[u8], out: &mut Vec<u8>) -> Result<(), AllocError>
-    ensures { Appends (spaced (without_labels (label_values labels.now) (words_in words.now))) out.old out.new result }
+    ensures { AppendsText (spaced (without_labels (label_values labels.now) (words_in words.now))) out.old out.new result }
 {
     let Some((first, rest)) = next_word(words) else {
         return Ok(());
@@ -239,7 +239,7 @@ pub fn push_instruction(labels: &[Label], words: &[u8], out: &mut Vec<u8>) -> Re
 pub fn push_program(labels: &[Label], body: Lines, out: &mut Vec<u8>) -> Result<(), AllocError>
     requires few { body.number + length body.text.now < 2 ^ 31 }
     requires labels { label_values labels.now ≡ labels_from 1 (labelled_in body) }
-    ensures { AppendsLines (instructions_of (program_in body.entry)) out.old out.new result }
+    ensures { AppendsLines (instructions_of (program_lines_in body.entry)) out.old out.new result }
 {
     let mut rest = body;
     while let Some((line, following)) = next_labelled(rest) {

@@ -3,10 +3,10 @@ ghost use Rattle.std.specs.Prelude.{◌≡◌, ◌+◌, ◌<◌, ◌==◌, ◌^�
 ghost use Rattle.pv_image_manifest.specs.Entries.{entry_of_line};
 ghost use Rattle.pv_image_manifest.specs.Reading.{held_sizes};
 ghost use Rattle.pv_model.specs.Machine.{spaced, path_of, add_entry, sizes_of, Entry as MadeEntry};
-ghost use Rattle.pv_model.specs.Source.Judged.{image_so_far, judged_first, judged_block, is_init, made_or_reported, with_entry_made, with_entry_of};
-ghost use Rattle.pv_source.specs.ReadBlocks.{block_of};
+ghost use Rattle.pv_model.specs.Source.Judged.{image_so_far, checked_first, checked_block, is_init, made_or_reported, with_entry_made, with_entry_of};
+ghost use Rattle.pv_source.specs.ReadBlocks.{parsed_block};
 ghost use Rattle.pv_source.specs.ReadEntries.{IsEntryOf};
-ghost use Rattle.pv_source.specs.LineCheck.{so_far_of, Finds};
+ghost use Rattle.pv_source.specs.LineCheck.{so_far_of, AgreesWithJudgement};
 ghost use Rattle.pv_source.specs.Reading.{words_in};
 
 use crate::blocks::{Block, Kind};
@@ -62,7 +62,7 @@ fn made(
     lacked_room: bool,
     entry: Entry,
 ) -> Result<(TreeSoFar, LineCheck), ManifestFault>
-    ensures found { IfOk result (Finds (made_or_reported (record { tree = Some tree; lacked_room = lacked_room }) (add_entry entry.line tree (entry_of_line entry).1))) }
+    ensures found { IfOk result (AgreesWithJudgement (made_or_reported (record { tree = Some tree; lacked_room = lacked_room }) (add_entry entry.line tree (entry_of_line entry).1))) }
     ensures fault { IfErr result (λ fault. fault ≡ ManifestFault.Memory) }
 {
     let (tree, fault) = tree.with(alloc, entry)?;
@@ -85,7 +85,7 @@ fn with_entry(
     so_far: TreeSoFar,
     entry: Entry,
 ) -> Result<(TreeSoFar, LineCheck), ManifestFault>
-    ensures found { IfOk result (Finds (with_entry_made (so_far_of so_far) entry.line (entry_of_line entry).1 so_far.tree)) }
+    ensures found { IfOk result (AgreesWithJudgement (with_entry_made (so_far_of so_far) entry.line (entry_of_line entry).1 so_far.tree)) }
     ensures fault { IfErr result (λ fault. fault ≡ ManifestFault.Memory) }
 {
     let TreeSoFar { tree, lacked_room } = so_far;
@@ -109,7 +109,7 @@ fn judged_entry(
     is_exec: bool,
     entry: Entry,
 ) -> Result<(TreeSoFar, LineCheck), ManifestFault>
-    ensures found { IfOk result (Finds (with_entry_of (so_far_of so_far) entry.line is_exec (Some (entry_of_line entry).1))) }
+    ensures found { IfOk result (AgreesWithJudgement (with_entry_of (so_far_of so_far) entry.line is_exec (Some (entry_of_line entry).1))) }
     ensures fault { IfErr result (λ fault. fault ≡ ManifestFault.Memory) }
 {
     let is_other_init = !is_exec && makes_init(&entry);
@@ -129,7 +129,7 @@ fn judged_form(
     entry: Option<Entry>,
 ) -> Result<(TreeSoFar, LineCheck), ManifestFault>
     ensures { (number : ℕ) (made : Option MadeEntry) → IsEntryOf number made entry
-        → MatchResult result (Finds (with_entry_of (so_far_of so_far) number is_exec made)) (λ fault. fault ≡ ManifestFault.Memory) }
+        → MatchResult result (AgreesWithJudgement (with_entry_of (so_far_of so_far) number is_exec made)) (λ fault. fault ≡ ManifestFault.Memory) }
 {
     match entry {
         Some(entry) => judged_entry(alloc, so_far, is_exec, entry),
@@ -158,7 +158,7 @@ pub fn judged_block(
     block: &Block,
 ) -> Result<(TreeSoFar, LineCheck), ManifestFault>
     requires { block.now.number + 1 + length block.now.body.now < 2 ^ 31 }
-    ensures found { IfOk result (Finds (judged_block (so_far_of so_far) (block_of block.now))) }
+    ensures found { IfOk result (AgreesWithJudgement (checked_block (so_far_of so_far) (parsed_block block.now))) }
     ensures fault { IfErr result (λ fault. fault ≡ ManifestFault.Memory) }
 {
     if block.kind == Kind::Schedule {
@@ -180,7 +180,7 @@ fn judged_sizes(
     blocks: u32,
     inodes: u32,
 ) -> Result<(TreeSoFar, LineCheck), ManifestFault>
-    ensures found { (sizes : ℕ × ℕ) → held_sizes sizes ≡ (blocks, inodes) → IfOk result (Finds (image_so_far (Some sizes))) }
+    ensures found { (sizes : ℕ × ℕ) → held_sizes sizes ≡ (blocks, inodes) → IfOk result (AgreesWithJudgement (image_so_far (Some sizes))) }
     ensures fault { IfErr result (λ fault. fault ≡ ManifestFault.Memory) }
 {
     if !are_image_sizes(blocks, inodes) {
@@ -205,7 +205,7 @@ fn sizes_of_words(alloc: Global, words: &[u8]) -> Result<Option<(u32, u32)>, All
 
 // Checks the words of the first line.
 fn judged_image(alloc: Global, words: &[u8]) -> Result<(TreeSoFar, LineCheck), ManifestFault>
-    ensures found { IfOk result (Finds (image_so_far (sizes_of (spaced (words_in words.now))))) }
+    ensures found { IfOk result (AgreesWithJudgement (image_so_far (sizes_of (spaced (words_in words.now))))) }
     ensures fault { IfErr result (λ fault. fault ≡ ManifestFault.Memory) }
 {
     match sizes_of_words(alloc, words)? {
@@ -221,7 +221,7 @@ fn judged_image(alloc: Global, words: &[u8]) -> Result<(TreeSoFar, LineCheck), M
 ///
 /// Returns `Memory` if memory cannot be allocated, and no other error.
 pub fn judged_first(alloc: Global, block: &Block) -> Result<(TreeSoFar, LineCheck), ManifestFault>
-    ensures found { IfOk result (Finds (judged_first (block_of block.now))) }
+    ensures found { IfOk result (AgreesWithJudgement (checked_first (parsed_block block.now))) }
     ensures fault { IfErr result (λ fault. fault ≡ ManifestFault.Memory) }
 {
     match block.kind {

@@ -1,10 +1,10 @@
 //! Reading a source to its end and writing its translation, or the lines of its programs.
 ghost use Rattle.std.specs.Prelude.{◌≡◌, ◌+◌, ◌<◌, ◌≤◌, ◌^◌, length, map, IfOk, OnOk};
-ghost use Rattle.pv_source.specs.Given.{WritesGiven, WritesOutput, WritesRight, output_of_source};
-ghost use Rattle.pv_source.specs.Outcome.{AreLines, fault_line, fault_lines, reported_of, stop_of};
+ghost use Rattle.pv_source.specs.Given.{WritesGiven, WritesOutput, WritesValidSource, output_of_source};
+ghost use Rattle.pv_source.specs.Outcome.{AreLines, message_line, message_lines, line_and_message, source_stop_of};
 ghost use Rattle.pv_source.specs.Saying.{IsPrintable};
 ghost use Rattle.pv_source.specs.declared.source.SourceStop.TheVariants.{Memory as MemoryStop, Write as WriteStop};
-ghost use Rattle.pv_source.specs.Appending.{Appends};
+ghost use Rattle.pv_source.specs.Appending.{AppendsText};
 
 use crate::faults::Fault;
 use crate::located::located_lines;
@@ -40,7 +40,7 @@ pub enum SourceStop {
 }
 
 impl From<RunFault> for SourceStop {
-    ghost from_gives = { λ fault stop. stop ≡ stop_of fault };
+    ghost from_gives = { λ fault stop. stop ≡ source_stop_of fault };
 
     fn from(fault: RunFault) -> SourceStop {
         match fault {
@@ -76,7 +76,7 @@ impl From<Failed> for SourceStop {
 
 // Appends the line of an error.
 fn push_fault(name: &[u8], fault: &Fault, out: &mut Vec<u8>) -> Result<(), AllocError>
-    ensures text { Appends (fault_line name.now (reported_of fault.now)) out.old out.new result }
+    ensures text { AppendsText (message_line name.now (line_and_message fault.now)) out.old out.new result }
     ensures line { OnOk result (IsPrintable fault.now.what) }
 {
     let mut buffer = Buffer::new();
@@ -95,8 +95,8 @@ pub(crate) fn faults_text(
     name: &[u8],
     reported: &[Fault],
 ) -> Result<Vec<u8>, AllocError>
-    ensures text { IfOk result (λ text. text.items ≡ fault_lines name.now (map reported_of reported.now)) }
-    ensures lines { OnOk result (AreLines (map reported_of reported.now)) }
+    ensures text { IfOk result (λ text. text.items ≡ message_lines name.now (map line_and_message reported.now)) }
+    ensures lines { OnOk result (AreLines (map line_and_message reported.now)) }
 {
     let mut text = Vec::new(alloc);
     for fault in reported {
@@ -126,7 +126,7 @@ fn write_right<W: Sink, E: Sink>(
     reported: &mut E,
 ) -> Result<(), SourceStop>
     requires { length source.now + 1 < 2 ^ 31 }
-    ensures { WritesRight W.Sink E.Sink (output_of_source output source.now) name.now source.now out.old out.new reported.old reported.new result }
+    ensures { WritesValidSource W.Sink E.Sink (output_of_source output source.now) name.now source.now out.old out.new reported.old reported.new result }
 {
     let text = output_of(alloc, output, source)?;
     let warnings = warnings_of(alloc, source)?;
@@ -162,8 +162,9 @@ fn write_bytes<W: Sink, E: Sink>(
 
 /// Reads a source to its end, and writes its output to `out`: the manifest or bundle that it translates to, or the
 /// lines of its programs. Then the first twenty lines with a pledge(2) that names a promise which does not exist, or
-/// with an unveil(2) with a letter that is not a permission, are reported in order on `reported`, each in a line `pvsim: NAME:LINE: WHAT`. If lines have errors, nothing is written
-/// to `out`, and the first twenty of them are reported instead. Each sink that was written to is flushed.
+/// with an unveil(2) with a byte that is not a permission, are reported in order on `reported`, each in a line `pvsim:
+/// NAME:LINE: WHAT`. If lines have errors, nothing is written to `out`, and the first twenty of them are reported
+/// instead. Each sink that was written to is flushed.
 ///
 /// # Errors
 ///

@@ -3,9 +3,9 @@ ghost use Rattle.std.specs.Prelude.{◌≡◌, ◌+◌, ◌<◌, ◌^◌, ◌∷
 ghost use Rattle.pv_model.specs.Machine.{spaced, lines_of, blocks_of, instructions_of, written_lines, text_of_blocks};
 ghost use Rattle.pv_model.specs.Source.Written.{counted_program};
 ghost use Rattle.pv_source.specs.Reading.{words_in, worded_in};
-ghost use Rattle.pv_source.specs.ReadBlocks.{block_of};
+ghost use Rattle.pv_source.specs.ReadBlocks.{parsed_block};
 ghost use Rattle.pv_source.specs.Appending.{AppendsLines};
-ghost use Rattle.pv_source.specs.ReadPrograms.{program_in};
+ghost use Rattle.pv_source.specs.ReadPrograms.{program_lines_in};
 
 use crate::blocks::{Block, Kind, next_block};
 use crate::lines::{Lines, next_line};
@@ -62,7 +62,7 @@ fn push_counted(
     out: &mut Vec<u8>,
 ) -> Result<(), AllocError>
     requires { body.number + length body.text.now < 2 ^ 31 }
-    ensures { AppendsLines (counted_program (words_in words.now) (instructions_of (program_in body.entry))) out.old out.new result }
+    ensures { AppendsLines (counted_program (words_in words.now) (instructions_of (program_lines_in body.entry))) out.old out.new result }
 {
     let (labels, count) = labels_of(alloc, body)?;
     let mut buffer = Buffer::new();
@@ -85,7 +85,7 @@ fn push_taken(words: &[u8], text: &[u8], out: &mut Vec<u8>) -> Result<(), AllocE
 #[tactic(auto, using(crate::proofs::WrittenTexts::bytes_counted))]
 fn push_block(alloc: Global, block: &Block, out: &mut Vec<u8>) -> Result<(), AllocError>
     requires { block.now.number + 1 + length block.now.body.now < 2 ^ 31 }
-    ensures { AppendsLines (written_lines (block_of block.now)) out.old out.new result }
+    ensures { AppendsLines (written_lines (parsed_block block.now)) out.old out.new result }
 {
     match block.kind {
         Kind::Single => push_line(block.words, out),

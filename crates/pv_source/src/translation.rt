@@ -1,6 +1,6 @@
 //! Reading a source to its end and translating it in memory.
 ghost use Rattle.std.specs.Prelude.{◌+◌, ◌<◌, ◌≤◌, ◌^◌, length};
-ghost use Rattle.pv_source.specs.Given.{TranslatesGiven, TranslatesRight, TranslatesSource};
+ghost use Rattle.pv_source.specs.Given.{TranslatesGiven, TranslatesValidSource, TranslatesSource};
 
 use crate::source::{SourceStop, faults_text};
 use crate::texts::text_of;
@@ -17,7 +17,7 @@ fn translated_right<E: Sink>(
     reported: &mut E,
 ) -> Result<Vec<u8>, SourceStop>
     requires { length source.now + 1 < 2 ^ 31 }
-    ensures { TranslatesRight E.Sink name.now source.now reported.old reported.new result }
+    ensures { TranslatesValidSource E.Sink name.now source.now reported.old reported.new result }
 {
     let text = text_of(alloc, source)?;
     let warnings = warnings_of(alloc, source)?;
@@ -49,7 +49,7 @@ fn translated<E: Sink>(
 }
 
 /// Reads a source to its end, and returns the manifest or bundle that it translates to. The first twenty lines with a
-/// pledge(2) that names a promise which does not exist, or with an unveil(2) with a letter that is not a permission, are
+/// pledge(2) that names a promise which does not exist, or with an unveil(2) with a byte that is not a permission, are
 /// reported in order on `reported`, each in a line `pvsim: NAME:LINE: WHAT`. If lines have errors, the first twenty of them are reported instead. A sink that was written
 /// to is flushed.
 ///

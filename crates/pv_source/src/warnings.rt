@@ -1,11 +1,11 @@
-//! Warnings about a source without errors: a pledge(2) that names a promise which does not exist, or an unveil(2) with a
-//! letter that is not a permission, fails in every run.
+//! Warnings about a source without errors: a pledge(2) that names a promise which does not exist, or an unveil(2) with
+//! a byte that is not a permission, fails in every run.
 ghost use Rattle.std.specs.Prelude.{◌≡◌, ◌+◌, ◌<◌, ◌^◌, flat_map, length, IfOk, OnOk};
 ghost use Rattle.pv_model.specs.declared.limits.TheConstants.{LINES as MAXIMUM};
 ghost use Rattle.pv_model.specs.Machine.{instruction_of};
-ghost use Rattle.pv_source.specs.Reading.{numbered};
-ghost use Rattle.pv_source.specs.ReadBlocks.{block_of};
-ghost use Rattle.pv_source.specs.Reporting.{Reports};
+ghost use Rattle.pv_source.specs.Reading.{numbered_lines};
+ghost use Rattle.pv_source.specs.ReadBlocks.{parsed_block};
+ghost use Rattle.pv_source.specs.Reporting.{ReportsLines};
 ghost use Rattle.pv_source.specs.Warnings.{is_warned, lacks_keyword, lacks_permission, warned_in, warned_labelled, warned_line, warned_lines as warned_by_definition, warned_taken};
 ghost use Rattle.pv_source.specs.ReadPrograms.{labelled_in};
 
@@ -23,7 +23,7 @@ use pv_script::instruction::instruction;
 use pv_text::lines::split_line;
 use std::alloc::{AllocError, Global};
 
-// Returns whether a word of a promises argument is no keyword.
+// Returns whether a word of a promises argument is not a keyword.
 fn lacks_keyword(promises: &Option<Text>) -> bool
     ensures { result ≡ lacks_keyword promises.now }
 {
@@ -33,7 +33,7 @@ fn lacks_keyword(promises: &Option<Text>) -> bool
     }
 }
 
-// Returns whether a letter of a permissions argument is no permission.
+// Returns whether a byte of a permissions argument is not a permission.
 fn lacks_permission(permissions: &Option<Text>) -> bool
     ensures { result ≡ lacks_permission permissions.now }
 {
@@ -43,7 +43,7 @@ fn lacks_permission(permissions: &Option<Text>) -> bool
     }
 }
 
-// Returns whether a line is a pledge(2) with a word that is no keyword, or an unveil(2) with a letter that is no
+// Returns whether a line is a pledge(2) with a word that is not a keyword, or an unveil(2) with a byte that is not a
 // permission.
 fn is_warned(line: &[u8]) -> bool
     ensures { result ≡ is_warned (instruction_of MAXIMUM line.now) }
@@ -57,7 +57,7 @@ fn is_warned(line: &[u8]) -> bool
     }
 }
 
-// Warns of a line if it is a pledge(2) with a word that is no keyword, or an unveil(2) with a letter that is no
+// Warns of a line if it is a pledge(2) with a word that is not a keyword, or an unveil(2) with a byte that is not a
 // permission.
 fn warn_line(
     alloc: Global,
@@ -65,7 +65,7 @@ fn warn_line(
     line: &[u8],
     warnings: &mut Faults,
 ) -> Result<(), AllocError>
-    ensures { OnOk result (Reports warnings.old warnings.new (warned_line number line.now)) }
+    ensures { OnOk result (ReportsLines warnings.old warnings.new (warned_line number line.now)) }
 {
     if !is_warned(line) {
         return Ok(());
@@ -76,7 +76,7 @@ fn warn_line(
 // Warns of the lines of a program that ends with END.
 fn warn_program(alloc: Global, body: Lines, warnings: &mut Faults) -> Result<(), AllocError>
     requires { body.number + length body.text.now < 2 ^ 31 }
-    ensures { OnOk result (Reports warnings.old warnings.new (flat_map warned_labelled (labelled_in body.entry))) }
+    ensures { OnOk result (ReportsLines warnings.old warnings.new (flat_map warned_labelled (labelled_in body.entry))) }
 {
     let mut text = Vec::new(alloc);
     let mut rest = body;
@@ -92,7 +92,7 @@ fn warn_program(alloc: Global, body: Lines, warnings: &mut Faults) -> Result<(),
 // Warns of the lines of a program whose lines are copied unchanged.
 fn warn_taken(alloc: Global, body: Lines, warnings: &mut Faults) -> Result<(), AllocError>
     requires { body.number + length body.text.now < 2 ^ 31 }
-    ensures { OnOk result (Reports warnings.old warnings.new (flat_map warned_taken (numbered body.entry))) }
+    ensures { OnOk result (ReportsLines warnings.old warnings.new (flat_map warned_taken (numbered_lines body.entry))) }
 {
     let mut rest = body;
     while let Some((line, following)) = split_line(rest.text) {
@@ -108,7 +108,7 @@ fn warn_taken(alloc: Global, body: Lines, warnings: &mut Faults) -> Result<(), A
 // Warns of the lines that belong to a block.
 fn warn_block(alloc: Global, block: &Block, warnings: &mut Faults) -> Result<(), AllocError>
     requires { block.now.number + 1 + length block.now.body.now < 2 ^ 31 }
-    ensures { OnOk result (Reports warnings.old warnings.new (warned_in (block_of block.now))) }
+    ensures { OnOk result (ReportsLines warnings.old warnings.new (warned_in (parsed_block block.now))) }
 {
     match block.kind {
         Kind::Program => warn_program(alloc, block.lines(), warnings),
@@ -124,7 +124,7 @@ fn warn_block(alloc: Global, block: &Block, warnings: &mut Faults) -> Result<(),
 }
 
 /// Returns the warnings about a source: the first twenty lines with a pledge(2) that names a promise which does not
-/// exist, or with an unveil(2) with a letter that is not a permission.
+/// exist, or with an unveil(2) with a byte that is not a permission.
 ///
 /// # Errors
 ///

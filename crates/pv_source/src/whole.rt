@@ -1,10 +1,10 @@
 //! Checking a whole source.
 ghost use Rattle.std.specs.Prelude.{◌≡◌, ◌+◌, ◌<◌, ◌^◌, suc, length, take, IfOk, IfErr, OnOk};
-ghost use Rattle.pv_model.specs.Machine.{lines_of, blocks_of, faults_of_blocks, reported_if};
-ghost use Rattle.pv_model.specs.Source.Judged.{REPORTED, faults_in};
-ghost use Rattle.pv_source.specs.LineCheck.{is_reported};
-ghost use Rattle.pv_source.specs.ReadBlocks.{block_of};
-ghost use Rattle.pv_source.specs.Reporting.{Reports};
+ghost use Rattle.pv_model.specs.Machine.{lines_of, blocks_of, errors_of_blocks, reported_if};
+ghost use Rattle.pv_model.specs.Source.Judged.{REPORTED, errors_in};
+ghost use Rattle.pv_source.specs.LineCheck.{is_line_reported};
+ghost use Rattle.pv_source.specs.ReadBlocks.{parsed_block};
+ghost use Rattle.pv_source.specs.Reporting.{ReportsLines};
 
 use crate::blocks::{Block, next_block};
 use crate::explaining;
@@ -17,7 +17,7 @@ use std::alloc::{AllocError, Global};
 
 // Returns whether the result of a check is reported.
 fn is_reported(found: LineCheck) -> bool
-    ensures { result ≡ is_reported found }
+    ensures { result ≡ is_line_reported found }
 {
     !matches!(found, LineCheck::Right | LineCheck::RoomAgain)
 }
@@ -33,7 +33,7 @@ fn report_found(
     faults: &mut Faults,
 ) -> Result<(), AllocError>
     requires { block.now.number + 1 + length block.now.body.now < 2 ^ 31 }
-    ensures { OnOk result (Reports faults.old faults.new (reported_if (is_reported found) block.now.number (faults_in (block_of block.now)))) }
+    ensures { OnOk result (ReportsLines faults.old faults.new (reported_if (is_line_reported found) block.now.number (errors_in (parsed_block block.now)))) }
 {
     if faults.is_full() {
         return Ok(());
@@ -56,7 +56,7 @@ fn report_found(
 /// Returns `Memory` if memory cannot be allocated, and no other error.
 pub fn faults_of(alloc: Global, source: &[u8]) -> Result<Faults, ManifestFault>
     requires { length source.now + 1 < 2 ^ 31 }
-    ensures reported { IfOk result (λ faults. faults ≡ take REPORTED (faults_of_blocks (suc (length (lines_of source.now))) (blocks_of source.now))) }
+    ensures reported { IfOk result (λ faults. faults ≡ take REPORTED (errors_of_blocks (suc (length (lines_of source.now))) (blocks_of source.now))) }
     ensures fault { IfErr result (λ fault. fault ≡ ManifestFault.Memory) }
 {
     let mut faults = Faults::new(alloc);

@@ -4,8 +4,8 @@ ghost use Rattle.std.specs.List.{list_all, list_any, position, position_or_len};
 ghost use Rattle.pv_model.specs.Machine.{spaced, between, words_from, words_of, last_word};
 ghost use Rattle.pv_model.specs.Source.Blocks.{mark_of};
 ghost use Rattle.pv_model.specs.Source.Words.{is_blank, is_letter, in_text, begun, before_last, with_last_word, is_alone};
-ghost use Rattle.pv_source.specs.Reading.{BeginsNoBlank, spaced_more, words_in};
-ghost use Rattle.pv_source.specs.Appending.{Appends};
+ghost use Rattle.pv_source.specs.Reading.{DoesNotBeginWithBlank, spaced_more, words_in};
+ghost use Rattle.pv_source.specs.Appending.{AppendsText};
 
 use pv_text::lines::first_of;
 use std::alloc::AllocError;
@@ -61,7 +61,7 @@ fn first_blank(bytes: &[u8]) -> usize
 // Returns the bytes from the first that is not a blank.
 fn after_blanks(bytes: &[u8]) -> &[u8]
     ensures same { words_in result.now ≡ words_in bytes.now }
-    ensures begins { BeginsNoBlank result.now }
+    ensures begins { DoesNotBeginWithBlank result.now }
     ensures shorter { length result.now ≤ length bytes.now }
 {
     let mut rest = bytes;
@@ -154,7 +154,7 @@ pub fn is_alone(word: &[u8], words: &[u8]) -> bool
 
 // Appends further words, with a space before each.
 fn push_more(words: &[u8], out: &mut Vec<u8>) -> Result<(), AllocError>
-    ensures { Appends (spaced_more (words_in words.now)) out.old out.new result }
+    ensures { AppendsText (spaced_more (words_in words.now)) out.old out.new result }
 {
     let mut rest = words;
     while let Some((word, following)) = next_word(rest) {
@@ -171,7 +171,7 @@ fn push_more(words: &[u8], out: &mut Vec<u8>) -> Result<(), AllocError>
 ///
 /// Returns `AllocError` if memory cannot be allocated.
 pub fn push_words(words: &[u8], out: &mut Vec<u8>) -> Result<(), AllocError>
-    ensures { Appends (spaced (words_in words.now)) out.old out.new result }
+    ensures { AppendsText (spaced (words_in words.now)) out.old out.new result }
 {
     let Some((first, rest)) = next_word(words) else {
         return Ok(());
@@ -186,7 +186,7 @@ pub fn push_words(words: &[u8], out: &mut Vec<u8>) -> Result<(), AllocError>
 ///
 /// Returns `AllocError` if memory cannot be allocated.
 pub fn push_more_with_last(words: &[u8], last: &[u8], out: &mut Vec<u8>) -> Result<(), AllocError>
-    ensures { Appends (spaced_more (with_last_word last.now (words_in words.now))) out.old out.new result }
+    ensures { AppendsText (spaced_more (with_last_word last.now (words_in words.now))) out.old out.new result }
 {
     let mut rest = words;
     while let Some((word, following)) = next_word(rest) {
@@ -206,7 +206,7 @@ pub fn push_more_with_last(words: &[u8], last: &[u8], out: &mut Vec<u8>) -> Resu
 ///
 /// Returns `AllocError` if memory cannot be allocated.
 pub fn push_with_last(words: &[u8], last: &[u8], out: &mut Vec<u8>) -> Result<(), AllocError>
-    ensures { Appends (spaced (with_last_word last.now (words_in words.now))) out.old out.new result }
+    ensures { AppendsText (spaced (with_last_word last.now (words_in words.now))) out.old out.new result }
 {
     let Some((first, rest)) = next_word(words) else {
         return Ok(());

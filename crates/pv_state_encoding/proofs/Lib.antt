@@ -1,12 +1,13 @@
--- Lemmas about the encoding: Adding (numbers in sequence), Numbering (finite maps and optional values), Nodes (entries
--- and nodes), Owned (a process's record, part by part), Records (processes in sequence), Grouping (nodes, part by part;
--- the groups are the encoding of the state), Apart (the encoding is injective).
-pub mod Adding
-pub mod Numbering
-pub mod Nodes
-pub mod Owned
-pub mod Records
-pub mod Grouping
-pub mod Apart
+-- Lemmas about the encoding: AppendedNumbers (numbers in sequence), MapNumbers (finite maps and optional values),
+-- TreeNumbers (entries and nodes), ProcessNumbers (a process's record, part by part), ProcessGroups (processes in
+-- sequence), StateGroups (nodes, part by part; the groups are the encoding of the state), InjectiveEncoding (the
+-- encoding is injective).
+pub mod AppendedNumbers
+pub mod MapNumbers
+pub mod TreeNumbers
+pub mod ProcessNumbers
+pub mod ProcessGroups
+pub mod StateGroups
+pub mod InjectiveEncoding
 pub use Rattle.pv_answers.proofs as OfAnswers
 pub use Rattle.pv_answers.proofs.OfListing

@@ -39,15 +39,15 @@ seen_state pid s = record s { processes = map (outside_but pid) s.processes }
 -- ---- groups with their owners
 
 -- a group, the live process that owns it or 0, and its outside view
-pub record Encoded : Type 0 where
+pub record OwnedGroup : Type 0 where
   pub group : List Bytes
   pub owner : ℕ
   pub outside : List Bytes
 
-abbrev pub plain : List Bytes → Encoded
+abbrev pub plain : List Bytes → OwnedGroup
 plain g = record { group = g; owner = 0; outside = g }
 
-abbrev pub encoded_record : ℕ × ProcessRecord → Encoded
+abbrev pub encoded_record : ℕ × ProcessRecord → OwnedGroup
 encoded_record (pid, live p) = record { group = process_parts pid p; owner = pid; outside = process_parts pid (outside p) }
 encoded_record (pid, ended_record parent status) = plain (ended_parts pid parent status)
 
@@ -59,11 +59,11 @@ abbrev pub tree_groups : State → List (List Bytes)
 tree_groups s = (files_part s.files ∷ tree_part s.tree ∷ []) ∷ node_parts [] s.tree.nodes ∷ []
 
 -- the groups of a state
-unfoldable pub encoded : State → List Encoded
+unfoldable pub encoded : State → List OwnedGroup
 encoded s = plain (counts_group s) ∷ (map encoded_record s.processes ++ map plain (tree_groups s))
 
 -- the part of a group on which a step of a process depends
-abbrev pub seen_of : ℕ → Encoded → List Bytes
+abbrev pub seen_of : ℕ → OwnedGroup → List Bytes
 seen_of pid c = if c.owner == pid then c.group else c.outside
 
 -- ---- in code
@@ -83,19 +83,19 @@ abbrev pub live_outside : ℕ → Option Process → List Bytes
 live_outside pid None = []
 live_outside pid (Some p) = process_parts pid (outside p)
 
-abbrev pub live_encoded : ℕ → Option Process → Encoded
+abbrev pub live_encoded : ℕ → Option Process → OwnedGroup
 live_encoded pid None = plain []
 live_encoded pid (Some p) = encoded_record (pid, live p)
 
 -- the group of the process with a number, if it has a record
-abbrev pub numbered_encoded : ℕ → Option ProcessRecord → Encoded
+abbrev pub numbered_encoded : ℕ → Option ProcessRecord → OwnedGroup
 numbered_encoded pid None = plain []
 numbered_encoded pid (Some r) = encoded_record (pid, r)
 
 -- the group of the code as a group of the definitions
-abbrev pub encoded_of : EncodedGroup → Encoded
+abbrev pub encoded_of : EncodedGroup → OwnedGroup
 encoded_of (Plain g) = plain (parts_of g)
 encoded_of (Live pid g o) = record { group = parts_of g; owner = pid; outside = parts_of o }
 
-abbrev pub encoded_all : List EncodedGroup → List Encoded
+abbrev pub encoded_all : List EncodedGroup → List OwnedGroup
 encoded_all gs = map encoded_of gs

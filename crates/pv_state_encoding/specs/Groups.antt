@@ -17,8 +17,8 @@ abbrev pub groups_of : List (Vec (Vec ℕ)) → List (List Bytes)
 groups_of groups = map parts_of groups
 
 -- the concatenation of groups
-abbrev pub joined : List (List Bytes) → Bytes
-joined groups = flat_map (λ g. flat_map (λ p. p) g) groups
+abbrev pub concatenated_groups : List (List Bytes) → Bytes
+concatenated_groups groups = flat_map (λ g. flat_map (λ p. p) g) groups
 
 -- ---- processes
 

@@ -14,7 +14,7 @@ use pv_model::limits::OPEN_FILES;
 use std::alloc::{AllocError, Global};
 
 // Appends an optional name.
-#[tactic(auto, using(crate::proofs::Adding::added_then))]
+#[tactic(auto, using(crate::proofs::AppendedNumbers::added_then))]
 fn push_name(key: &mut Vec<u8>, name: Option<&Name>) -> Result<(), AllocError>
     ensures { OnOk result (IsAdded (option_numbers bytes_numbers (option_copied name.entry)) key.old.items key.new.items) }
 {
@@ -44,7 +44,7 @@ fn push_opened(key: &mut Vec<u8>, files: &OpenFiles, file: usize) -> Result<(), 
 /// # Errors
 ///
 /// `AllocError`, if there is no memory.
-#[tactic(auto, using(crate::proofs::Numbering::added_there))]
+#[tactic(auto, using(crate::proofs::MapNumbers::added_there))]
 pub fn push_file(key: &mut Vec<u8>, files: &OpenFiles, file: usize) -> Result<(), AllocError>
     ensures { OnOk result (IsAdded (option_numbers file_numbers (at_number files.now.files file)) key.old.items key.new.items) }
 {
@@ -56,7 +56,7 @@ pub fn push_file(key: &mut Vec<u8>, files: &OpenFiles, file: usize) -> Result<()
 }
 
 // Appends open files, by their numbers.
-#[tactic(auto, using(crate::proofs::Numbering::added_at, crate::proofs::Adding::added_none, crate::proofs::Adding::added_list))]
+#[tactic(auto, using(crate::proofs::MapNumbers::added_at, crate::proofs::AppendedNumbers::added_none, crate::proofs::AppendedNumbers::added_list))]
 fn push_each_file(key: &mut Vec<u8>, files: &OpenFiles) -> Result<(), AllocError>
     ensures { OnOk result (IsAdded (flat_map (option_numbers file_numbers) files.now.files) key.old.items key.new.items) }
 {
@@ -68,7 +68,7 @@ fn push_each_file(key: &mut Vec<u8>, files: &OpenFiles) -> Result<(), AllocError
 }
 
 // Appends all open files.
-#[tactic(auto, using(crate::proofs::Adding::added_then))]
+#[tactic(auto, using(crate::proofs::AppendedNumbers::added_then))]
 fn push_files(key: &mut Vec<u8>, files: &OpenFiles) -> Result<(), AllocError>
     ensures { OnOk result (IsAdded (list_numbers (option_numbers file_numbers) files.now.files) key.old.items key.new.items) }
 {
@@ -82,7 +82,7 @@ fn push_files(key: &mut Vec<u8>, files: &OpenFiles) -> Result<(), AllocError>
 /// # Errors
 ///
 /// `AllocError`, if there is no memory.
-#[tactic(auto, using(crate::proofs::Grouping::added_whole))]
+#[tactic(auto, using(crate::proofs::StateGroups::added_whole))]
 pub(crate) fn part_of_files(alloc: Global, files: &OpenFiles) -> Result<Vec<u8>, AllocError>
     ensures { IfOk result (λ part. part.items ≡ files_part files.now.files) }
 {

@@ -23,7 +23,7 @@ fn push_text(key: &mut Vec<u8>, text: &Text) -> Result<(), AllocError>
 }
 
 // Appends an optional text.
-#[tactic(auto, using(crate::proofs::Adding::added_then))]
+#[tactic(auto, using(crate::proofs::AppendedNumbers::added_then))]
 fn push_text_or_none(key: &mut Vec<u8>, text: &Option<Text>) -> Result<(), AllocError>
     ensures { OnOk result (IsAdded (text_numbers text.now) key.old.items key.new.items) }
 {
@@ -37,7 +37,7 @@ fn push_text_or_none(key: &mut Vec<u8>, text: &Option<Text>) -> Result<(), Alloc
 }
 
 // Appends an operand.
-#[tactic(auto, using(crate::proofs::Adding::added_then))]
+#[tactic(auto, using(crate::proofs::AppendedNumbers::added_then))]
 fn push_operand(key: &mut Vec<u8>, operand: Operand) -> Result<(), AllocError>
     ensures { OnOk result (IsAdded (operand_numbers operand) key.old.items key.new.items) }
 {
@@ -54,7 +54,7 @@ fn push_operand(key: &mut Vec<u8>, operand: Operand) -> Result<(), AllocError>
 }
 
 // Appends the origin from which a path starts.
-#[tactic(auto, using(crate::proofs::Adding::added_then))]
+#[tactic(auto, using(crate::proofs::AppendedNumbers::added_then))]
 fn push_origin(key: &mut Vec<u8>, origin: Origin) -> Result<(), AllocError>
     ensures { OnOk result (IsAdded (origin_numbers origin) key.old.items key.new.items) }
 {
@@ -79,7 +79,7 @@ fn push_whence(key: &mut Vec<u8>, whence: Whence) -> Result<(), AllocError>
 }
 
 // Appends the mode of an open, and the flags that change the file or its writes.
-#[tactic(auto, using(crate::proofs::Adding::added_both))]
+#[tactic(auto, using(crate::proofs::AppendedNumbers::added_both))]
 fn push_access(key: &mut Vec<u8>, flags: OpenFlags) -> Result<(), AllocError>
     ensures { OnOk result (IsAdded (mode_numbers flags.mode ++ bool_numbers flags.append ++ bool_numbers flags.create ++ bool_numbers flags.truncate) key.old.items key.new.items) }
 {
@@ -90,7 +90,7 @@ fn push_access(key: &mut Vec<u8>, flags: OpenFlags) -> Result<(), AllocError>
 }
 
 // Appends the same, then the flags that restrict the node at the path.
-#[tactic(auto, using(crate::proofs::Adding::added_both))]
+#[tactic(auto, using(crate::proofs::AppendedNumbers::added_both))]
 fn push_finding(key: &mut Vec<u8>, flags: OpenFlags) -> Result<(), AllocError>
     ensures { OnOk result (IsAdded (mode_numbers flags.mode ++ bool_numbers flags.append ++ bool_numbers flags.create ++ bool_numbers flags.truncate ++ bool_numbers flags.exclusive ++ bool_numbers flags.no_follow) key.old.items key.new.items) }
 {
@@ -100,7 +100,7 @@ fn push_finding(key: &mut Vec<u8>, flags: OpenFlags) -> Result<(), AllocError>
 }
 
 // Appends all flags of an open.
-#[tactic(auto, using(crate::proofs::Adding::added_both))]
+#[tactic(auto, using(crate::proofs::AppendedNumbers::added_both))]
 fn push_flags(key: &mut Vec<u8>, flags: OpenFlags) -> Result<(), AllocError>
     ensures { OnOk result (IsAdded (flags_numbers flags) key.old.items key.new.items) }
 {
@@ -112,7 +112,7 @@ fn push_flags(key: &mut Vec<u8>, flags: OpenFlags) -> Result<(), AllocError>
 // ---- opcodes with their arguments
 
 // Appends an instruction with a register and a number.
-#[tactic(auto, using(crate::proofs::Adding::added_then, crate::proofs::Adding::added_both))]
+#[tactic(auto, using(crate::proofs::AppendedNumbers::added_then, crate::proofs::AppendedNumbers::added_both))]
 fn push_counting(
     key: &mut Vec<u8>,
     which: u64,
@@ -127,7 +127,7 @@ fn push_counting(
 }
 
 // Appends an instruction with a register, and a line or an index in the buffer.
-#[tactic(auto, using(crate::proofs::Adding::added_then, crate::proofs::Adding::added_both))]
+#[tactic(auto, using(crate::proofs::AppendedNumbers::added_then, crate::proofs::AppendedNumbers::added_both))]
 fn push_placed(
     key: &mut Vec<u8>,
     which: u64,
@@ -142,7 +142,7 @@ fn push_placed(
 }
 
 // Appends an instruction with an operand.
-#[tactic(auto, using(crate::proofs::Adding::added_then))]
+#[tactic(auto, using(crate::proofs::AppendedNumbers::added_then))]
 fn push_one(key: &mut Vec<u8>, which: u64, operand: Operand) -> Result<(), AllocError>
     ensures { OnOk result (IsAdded (which ∷ operand_numbers operand) key.old.items key.new.items) }
 {
@@ -151,7 +151,7 @@ fn push_one(key: &mut Vec<u8>, which: u64, operand: Operand) -> Result<(), Alloc
 }
 
 // Appends an instruction with two operands.
-#[tactic(auto, using(crate::proofs::Adding::added_then, crate::proofs::Adding::added_both))]
+#[tactic(auto, using(crate::proofs::AppendedNumbers::added_then, crate::proofs::AppendedNumbers::added_both))]
 fn push_two(
     key: &mut Vec<u8>,
     which: u64,
@@ -166,7 +166,7 @@ fn push_two(
 }
 
 // Appends an instruction with a text.
-#[tactic(auto, using(crate::proofs::Adding::added_then))]
+#[tactic(auto, using(crate::proofs::AppendedNumbers::added_then))]
 fn push_path(key: &mut Vec<u8>, which: u64, path: &Text) -> Result<(), AllocError>
     ensures { OnOk result (IsAdded (which ∷ bytes_numbers path.now) key.old.items key.new.items) }
 {
@@ -175,7 +175,7 @@ fn push_path(key: &mut Vec<u8>, which: u64, path: &Text) -> Result<(), AllocErro
 }
 
 // Appends an instruction with two texts.
-#[tactic(auto, using(crate::proofs::Adding::added_then, crate::proofs::Adding::added_both))]
+#[tactic(auto, using(crate::proofs::AppendedNumbers::added_then, crate::proofs::AppendedNumbers::added_both))]
 fn push_paths(key: &mut Vec<u8>, which: u64, path: &Text, new: &Text) -> Result<(), AllocError>
     ensures { OnOk result (IsAdded (which ∷ bytes_numbers path.now ++ bytes_numbers new.now) key.old.items key.new.items) }
 {
@@ -185,7 +185,7 @@ fn push_paths(key: &mut Vec<u8>, which: u64, path: &Text, new: &Text) -> Result<
 }
 
 // Appends an instruction with two optional texts.
-#[tactic(auto, using(crate::proofs::Adding::added_then, crate::proofs::Adding::added_both))]
+#[tactic(auto, using(crate::proofs::AppendedNumbers::added_then, crate::proofs::AppendedNumbers::added_both))]
 fn push_asked(
     key: &mut Vec<u8>,
     which: u64,
@@ -200,7 +200,7 @@ fn push_asked(
 }
 
 // Appends an lseek.
-#[tactic(auto, using(crate::proofs::Adding::added_then, crate::proofs::Adding::added_both))]
+#[tactic(auto, using(crate::proofs::AppendedNumbers::added_then, crate::proofs::AppendedNumbers::added_both))]
 fn push_seek(
     key: &mut Vec<u8>,
     descriptor: Operand,
@@ -214,7 +214,7 @@ fn push_seek(
 }
 
 // Appends an open.
-#[tactic(auto, using(crate::proofs::Adding::added_then, crate::proofs::Adding::added_both))]
+#[tactic(auto, using(crate::proofs::AppendedNumbers::added_then, crate::proofs::AppendedNumbers::added_both))]
 fn push_open(key: &mut Vec<u8>, path: &Text, flags: OpenFlags) -> Result<(), AllocError>
     ensures { OnOk result (IsAdded (33 ∷ bytes_numbers path.now ++ flags_numbers flags) key.old.items key.new.items) }
 {
@@ -223,7 +223,7 @@ fn push_open(key: &mut Vec<u8>, path: &Text, flags: OpenFlags) -> Result<(), All
 }
 
 // Appends the opcode, the start and the path of an openat.
-#[tactic(auto, using(crate::proofs::Adding::added_then, crate::proofs::Adding::added_both))]
+#[tactic(auto, using(crate::proofs::AppendedNumbers::added_then, crate::proofs::AppendedNumbers::added_both))]
 fn push_start(key: &mut Vec<u8>, origin: Origin, path: &Text) -> Result<(), AllocError>
     ensures { OnOk result (IsAdded (34 ∷ origin_numbers origin ++ bytes_numbers path.now) key.old.items key.new.items) }
 {
@@ -233,7 +233,7 @@ fn push_start(key: &mut Vec<u8>, origin: Origin, path: &Text) -> Result<(), Allo
 }
 
 // Appends an openat.
-#[tactic(auto, using(crate::proofs::Adding::added_then, crate::proofs::Adding::added_both))]
+#[tactic(auto, using(crate::proofs::AppendedNumbers::added_then, crate::proofs::AppendedNumbers::added_both))]
 fn push_open_at(
     key: &mut Vec<u8>,
     origin: Origin,
@@ -298,7 +298,7 @@ pub fn push_instruction(key: &mut Vec<u8>, instruction: &Instruction) -> Result<
 }
 
 // Appends a jump.
-#[tactic(auto, using(crate::proofs::Adding::added_then))]
+#[tactic(auto, using(crate::proofs::AppendedNumbers::added_then))]
 fn push_jump(key: &mut Vec<u8>, line: u16) -> Result<(), AllocError>
     ensures { OnOk result (IsAdded (4 ∷ number_numbers line) key.old.items key.new.items) }
 {

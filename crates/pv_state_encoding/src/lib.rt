@@ -1,4 +1,4 @@
-//! The canonical encoding of a state as bytes: two states are equal exactly if their encodings are equal.
+//! The canonical encoding of a state as bytes: two states are equal if and only if their encodings are equal.
 //!
 //! `states` encodes a state as groups of parts (`parts`). A part that many states share, such as a program, is then
 //! stored once. `encoded` pairs the group of each process with its owner and its outside view (`outsides`), the part of

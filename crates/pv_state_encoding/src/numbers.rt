@@ -39,7 +39,7 @@ fn are_small(bytes: &[u8]) -> bool
 }
 
 // Appends each of the bytes as a number, one by one.
-#[tactic(auto, using(crate::proofs::Adding::added_more, crate::proofs::Adding::added_none, crate::proofs::Adding::added_all))]
+#[tactic(auto, using(crate::proofs::AppendedNumbers::added_more, crate::proofs::AppendedNumbers::added_none, crate::proofs::AppendedNumbers::added_all))]
 fn push_each_item(key: &mut Vec<u8>, bytes: &[u8]) -> Result<(), AllocError>
     ensures { OnOk result (IsAdded bytes.now key.old.items key.new.items) }
 {
@@ -54,7 +54,7 @@ fn push_each_item(key: &mut Vec<u8>, bytes: &[u8]) -> Result<(), AllocError>
 /// # Errors
 ///
 /// As for `push_number`.
-#[tactic(auto, using(crate::proofs::Adding::added_small))]
+#[tactic(auto, using(crate::proofs::AppendedNumbers::added_small))]
 pub fn push_items(key: &mut Vec<u8>, bytes: &[u8]) -> Result<(), AllocError>
     ensures { OnOk result (IsAdded bytes.now key.old.items key.new.items) }
 {
@@ -70,7 +70,7 @@ pub fn push_items(key: &mut Vec<u8>, bytes: &[u8]) -> Result<(), AllocError>
 /// # Errors
 ///
 /// As for `push_number`.
-#[tactic(auto, using(crate::proofs::Adding::added_then, crate::proofs::Adding::added_both))]
+#[tactic(auto, using(crate::proofs::AppendedNumbers::added_then, crate::proofs::AppendedNumbers::added_both))]
 pub fn push_bytes(key: &mut Vec<u8>, bytes: &[u8]) -> Result<(), AllocError>
     ensures { OnOk result (IsAdded (bytes_numbers bytes.now) key.old.items key.new.items) }
 {
@@ -98,7 +98,7 @@ pub fn push_bool(key: &mut Vec<u8>, value: bool) -> Result<(), AllocError>
 /// # Errors
 ///
 /// As for `push_number`.
-#[tactic(auto, using(crate::proofs::Adding::added_then))]
+#[tactic(auto, using(crate::proofs::AppendedNumbers::added_then))]
 pub fn push_integer(key: &mut Vec<u8>, number: i32) -> Result<(), AllocError>
     ensures { OnOk result (IsAdded (integer_numbers number) key.old.items key.new.items) }
 {
@@ -131,7 +131,7 @@ pub fn push_mode(key: &mut Vec<u8>, mode: Mode) -> Result<(), AllocError>
 /// # Errors
 ///
 /// As for `push_number`.
-#[tactic(auto, using(crate::proofs::Adding::added_both))]
+#[tactic(auto, using(crate::proofs::AppendedNumbers::added_both))]
 pub fn push_permissions(key: &mut Vec<u8>, permissions: Perms) -> Result<(), AllocError>
     ensures { OnOk result (IsAdded (permissions_numbers permissions) key.old.items key.new.items) }
 {

@@ -12,7 +12,7 @@ use pv_answers::procs::{ProcessRecord, Processes};
 use std::alloc::{AllocError, Global};
 
 // Appends three zeros in place of the omitted fields.
-#[tactic(auto, using(crate::proofs::Adding::added_then))]
+#[tactic(auto, using(crate::proofs::AppendedNumbers::added_then))]
 fn push_nothing(key: &mut Vec<u8>) -> Result<(), AllocError>
     ensures { OnOk result (IsAdded (0 ∷ 0 ∷ 0 ∷ []) key.old.items key.new.items) }
 {
@@ -22,7 +22,7 @@ fn push_nothing(key: &mut Vec<u8>) -> Result<(), AllocError>
 }
 
 // Appends the number of a process, its parent and its directory.
-#[tactic(auto, using(crate::proofs::Adding::added_then, crate::proofs::Adding::added_both))]
+#[tactic(auto, using(crate::proofs::AppendedNumbers::added_then, crate::proofs::AppendedNumbers::added_both))]
 fn push_bare(key: &mut Vec<u8>, pid: u32, parent: u32, directory: u16) -> Result<(), AllocError>
     ensures { OnOk result (IsAdded (bare_numbers pid parent directory) key.old.items key.new.items) }
 {
@@ -34,7 +34,7 @@ fn push_bare(key: &mut Vec<u8>, pid: u32, parent: u32, directory: u16) -> Result
 }
 
 // Appends the same, then the descriptors and the table.
-#[tactic(auto, using(crate::proofs::Adding::added_both))]
+#[tactic(auto, using(crate::proofs::AppendedNumbers::added_both))]
 fn push_outside(
     key: &mut Vec<u8>,
     pid: u32,
@@ -49,7 +49,7 @@ fn push_outside(
 }
 
 // Returns the part of the outside view.
-#[tactic(auto, using(crate::proofs::Grouping::added_whole))]
+#[tactic(auto, using(crate::proofs::StateGroups::added_whole))]
 fn part_outside(
     alloc: Global,
     pid: u32,
@@ -64,7 +64,7 @@ fn part_outside(
 }
 
 // Returns an empty part, in place of the program or the buffer.
-#[tactic(auto, using(crate::proofs::Grouping::added_whole))]
+#[tactic(auto, using(crate::proofs::StateGroups::added_whole))]
 fn part_of_nothing(alloc: Global) -> Result<Vec<u8>, AllocError>
     ensures { IfOk result (λ part. part.items ≡ packed_all (0 ∷ [])) }
 {

@@ -38,7 +38,7 @@ fn push_each_register(key: &mut Vec<u8>, registers: &[i32]) -> Result<(), AllocE
 /// # Errors
 ///
 /// `AllocError`, if there is no memory.
-#[tactic(auto, using(crate::proofs::Adding::added_then))]
+#[tactic(auto, using(crate::proofs::AppendedNumbers::added_then))]
 pub fn push_registers(key: &mut Vec<u8>, registers: &[i32]) -> Result<(), AllocError>
     ensures { OnOk result (IsAdded (list_numbers integer_numbers registers.now) key.old.items key.new.items) }
 {
@@ -51,7 +51,7 @@ pub fn push_registers(key: &mut Vec<u8>, registers: &[i32]) -> Result<(), AllocE
 /// # Errors
 ///
 /// `AllocError`, if there is no memory.
-#[tactic(auto, using(crate::proofs::Adding::added_then))]
+#[tactic(auto, using(crate::proofs::AppendedNumbers::added_then))]
 pub fn push_promises(key: &mut Vec<u8>, promises: Option<Promises>) -> Result<(), AllocError>
     ensures { OnOk result (IsAdded (option_numbers number_numbers (bits_of promises)) key.old.items key.new.items) }
 {
@@ -67,7 +67,7 @@ pub fn push_promises(key: &mut Vec<u8>, promises: Option<Promises>) -> Result<()
 // ---- descriptors
 
 // Appends the descriptor of a number, if it is open.
-#[tactic(auto, using(crate::proofs::Adding::added_then, crate::proofs::Adding::added_both))]
+#[tactic(auto, using(crate::proofs::AppendedNumbers::added_then, crate::proofs::AppendedNumbers::added_both))]
 fn push_descriptor(
     key: &mut Vec<u8>,
     descriptors: &Descriptors,
@@ -95,7 +95,7 @@ fn push_each_descriptor(key: &mut Vec<u8>, descriptors: &Descriptors) -> Result<
 }
 
 // Appends all descriptors.
-#[tactic(auto, using(crate::proofs::Adding::added_then))]
+#[tactic(auto, using(crate::proofs::AppendedNumbers::added_then))]
 pub(crate) fn push_descriptors(
     key: &mut Vec<u8>,
     descriptors: &Descriptors,
@@ -110,7 +110,7 @@ pub(crate) fn push_descriptors(
 // ---- tables
 
 // Appends the target of an entry.
-#[tactic(auto, using(crate::proofs::Adding::added_then, crate::proofs::Adding::added_both))]
+#[tactic(auto, using(crate::proofs::AppendedNumbers::added_then, crate::proofs::AppendedNumbers::added_both))]
 fn push_target(key: &mut Vec<u8>, target: &Target) -> Result<(), AllocError>
     ensures { OnOk result (IsAdded (target_numbers target.now) key.old.items key.new.items) }
 {
@@ -151,7 +151,7 @@ fn push_each_entry(key: &mut Vec<u8>, table: &Table) -> Result<(), AllocError>
 /// # Errors
 ///
 /// `AllocError`, if there is no memory.
-#[tactic(auto, using(crate::proofs::Adding::added_then))]
+#[tactic(auto, using(crate::proofs::AppendedNumbers::added_then))]
 pub fn push_table(key: &mut Vec<u8>, table: &Table) -> Result<(), AllocError>
     ensures { OnOk result (IsAdded (option_numbers (list_numbers entry_numbers) table.now.table) key.old.items key.new.items) }
 {
@@ -179,7 +179,7 @@ fn push_each_line(key: &mut Vec<u8>, program: &Program) -> Result<(), AllocError
 }
 
 // Appends a program.
-#[tactic(auto, using(crate::proofs::Adding::added_then))]
+#[tactic(auto, using(crate::proofs::AppendedNumbers::added_then))]
 fn push_program(key: &mut Vec<u8>, program: &Program) -> Result<(), AllocError>
     ensures { OnOk result (IsAdded (list_numbers instruction_numbers program.now) key.old.items key.new.items) }
 {
@@ -190,7 +190,7 @@ fn push_program(key: &mut Vec<u8>, program: &Program) -> Result<(), AllocError>
 // ---- a process
 
 // Appends the line, the registers, the parent and the directory.
-#[tactic(auto, using(crate::proofs::Adding::added_both))]
+#[tactic(auto, using(crate::proofs::AppendedNumbers::added_both))]
 fn push_location(key: &mut Vec<u8>, owned: &ProcessRecord, parent: u32) -> Result<(), AllocError>
     ensures { OnOk result (IsAdded (location_numbers owned.now parent) key.old.items key.new.items) }
 {
@@ -201,7 +201,7 @@ fn push_location(key: &mut Vec<u8>, owned: &ProcessRecord, parent: u32) -> Resul
 }
 
 // Appends the line, the registers, the parent, the directory, the lock and the promises.
-#[tactic(auto, using(crate::proofs::Adding::added_both))]
+#[tactic(auto, using(crate::proofs::AppendedNumbers::added_both))]
 fn push_promised(key: &mut Vec<u8>, owned: &ProcessRecord, parent: u32) -> Result<(), AllocError>
     ensures { OnOk result (IsAdded (promised_numbers owned.now parent) key.old.items key.new.items) }
 {
@@ -212,7 +212,7 @@ fn push_promised(key: &mut Vec<u8>, owned: &ProcessRecord, parent: u32) -> Resul
 }
 
 // Appends the same, then the descriptors and the table.
-#[tactic(auto, using(crate::proofs::Adding::added_both))]
+#[tactic(auto, using(crate::proofs::AppendedNumbers::added_both))]
 fn push_held(key: &mut Vec<u8>, owned: &ProcessRecord, parent: u32) -> Result<(), AllocError>
     ensures { OnOk result (IsAdded (held_numbers owned.now parent) key.old.items key.new.items) }
 {
@@ -222,7 +222,7 @@ fn push_held(key: &mut Vec<u8>, owned: &ProcessRecord, parent: u32) -> Result<()
 }
 
 // Appends a process that has ended.
-#[tactic(auto, using(crate::proofs::Adding::added_then, crate::proofs::Adding::added_both))]
+#[tactic(auto, using(crate::proofs::AppendedNumbers::added_then, crate::proofs::AppendedNumbers::added_both))]
 fn push_ended(key: &mut Vec<u8>, pid: u32, parent: u32, status: u32) -> Result<(), AllocError>
     ensures { OnOk result (IsAdded (number_numbers pid ++ 1 ∷ number_numbers parent ++ number_numbers status) key.old.items key.new.items) }
 {
@@ -235,7 +235,7 @@ fn push_ended(key: &mut Vec<u8>, pid: u32, parent: u32, status: u32) -> Result<(
 // ---- groups
 
 // Returns the part of a live process that has neither its program nor its buffer.
-#[tactic(auto, using(crate::proofs::Adding::added_then, crate::proofs::Grouping::added_whole))]
+#[tactic(auto, using(crate::proofs::AppendedNumbers::added_then, crate::proofs::StateGroups::added_whole))]
 fn part_held(
     alloc: Global,
     pid: u32,
@@ -256,7 +256,7 @@ fn part_held(
 /// # Errors
 ///
 /// `AllocError`, if there is no memory.
-#[tactic(auto, using(crate::proofs::Grouping::added_whole))]
+#[tactic(auto, using(crate::proofs::StateGroups::added_whole))]
 pub fn part_of_program(alloc: Global, program: &Program) -> Result<Vec<u8>, AllocError>
     ensures { IfOk result (λ part. part.items ≡ packed_all (list_numbers instruction_numbers program.now)) }
 {
@@ -266,7 +266,7 @@ pub fn part_of_program(alloc: Global, program: &Program) -> Result<Vec<u8>, Allo
 }
 
 // Returns the part of a buffer.
-#[tactic(auto, using(crate::proofs::Grouping::added_whole))]
+#[tactic(auto, using(crate::proofs::StateGroups::added_whole))]
 fn part_of_buffer(alloc: Global, buffer: &[u8]) -> Result<Vec<u8>, AllocError>
     ensures { IfOk result (λ part. part.items ≡ packed_all (bytes_numbers buffer.now)) }
 {
@@ -318,7 +318,7 @@ pub(crate) fn group_live(
 /// # Errors
 ///
 /// `AllocError`, if there is no memory.
-#[tactic(auto, using(crate::proofs::Grouping::added_whole))]
+#[tactic(auto, using(crate::proofs::StateGroups::added_whole))]
 pub fn group_ended(
     alloc: Global,
     pid: u32,
@@ -335,7 +335,7 @@ pub fn group_ended(
 }
 
 // Returns the group of a process. It is empty if there is no such process.
-#[tactic(auto, using(crate::proofs::Owned::group_of_live, crate::proofs::Owned::group_of_ended, crate::proofs::Owned::group_of_nobody))]
+#[tactic(auto, using(crate::proofs::ProcessNumbers::group_of_live, crate::proofs::ProcessNumbers::group_of_ended, crate::proofs::ProcessNumbers::group_of_nobody))]
 pub(crate) fn group_of_process(
     alloc: Global,
     processes: &Processes,

@@ -14,7 +14,7 @@ use pv_answers::procs::Processes;
 use std::alloc::{AllocError, Global};
 
 // Returns the group of the last process number given and the number of processes.
-#[tactic(auto, using(crate::proofs::Adding::added_then, crate::proofs::Grouping::added_whole))]
+#[tactic(auto, using(crate::proofs::AppendedNumbers::added_then, crate::proofs::StateGroups::added_whole))]
 fn group_of_counts(
     alloc: Global,
     processes: &Processes,
@@ -40,7 +40,7 @@ fn group_of_files(alloc: Global, parts: &Parts) -> Result<Vec<Vec<u8>>, AllocErr
     Ok(group)
 }
 
-/// Returns the encoding of a state as groups of parts. Two states are equal exactly if their groups are equal. A
+/// Returns the encoding of a state as groups of parts. Two states are equal if and only if their groups are equal. A
 /// program, a buffer or a node is a part of its own, because many states share it. `last` is the last process number
 /// that the state has given.
 ///

@@ -1,6 +1,6 @@
 //! Trees.
 ghost use Rattle.std.specs.Prelude.{◌≡◌, ◌∷◌, ◌++◌, [], false, flat_map, length, option_map, IsSome, IsTrue, IfSome, IfOk, Some, OnOk};
-ghost use Rattle.pv_image_write.specs.OfDirs.Trees.{bytes_at};
+ghost use Rattle.pv_image_write.specs.OfDirs.Trees.{node_bytes_at};
 ghost use Rattle.pv_model.specs.Machine.{bytes_numbers, list_numbers, number_numbers, option_numbers, tree_numbers, next_name, node_at, entries_at, find_entry, is_directory_at};
 ghost use Rattle.pv_model.specs.Answers.Numbers.{name_numbers, node_numbers, version_numbers};
 ghost use Rattle.pv_state_encoding.specs.Groups.{node_parts, parts_of, tree_part};
@@ -27,7 +27,7 @@ fn next(tree: &Tree, directory: u16, last: &Option<Name>, before: u32) -> Option
 }
 
 // Appends a name with its node.
-#[tactic(auto, using(crate::proofs::Adding::added_both))]
+#[tactic(auto, using(crate::proofs::AppendedNumbers::added_both))]
 fn push_entry(key: &mut Vec<u8>, name: &Name, node: u16) -> Result<(), AllocError>
     ensures { OnOk result (IsAdded (name_numbers (name.now, node)) key.old.items key.new.items) }
 {
@@ -56,7 +56,7 @@ fn push_each_entry(key: &mut Vec<u8>, tree: &Tree, directory: u16) -> Result<(),
 fn push_runs(key: &mut Vec<u8>, tree: &Tree, node: u16) -> Result<(), AllocError>
     requires used { IsSome (node_at tree.now.tree node) }
     requires other { is_directory_at tree.now.tree node ≡ false }
-    ensures { OnOk result (IsAdded (bytes_at tree.now.tree node) key.old.items key.new.items) }
+    ensures { OnOk result (IsAdded (node_bytes_at tree.now.tree node) key.old.items key.new.items) }
 {
     let size = tree.size(node);
     let mut at = 0;
@@ -69,18 +69,18 @@ fn push_runs(key: &mut Vec<u8>, tree: &Tree, node: u16) -> Result<(), AllocError
 }
 
 // Appends the bytes of a file or of a link's text, preceded by their length.
-#[tactic(auto, using(crate::proofs::Adding::added_then))]
+#[tactic(auto, using(crate::proofs::AppendedNumbers::added_then))]
 fn push_content(key: &mut Vec<u8>, tree: &Tree, node: u16) -> Result<(), AllocError>
     requires used { IsSome (node_at tree.now.tree node) }
     requires other { is_directory_at tree.now.tree node ≡ false }
-    ensures { OnOk result (IsAdded (bytes_numbers (bytes_at tree.now.tree node)) key.old.items key.new.items) }
+    ensures { OnOk result (IsAdded (bytes_numbers (node_bytes_at tree.now.tree node)) key.old.items key.new.items) }
 {
     push_number(key, u64::from(tree.size(node)))?;
     push_runs(key, tree, node)
 }
 
 // Appends a node.
-#[tactic(auto, using(crate::proofs::Nodes::added_directory, crate::proofs::Nodes::added_file, crate::proofs::Nodes::added_executable, crate::proofs::Nodes::added_link, crate::proofs::Nodes::is_directory_there, crate::proofs::Nodes::no_directory))]
+#[tactic(auto, using(crate::proofs::TreeNumbers::added_directory, crate::proofs::TreeNumbers::added_file, crate::proofs::TreeNumbers::added_executable, crate::proofs::TreeNumbers::added_link, crate::proofs::TreeNumbers::is_directory_there, crate::proofs::TreeNumbers::no_directory))]
 fn push_node(key: &mut Vec<u8>, tree: &Tree, node: u16) -> Result<(), AllocError>
     requires { IsSome (node_at tree.now.tree node) }
     ensures { OnOk result (IsAdded (if_there node_numbers (node_at tree.now.tree node)) key.old.items key.new.items) }
@@ -109,7 +109,7 @@ fn push_node(key: &mut Vec<u8>, tree: &Tree, node: u16) -> Result<(), AllocError
 }
 
 // Appends the node of a number that is in use.
-#[tactic(auto, using(crate::proofs::Numbering::added_there))]
+#[tactic(auto, using(crate::proofs::MapNumbers::added_there))]
 fn push_used(key: &mut Vec<u8>, tree: &Tree, node: u16) -> Result<(), AllocError>
     requires { IsSome (node_at tree.now.tree node) }
     ensures { OnOk result (IsAdded (option_numbers node_numbers (node_at tree.now.tree node)) key.old.items key.new.items) }
@@ -150,7 +150,7 @@ fn push_version(key: &mut Vec<u8>, version: Version) -> Result<(), AllocError>
 }
 
 // Appends the sizes of a tree: all of the tree except its nodes.
-#[tactic(auto, using(crate::proofs::Adding::added_then, crate::proofs::Adding::added_both))]
+#[tactic(auto, using(crate::proofs::AppendedNumbers::added_then, crate::proofs::AppendedNumbers::added_both))]
 fn push_sizes(key: &mut Vec<u8>, tree: &Tree) -> Result<(), AllocError>
     ensures { OnOk result (IsAdded (version_numbers tree.now.tree.version ++ number_numbers tree.now.tree.blocks ++ number_numbers tree.now.tree.inodes ++ length tree.now.tree.nodes ∷ []) key.old.items key.new.items) }
 {
@@ -166,7 +166,7 @@ fn push_sizes(key: &mut Vec<u8>, tree: &Tree) -> Result<(), AllocError>
 /// # Errors
 ///
 /// As for `push_number`.
-#[tactic(auto, using(crate::proofs::Adding::added_then, crate::proofs::Adding::added_both), unfolding(pv_model::specs::Answers::Numbers::tree_numbers))]
+#[tactic(auto, using(crate::proofs::AppendedNumbers::added_then, crate::proofs::AppendedNumbers::added_both), unfolding(pv_model::specs::Answers::Numbers::tree_numbers))]
 pub fn push_tree(key: &mut Vec<u8>, tree: &Tree) -> Result<(), AllocError>
     ensures { OnOk result (IsAdded (tree_numbers tree.now.tree) key.old.items key.new.items) }
 {
@@ -181,7 +181,7 @@ pub fn push_tree(key: &mut Vec<u8>, tree: &Tree) -> Result<(), AllocError>
 /// # Errors
 ///
 /// `AllocError`, if there is no memory.
-#[tactic(auto, using(crate::proofs::Grouping::added_whole))]
+#[tactic(auto, using(crate::proofs::StateGroups::added_whole))]
 pub fn part_of_sizes(alloc: Global, tree: &Tree) -> Result<Vec<u8>, AllocError>
     ensures { IfOk result (λ part. part.items ≡ tree_part tree.now.tree) }
 {

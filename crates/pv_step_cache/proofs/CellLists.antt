@@ -7,7 +7,7 @@ use Rattle.std.proofs.lemmas.List.{take_more}
 use Rattle.std.proofs.lemmas.List.Quantifiers.{position-Some}
 use Rattle.std.proofs.lemmas.Option.{slice_get-get_or, slice_get-map}
 use Rattle.pv_model.specs.Machine.{Bytes}
-use Rattle.pv_state_encoding.specs.Encoded.{Encoded}
+use Rattle.pv_state_encoding.specs.Encoded.{OwnedGroup}
 use Rattle.pv_step_cache.specs.declared.cells.Cell.{Cell}
 use Rattle.pv_step_cache.specs.declared.cells.Edit.{Edit}
 use Rattle.pv_step_cache.specs.declared.cells.Edit.TheVariants.{Keep, Put}
@@ -58,15 +58,15 @@ appeared_at pid before c place is alive other =
 
 -- ---- edits of cells are edits of their groups
 
-module _ (number : List Bytes → ℕ) (IsCached : List Bytes → Type 0) (apart : AreApart number IsCached) (pid : ℕ) (before : List Encoded) where
-  abbrev cells : List Encoded → List Cell
+module _ (number : List Bytes → ℕ) (IsCached : List Bytes → Type 0) (apart : AreApart number IsCached) (pid : ℕ) (before : List OwnedGroup) where
+  abbrev cells : List OwnedGroup → List Cell
   cells cs = map (cell_of number) cs
 
-  some-of : (o : Option Encoded) (c : Cell) → option_map (cell_of number) o ≡ Some c → (d : Encoded) × (o ≡ Some d) × (cell_of number d ≡ c)
+  some-of : (o : Option OwnedGroup) (c : Cell) → option_map (cell_of number) o ≡ Some c → (d : OwnedGroup) × (o ≡ Some d) × (cell_of number d ≡ c)
   some-of None c is = cc
   some-of (Some d) c is = let same : cell_of number d ≡ c = cc in (d, refl, same)
 
-  one-encoded : (c : Encoded) (e : Edit) → IsCached c.group → IsCellEdit pid (cells before) (cell_of number c) e → IsEdit number pid before c e
+  one-encoded : (c : OwnedGroup) (e : Edit) → IsCached c.group → IsCellEdit pid (cells before) (cell_of number c) e → IsEdit number pid before c e
   one-encoded c (Keep place) cached it =
       let found = some-of (slice_get before place) it.there (sym (slice_get-map (cell_of number) before place) ∙ it.at) in
       let tests = and_parts (it.there.number == number c.group) (it.there.owner == c.owner) it.appears in
@@ -80,7 +80,7 @@ module _ (number : List Bytes → ℕ) (IsCached : List Bytes → Type 0) (apart
       }
   one-encoded c (Put cell) cached it = it
 
-  pub all-encoded : (cs : List Encoded) (es : List Edit) → AllByRecursion (IsCachedBoth number IsCached) cs → AreCellEdits pid (cells before) (cells cs) es → AreEdits number pid before cs es
+  pub all-encoded : (cs : List OwnedGroup) (es : List Edit) → AllByRecursion (IsCachedBoth number IsCached) cs → AreCellEdits pid (cells before) (cells cs) es → AreEdits number pid before cs es
   all-encoded [] [] cached are = tt
   all-encoded [] (e ∷ es) cached are = absurd are
   all-encoded (c ∷ cs) [] cached are = absurd are

@@ -3,18 +3,18 @@ use Rattle.std.proofs.Common.{◌≡◌, ◌∙◌, sym, ap, ap₂, ℕ, Bool, t
 use Rattle.std.proofs.lemmas.List.{length-map, map-append}
 use Rattle.pv_model.specs.Machine.{state_numbers, Bytes, ProcessRecord, live, ended_record, State}
 use Rattle.pv_laws_steps.proofs.OfLawsAnswers.StateDecoding.{same-state_numbers}
-use Rattle.pv_laws_steps.specs.Seen.{SeenRecord, own, seen_other, seen_record, seen}
-use Rattle.pv_state_encoding.specs.Groups.{counts_part, joined, record_parts, state_groups}
+use Rattle.pv_laws_steps.specs.Seen.{SeenRecord, own_record, seen_other, seen_record, seen}
+use Rattle.pv_state_encoding.specs.Groups.{counts_part, concatenated_groups, record_parts, state_groups}
 use Rattle.pv_state_encoding.specs.Packed.{packed_all}
-use Rattle.pv_state_encoding.specs.Encoded.{outside, outside_record, outside_but, seen_state, Encoded, plain, encoded_record, counts_group, tree_groups, encoded, seen_of}
-use Rattle.pv_state_encoding.proofs.Apart.{packed-apart}
-use Rattle.pv_state_encoding.proofs.Grouping.{state-joined}
+use Rattle.pv_state_encoding.specs.Encoded.{outside, outside_record, outside_but, seen_state, OwnedGroup, plain, encoded_record, counts_group, tree_groups, encoded, seen_of}
+use Rattle.pv_state_encoding.proofs.InjectiveEncoding.{packed-apart}
+use Rattle.pv_state_encoding.proofs.StateGroups.{state-concatenated_groups}
 
 -- ---- states by their groups
 
 pub same-groups : (s t : State) → state_groups s ≡ state_groups t → s ≡ t
 same-groups s t same =
-    let bytes : packed_all (state_numbers s) ≡ packed_all (state_numbers t) = sym (state-joined s) ∙ ap joined same ∙ state-joined t in
+    let bytes : packed_all (state_numbers s) ≡ packed_all (state_numbers t) = sym (state-concatenated_groups s) ∙ ap concatenated_groups same ∙ state-concatenated_groups t in
     same-state_numbers s t (packed-apart (state_numbers s) (state_numbers t) bytes)
 
 -- ---- a step sees the state with outside views as it sees the state
@@ -26,7 +26,7 @@ outside-seen (ended_record parent status) = refl
 record-seen : (pid : ℕ) (r : ℕ × ProcessRecord) → seen_record pid (outside_but pid r) ≡ seen_record pid r
 record-seen pid r = ap (λ x. (r.0, x)) (by (r.0 == pid))
   where
-    by : (b : Bool) → (if b then own (if b then r.1 else outside_record r.1) else seen_other (if b then r.1 else outside_record r.1)) ≡ (if b then own r.1 else seen_other r.1)
+    by : (b : Bool) → (if b then own_record (if b then r.1 else outside_record r.1) else seen_other (if b then r.1 else outside_record r.1)) ≡ (if b then own_record r.1 else seen_other r.1)
     by true = refl
     by false = outside-seen r.1
 
@@ -53,7 +53,7 @@ pub groups-encoded : (s : State) → map (λ c. c.group) (encoded s) ≡ state_g
 unfolding encoded state_groups
 groups-encoded s =
     ap (λ gs. counts_group s ∷ gs)
-    (map-append (λ (c : Encoded). c.group) (map encoded_record s.processes) (map plain (tree_groups s))
+    (map-append (λ (c : OwnedGroup). c.group) (map encoded_record s.processes) (map plain (tree_groups s))
     ∙ ap₂ (λ (a b : List (List Bytes)). a ++ b) (groups-records s.processes) (groups-plain (tree_groups s)))
 
 module _ (pid : ℕ) where

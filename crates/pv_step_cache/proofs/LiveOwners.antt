@@ -4,12 +4,12 @@ use Rattle.std.specs.List.{list_all}
 use Rattle.std.proofs.lemmas.Bool.{and_parts, ne_eqb}
 use Rattle.pv_model.specs.Machine.{Bytes, live_processes, ProcessRecord, live, ended_record, State}
 use Rattle.pv_laws_states.specs.States.{is_process_number, IsValid}
-use Rattle.pv_state_encoding.specs.Encoded.{Encoded, plain, encoded_record, tree_groups, encoded}
+use Rattle.pv_state_encoding.specs.Encoded.{OwnedGroup, plain, encoded_record, tree_groups, encoded}
 use Rattle.pv_step_cache.specs.declared.cells.Cell.{Cell}
 use Rattle.pv_step_cache.specs.Edits.{cell_of, owners}
 
 module _ (number : List Bytes → ℕ) where
-  abbrev cells : List Encoded → List Cell
+  abbrev cells : List OwnedGroup → List Cell
   cells cs = map (cell_of number) cs
 
   owners-plains : (gs : List (List Bytes)) → owners (cells (map plain gs)) ≡ []

@@ -4,7 +4,7 @@ use Rattle.std.specs.List.{AllByRecursion}
 use Rattle.pv_model.specs.Machine.{Observer, Bytes, program_of, State, step}
 use Rattle.pv_laws_states.specs.States.{IsValid}
 use Rattle.pv_laws_steps.specs.Seen.{seen}
-use Rattle.pv_state_encoding.specs.Encoded.{Encoded, encoded}
+use Rattle.pv_state_encoding.specs.Encoded.{OwnedGroup, encoded}
 use Rattle.pv_step_cache.specs.declared.cells.Cell.{Cell}
 use Rattle.pv_step_cache.specs.declared.cells.Edit.{Edit}
 use Rattle.pv_step_cache.specs.Edits.{cell_of, step_key, AreEdits}
@@ -17,7 +17,7 @@ DependsOnSeen observe =
 -- `number` numbers the groups, and `IsCached` holds for the stored groups
 module _ (number : List Bytes → ℕ) (IsCached : List Bytes → Type 0) where
   -- a group and its outside view are stored
-  abbrev pub IsCachedBoth : Encoded → Type 0
+  abbrev pub IsCachedBoth : OwnedGroup → Type 0
   IsCachedBoth c = IsCached c.group × IsCached c.outside
 
   -- the cells are those of a state whose groups are stored

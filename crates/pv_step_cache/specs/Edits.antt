@@ -2,7 +2,7 @@
 use Rattle.std.specs.Prelude.{◌≡◌, ◌≢◌, ℕ, Bool, true, not, ◌&&◌, ◌⊎◌, if◌then◌else◌, ◌==◌, List, [], ◌∷◌, get_or, map, slice_get, Some}
 use Rattle.pv_model.specs.Machine.{Bytes}
 use Rattle.pv_state_encoding.specs.Packed.{packed_all}
-use Rattle.pv_state_encoding.specs.Encoded.{Encoded}
+use Rattle.pv_state_encoding.specs.Encoded.{OwnedGroup}
 use Rattle.pv_step_cache.specs.declared.cells.Cell.{Cell}
 use Rattle.pv_step_cache.specs.declared.cells.Edit.{Edit}
 use Rattle.pv_step_cache.specs.declared.cells.Edit.TheVariants.{Keep, Put}
@@ -13,7 +13,7 @@ abbrev pub no_cell : Cell
 no_cell = record { number = 0; owner = 0; outside = 0 }
 
 -- the cell of a group
-abbrev pub cell_of : (List Bytes → ℕ) → Encoded → Cell
+abbrev pub cell_of : (List Bytes → ℕ) → OwnedGroup → Cell
 cell_of number c = record { number = number c.group; owner = c.owner; outside = number c.outside }
 
 -- the number of the part of a cell on which a step of a process depends
@@ -68,22 +68,22 @@ module _ (pid : ℕ) (before : List Cell) where
   AreCellEdits (c ∷ cs) (e ∷ es) = IsCellEdit c e × AreCellEdits cs es
 
 -- a group is at this index, and another live process owns it
-pub record AppearsAt (pid : ℕ) (before : List Encoded) (place : ℕ) (c : Encoded) : Type 0 where
-  pub there : Encoded
+pub record AppearsAt (pid : ℕ) (before : List OwnedGroup) (place : ℕ) (c : OwnedGroup) : Type 0 where
+  pub there : OwnedGroup
   pub at : slice_get before place ≡ Some there
   pub group : there.group ≡ c.group
   pub owner : there.owner ≡ c.owner
   pub live : c.owner ≢ 0
   pub other : c.owner ≢ pid
 
-module _ (number : List Bytes → ℕ) (pid : ℕ) (before : List Encoded) where
+module _ (number : List Bytes → ℕ) (pid : ℕ) (before : List OwnedGroup) where
   -- an edit yields a group after a step of a process: the group of another live process was there before the step, any
   -- other group is new
-  abbrev pub IsEdit : Encoded → Edit → Type 0
+  abbrev pub IsEdit : OwnedGroup → Edit → Type 0
   IsEdit c (Keep place) = AppearsAt pid before place c
   IsEdit c (Put cell) = (cell_of number c ≡ cell) × ((c.owner ≡ 0) ⊎ (c.owner ≡ pid))
 
-  abbrev pub AreEdits : List Encoded → List Edit → Type 0
+  abbrev pub AreEdits : List OwnedGroup → List Edit → Type 0
   AreEdits [] [] = Unit {0}
   AreEdits [] (e ∷ es) = ⊥
   AreEdits (c ∷ cs) [] = ⊥

@@ -15,7 +15,7 @@ abbrev pub texts_of : CachedStep → List Bytes
 texts_of step = texts_in step.texts.value.items
 
 -- one of the transitions has this key
-pub record IsFound (steps : List CachedStep) (key : Bytes) (step : CachedStep) : Type 0 where
+pub record IsCachedStep (steps : List CachedStep) (key : Bytes) (step : CachedStep) : Type 0 where
   pub number : ℕ
   pub at : slice_get steps number ≡ Some step
   pub key_is : step.key.items ≡ key
@@ -23,7 +23,7 @@ pub record IsFound (steps : List CachedStep) (key : Bytes) (step : CachedStep) :
 -- the texts and the cells are those of a transition with this key
 pub record WasCached (steps : List CachedStep) (key : Bytes) (cells : List Cell) (texts : List Bytes) (after : List Cell) : Type 0 where
   pub step : CachedStep
-  pub found : IsFound steps key step
+  pub found : IsCachedStep steps key step
   pub texts_are : texts ≡ texts_of step
   pub after_is : after ≡ map (edited cells) step.edits.items
 

@@ -37,7 +37,7 @@ pub struct Recalled {
 
 impl CachedSteps {
     ghost use Rattle.pv_step_cache.specs.Edits.{step_key};
-    ghost use Rattle.pv_step_cache.specs.Steps.{Adds, IsFound, WasCached, texts_in};
+    ghost use Rattle.pv_step_cache.specs.Steps.{Adds, IsCachedStep, WasCached, texts_in};
 
     /// Returns an empty cache.
     pub fn new(alloc: Global) -> CachedSteps
@@ -51,7 +51,7 @@ impl CachedSteps {
 
     // Returns the transition with a key, if it is cached.
     fn find(&self, key: &[u8]) -> Option<&CachedStep>
-        ensures { IfSome result (λ step. IsFound self.now.steps.items key.now step.now) }
+        ensures { IfSome result (λ step. IsCachedStep self.now.steps.items key.now step.now) }
     {
         let number = self.keys.find(key)?;
         let step = self.steps.get(number)?;

@@ -6,7 +6,7 @@ use Rattle.pv_model.specs.Machine.{AnswerLine, answer_bytes, answer_line_bytes, 
 use Rattle.pv_model.specs.Trace.{line_bytes}
 use Rattle.pv_trace.specs.Steps.{first_lines_of, end_lines_of, moved_by}
 use Rattle.pv_step_lines.specs.declared.making.MadeCall.{MadeCall}
-use Rattle.pv_step_lines.specs.Made.{first_part_lines, promise_lines, table_lines, moved_lines, last_lines, call_made_lines}
+use Rattle.pv_step_lines.specs.Made.{first_part_lines, promise_check_lines, table_lines, moved_lines, lines_at_end, call_made_lines}
 use Rattle.pv_step_lines.specs.Parts.{promise_part, moved_part}
 
 pub trace-bytes : (ls : List Line) → trace_bytes ls ≡ answer_bytes (map of_trace ls)
@@ -38,10 +38,10 @@ module _ (pid : ℕ) (mine : List Setting) (m : MadeCall) (after : State) where
   unfolding call_made_lines
   call-bytes promised moved are gave seen is =
       let first = first_part_lines pid mine m after in
-      let promise = promise_lines pid mine m after in
+      let promise = promise_check_lines pid mine m after in
       let table = table_lines pid mine m after in
       let gives = moved_lines pid mine m after in
-      let last = last_lines pid mine m after in
+      let last = lines_at_end pid mine m after in
       ap₂ (λ (a b : Bytes). a ++ b)
       (ap₂ (λ (a b : Bytes). a ++ b)
       (ap₂ (λ (a b : Bytes). a ++ b) (ap₂ (λ (a b : Bytes). a ++ b) (trace-bytes (first_lines_of pid (call_of m.call) m.answer.walks)) (ap promise_bytes are)) (ap table_bytes is))

@@ -1,22 +1,23 @@
 -- Lemmas about steps that are made with their lines.
--- - Unveiled (the target of an unveil), Sizes (the number of bytes of a call), Fit (the data of a step can be written),
---   Made (the state after a step), MadeLines (the lines of a step are those of the definitions)
--- - Asked (pledge), Sources (origins in words), Remarks, MovedLines and StatusBytes (parts of lines), CallLines (the
---   bytes of a call's lines), Climbing (the lines of levels, one at a time)
--- - Stops (writers that a lack of memory or a failed write ends)
-pub mod Asked
+-- - UnveilTargets (the target of an unveil), ReturnedSizes (the number of bytes of a call), WritableSteps (the data of
+--   a step can be written), StepStates (the state after a step), MadeLines (the lines of a step are those of the
+--   definitions)
+-- - PledgeIncreases (pledge), EntryOrigins (origins in words), RemarkLines, MovedLines and StatusBytes (parts of
+--   lines), CallLines (the bytes of a call's lines), AncestorLines (the lines of levels, one at a time)
+-- - StoppedWriters (writers that a lack of memory or a failed write ends)
+pub mod PledgeIncreases
 pub mod CallLines
-pub mod Climbing
-pub mod Fit
-pub mod Made
+pub mod AncestorLines
+pub mod WritableSteps
+pub mod StepStates
 pub mod MadeLines
 pub mod MovedLines
-pub mod Remarks
-pub mod Sizes
-pub mod Sources
+pub mod RemarkLines
+pub mod ReturnedSizes
+pub mod EntryOrigins
 pub mod StatusBytes
-pub mod Stops
-pub mod Unveiled
+pub mod StoppedWriters
+pub mod UnveilTargets
 pub use Rattle.pv_answers.proofs as OfAnswers
 pub use Rattle.pv_session.proofs.OfLawsRuns
 pub use Rattle.pv_answers.proofs.OfProcs

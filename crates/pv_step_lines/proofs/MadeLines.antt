@@ -21,17 +21,17 @@ use Rattle.pv_model.specs.Answers.Explain.{pledge_text, promise_reason, found_te
 use Rattle.pv_model.specs.Answers.Levels.{Level, levels}
 use Rattle.pv_model.specs.Trace.{for_kill, for_refusal, for_increase, UnveilVerdict, no_entry, entry_lacks, table_locked, Direction, asked_permissions, gone_lines}
 use Rattle.pv_laws_states.specs.Calls.{IsUnharmed}
-use Rattle.pv_laws_states.proofs.Outcomes.{refused-unharmed}
+use Rattle.pv_laws_states.proofs.CallOutcomes.{refused-unharmed}
 use Rattle.pv_session.specs.OfCallsPath.Ends.{end_of_some}
-use Rattle.pv_session.proofs.OfCallsPath.Begun.{begun-ends}
-use Rattle.pv_session.proofs.Stepping.{called-lines_by}
+use Rattle.pv_session.proofs.OfCallsPath.WalkEnds.{begun-ends}
+use Rattle.pv_session.proofs.MachineSteps.{called-lines_by}
 use Rattle.pv_trace.specs.Steps.{call_lines_of, path_line, path_lines_of, first_lines_of, promise_lines_of, unveil_lines_of, moved_lines_of, end_lines_of, lines_by, moved_by}
 use Rattle.pv_step_lines.specs.declared.making.MadeCall.{MadeCall}
 use Rattle.pv_step_lines.specs.declared.making.MadeStep.{MadeStep}
 use Rattle.pv_step_lines.specs.declared.making.MadeStep.TheVariants.{Gone as GoneStep, Register, Call as CallMade}
-use Rattle.pv_step_lines.specs.Before.{place_of, pledged_of}
+use Rattle.pv_step_lines.specs.Before.{place_before, pledged_of}
 use Rattle.pv_step_lines.specs.Made.{table_lines_of, table_lines, call_made_lines, made_lines, IsMadeCall, IsMade}
-use Rattle.pv_step_lines.specs.Parts.{why, increase_reason, promise_part, source_of, found_by, directory_words_by, level_words_of, level_text_by, judgement_lines, table_reasons, table_part, file_number, node_text, file_at, moved_by_call, moved_part}
+use Rattle.pv_step_lines.specs.Parts.{why, increase_reason, promise_part, origin_text, lacked_text, directory_words_by, level_words_of, level_text_by, judgement_lines, table_reasons, table_part, file_number, node_text, file_at, moved_by_call, moved_part}
 
 map-same : {X Y : Type 0} (f g : X → Y) → ((x : X) → f x ≡ g x) → (xs : List X) → map f xs ≡ map g xs
 map-same f g same [] = refl
@@ -43,48 +43,48 @@ module _ (s : State) (p : Process) (mine : List Setting) where
   abbrev table : Table
   table = entries_of_table p.table
 
-  found-same : (asked : Perms) (o : Option ℕ) → found_text s p (source_of mine) asked o ≡ found_by table mine asked o
+  found-same : (asked : Perms) (o : Option ℕ) → found_text s p (origin_text mine) asked o ≡ lacked_text table mine asked o
   found-same asked None = refl
   found-same asked (Some k) = refl
 
-  directory-same : (n : ℕ) (o : Option Bytes) → directory_words s p (source_of mine) n o ≡ directory_words_by s.tree n o
+  directory-same : (n : ℕ) (o : Option Bytes) → directory_words s p (origin_text mine) n o ≡ directory_words_by s.tree n o
   directory-same n None = refl
   directory-same n (Some path) = refl
 
-  words-same : (target : Target) → level_words s p (source_of mine) target ≡ level_words_of s.tree target
+  words-same : (target : Target) → level_words s p (origin_text mine) target ≡ level_words_of s.tree target
   words-same (Directory n) = ap (λ bs. codes "directory " ++ bs) (directory-same n (node_path s.tree n))
   words-same (Name d name) = refl
 
-  level-same : (asked : Perms) (l : Level) → level_text s p (source_of mine) asked l ≡ level_text_by s.tree table mine asked l
+  level-same : (asked : Perms) (l : Level) → level_text s p (origin_text mine) asked l ≡ level_text_by s.tree table mine asked l
   level-same asked l = ap₂ (λ (a b : Bytes). a ++ codes ": " ++ b) (words-same l.target) (found-same asked l.entry)
 
-  judgement-same : (pid : ℕ) (asked : Perms) (o : Option Place) → map (answer_line pid (codes "WHY")) (judgement_texts s p (source_of mine) asked o) ≡ judgement_lines s.tree table mine pid asked o
+  judgement-same : (pid : ℕ) (asked : Perms) (o : Option Place) → map (answer_line pid (codes "WHY")) (judgement_texts s p (origin_text mine) asked o) ≡ judgement_lines s.tree table mine pid asked o
   judgement-same pid asked None = refl
   judgement-same pid asked (Some place) =
-      map-map (answer_line pid (codes "WHY")) (level_text s p (source_of mine) asked) (levels s.tree table place)
-      ∙ map-same (λ l. answer_line pid (codes "WHY") (level_text s p (source_of mine) asked l)) (λ l. why pid (level_text_by s.tree table mine asked l))
+      map-map (answer_line pid (codes "WHY")) (level_text s p (origin_text mine) asked) (levels s.tree table place)
+      ∙ map-same (λ l. answer_line pid (codes "WHY") (level_text s p (origin_text mine) asked l)) (λ l. why pid (level_text_by s.tree table mine asked l))
       (λ l. ap (answer_line pid (codes "WHY")) (level-same asked l)) (levels s.tree table place)
 
   -- the reasons of a verdict, by the place of the last walk
   module _ (pid : ℕ) (walks : ℕ) where
     abbrev place : Call → Option Place
-    place call = place_walked s p (source_of mine) (walk_number (walks_of call) walks)
+    place call = place_walked s p (origin_text mine) (walk_number (walks_of call) walks)
 
-    lacks-same : (call : Call) (k : ℕ) → map (answer_line pid (codes "WHY")) (unveil_reasons s p (source_of mine) call walks (entry_lacks k (asked_permissions call walks)))
+    lacks-same : (call : Call) (k : ℕ) → map (answer_line pid (codes "WHY")) (unveil_reasons s p (origin_text mine) call walks (entry_lacks k (asked_permissions call walks)))
         ≡ table_reasons s.tree table mine pid call (place call) (entry_lacks k (asked_permissions call walks))
     lacks-same (Unveil path permissions) k = refl
     lacks-same call k = judgement-same pid (asked_permissions call walks) (place call)
 
-    hides-same : (call : Call) → map (answer_line pid (codes "WHY")) (unveil_reasons s p (source_of mine) call walks (no_entry (asked_permissions call walks)))
+    hides-same : (call : Call) → map (answer_line pid (codes "WHY")) (unveil_reasons s p (origin_text mine) call walks (no_entry (asked_permissions call walks)))
         ≡ table_reasons s.tree table mine pid call (place call) (no_entry (asked_permissions call walks))
     hides-same (Unveil path permissions) = judgement-same pid (asked_permissions (Unveil path permissions) walks) (place (Unveil path permissions))
     hides-same call = judgement-same pid (asked_permissions call walks) (place call)
 
-    locked-same : (call : Call) → map (answer_line pid (codes "WHY")) (unveil_reasons s p (source_of mine) call walks table_locked) ≡ table_reasons s.tree table mine pid call (place call) table_locked
+    locked-same : (call : Call) → map (answer_line pid (codes "WHY")) (unveil_reasons s p (origin_text mine) call walks table_locked) ≡ table_reasons s.tree table mine pid call (place call) table_locked
     locked-same (Unveil path permissions) = refl
     locked-same call = refl
 
-    reasons-same : (after : State) (call : Call) (o : Outcome) → flat_map (λ w. of_trace (line pid w) ∷ remarks s pid p (source_of mine) call (record { after = after; outcome = o; walks = walks }) w) (unveil_words call walks o)
+    reasons-same : (after : State) (call : Call) (o : Outcome) → flat_map (λ w. of_trace (line pid w) ∷ remarks s pid p (origin_text mine) call (record { after = after; outcome = o; walks = walks }) w) (unveil_words call walks o)
         ≡ flat_map (table_part s.tree table mine pid call (place call)) (unveil_words call walks o)
     reasons-same after call (Failed e (ByUnveil None)) = ap (λ (ls : List AnswerLine). (of_trace (line pid (unvl_word (no_entry (asked_permissions call walks)))) ∷ ls) ++ []) (hides-same call)
     reasons-same after call (Failed e (ByUnveil (Some k))) = ap (λ (ls : List AnswerLine). (of_trace (line pid (unvl_word (entry_lacks k (asked_permissions call walks)))) ∷ ls) ++ []) (lacks-same call k)
@@ -95,7 +95,7 @@ module _ (s : State) (p : Process) (mine : List Setting) where
 
 module _ (s : State) (pid : ℕ) (me : Process) (mine : List Setting) (call : Call) (a : Answered) where
   abbrev said : Line → List AnswerLine
-  said l = with_remarks s pid me (source_of mine) call a l
+  said l = with_remarks s pid me (origin_text mine) call a l
 
   paths-same : (paths : List Bytes) → flat_map said (map (path_line pid) paths) ≡ map of_trace (map (path_line pid) paths)
   paths-same [] = refl
@@ -173,12 +173,12 @@ module _ (s : State) (pid : ℕ) (mine : List Setting) (m : MadeCall) (after : S
   now = record { after = after; outcome = m.answer.outcome; walks = m.answer.walks }
 
   abbrev says : Line → List AnswerLine
-  says l = with_remarks s pid me (source_of mine) c now l
+  says l = with_remarks s pid me (origin_text mine) c now l
 
-  place-same : place_of m.before m.answer.walks ≡ place_walked s me (source_of mine) (walk_number (walks_of c) m.answer.walks)
+  place-same : place_before m.before m.answer.walks ≡ place_walked s me (origin_text mine) (walk_number (walks_of c) m.answer.walks)
   place-same = is.before.place m.answer.walks ∙ by (walk_number (walks_of c) m.answer.walks) refl
     where
-      by : (o : Option Walk) → walk_number (walks_of c) m.answer.walks ≡ o → end_of_some s pid me o ≡ place_walked s me (source_of mine) o
+      by : (o : Option Walk) → walk_number (walks_of c) m.answer.walks ≡ o → end_of_some s pid me o ≡ place_walked s me (origin_text mine) o
       by None none = refl
       by (Some w) found =
           let few : m.answer.walks ≤ (answer program_of s pid c).walks = omega (arith, ap (λ (x : Answered). x.walks) is.answered) in
@@ -186,26 +186,26 @@ module _ (s : State) (pid : ℕ) (mine : List Setting) (m : MadeCall) (after : S
 
   -- a refusal leaves the tree and the table unchanged
   refused-same : (e : Errno) (cause : Cause) → m.answer.outcome ≡ Failed e cause
-      → table_lines pid mine m after ≡ flat_map (table_part s.tree (entries_of_table me.table) mine pid c (place_of m.before m.answer.walks)) (unveil_words c m.answer.walks m.answer.outcome)
+      → table_lines pid mine m after ≡ flat_map (table_part s.tree (entries_of_table me.table) mine pid c (place_before m.before m.answer.walks)) (unveil_words c m.answer.walks m.answer.outcome)
   refused-same e cause fails =
       let reported : (answer program_of s pid c).outcome ≡ Failed e cause = ap (λ (x : Answered). x.outcome) is.answered ∙ fails in
       let left : IsUnharmed s pid after = subst (λ (x : State). IsUnharmed s pid x) (ap (λ (x : Answered). x.after) is.answered) (refused-unharmed program_of s pid c e cause reported) in
       let stays = left.caller me is.lives in
       let words : List Word = unveil_words c m.answer.walks m.answer.outcome in
-      let o : Option Place = place_of m.before m.answer.walks in
+      let o : Option Place = place_before m.before m.answer.walks in
       ap (table_lines_of pid mine m after) stays.1
       ∙ ap₂ (λ (t : Tree) (entries : Table). flat_map (table_part t entries mine pid c o) words) left.tree (ap entries_of_table stays.2.table)
 
   none-same : unveil_words c m.answer.walks m.answer.outcome ≡ []
-      → table_lines pid mine m after ≡ flat_map (table_part s.tree (entries_of_table me.table) mine pid c (place_of m.before m.answer.walks)) (unveil_words c m.answer.walks m.answer.outcome)
-  none-same none = by (process_at after pid) ∙ sym (ap (flat_map (table_part s.tree (entries_of_table me.table) mine pid c (place_of m.before m.answer.walks))) none)
+      → table_lines pid mine m after ≡ flat_map (table_part s.tree (entries_of_table me.table) mine pid c (place_before m.before m.answer.walks)) (unveil_words c m.answer.walks m.answer.outcome)
+  none-same none = by (process_at after pid) ∙ sym (ap (flat_map (table_part s.tree (entries_of_table me.table) mine pid c (place_before m.before m.answer.walks))) none)
     where
       by : (o : Option Process) → table_lines_of pid mine m after o ≡ []
       by None = refl
-      by (Some q) = ap (flat_map (table_part after.tree (entries_of_table q.table) mine pid c (place_of m.before m.answer.walks))) none
+      by (Some q) = ap (flat_map (table_part after.tree (entries_of_table q.table) mine pid c (place_before m.before m.answer.walks))) none
 
   left-same : (o : Outcome) → m.answer.outcome ≡ o
-      → table_lines pid mine m after ≡ flat_map (table_part s.tree (entries_of_table me.table) mine pid c (place_of m.before m.answer.walks)) (unveil_words c m.answer.walks m.answer.outcome)
+      → table_lines pid mine m after ≡ flat_map (table_part s.tree (entries_of_table me.table) mine pid c (place_before m.before m.answer.walks)) (unveil_words c m.answer.walks m.answer.outcome)
   left-same (Failed e cause) fails = refused-same e cause fails
   left-same (Value n) reported = none-same (ap (unveil_words c m.answer.walks) reported)
   left-same (Text taken) reported = none-same (ap (unveil_words c m.answer.walks) reported)
@@ -242,16 +242,16 @@ module _ (s : State) (pid : ℕ) (mine : List Setting) (m : MadeCall) (after : S
       joined : {a b d e g a' b' d' e' g' : List AnswerLine} → a ≡ a' → b ≡ b' → d ≡ d' → e ≡ e' → g ≡ g' → a ++ b ++ d ++ e ++ g ≡ a' ++ b' ++ d' ++ e' ++ g'
       joined i j k l n = ap₂ (λ xs ys. xs ++ ys) (ap₂ (λ xs ys. xs ++ ys) (ap₂ (λ xs ys. xs ++ ys) (ap₂ (λ xs ys. xs ++ ys) i j) k) l) n
 
-  pub made-call : call_made_lines pid mine m after ≡ explained_step program_of (source_of mine) s pid
+  pub made-call : call_made_lines pid mine m after ≡ explained_step program_of (origin_text mine) s pid
   unfolding explained_step
   made-call =
       sym call-same ∙ sym (ap (λ (ls : List Line). flat_map says ls) (called-lines_by s pid me c now is.lives is.answered))
-      ∙ sym (ap (explained_of program_of (source_of mine) s pid) is.lives ∙ ap (explained_next program_of (source_of mine) s pid me) is.comes
-      ∙ ap (explained_call s pid me (source_of mine) c) is.answered)
+      ∙ sym (ap (explained_of program_of (origin_text mine) s pid) is.lives ∙ ap (explained_next program_of (origin_text mine) s pid me) is.comes
+      ∙ ap (explained_call s pid me (origin_text mine) c) is.answered)
 
 -- the lines of a step are those of the definitions
-pub made-is : (s : State) (pid : ℕ) (mine : List Setting) (made : MadeStep) (after : State) → IsMade s pid made after → made_lines pid mine made after ≡ explained_step program_of (source_of mine) s pid
+pub made-is : (s : State) (pid : ℕ) (mine : List Setting) (made : MadeStep) (after : State) → IsMade s pid made after → made_lines pid mine made after ≡ explained_step program_of (origin_text mine) s pid
 unfolding explained_step
-made-is s pid mine GoneStep after is = sym (ap (explained_of program_of (source_of mine) s pid) is.0)
-made-is s pid mine (Register n) after is = sym (ap (explained_of program_of (source_of mine) s pid) is.lives ∙ ap (explained_next program_of (source_of mine) s pid is.me) is.comes)
+made-is s pid mine GoneStep after is = sym (ap (explained_of program_of (origin_text mine) s pid) is.0)
+made-is s pid mine (Register n) after is = sym (ap (explained_of program_of (origin_text mine) s pid) is.lives ∙ ap (explained_next program_of (origin_text mine) s pid is.me) is.comes)
 made-is s pid mine (CallMade m) after is = made-call s pid mine m after is

@@ -10,11 +10,11 @@ use Rattle.pv_step_lines.specs.declared.levels.Basis.{Basis}
 use Rattle.pv_step_lines.specs.Origin.{settings_in}
 use Rattle.pv_step_lines.specs.Parts.{level_text_by, why}
 
-abbrev pub table_of : Basis → Table
-table_of b = entries_of_table b.table.now.table
+abbrev pub basis_table : Basis → Table
+basis_table b = entries_of_table b.table.now.table
 
-abbrev pub set_of : Basis → List Setting
-set_of b = settings_in b.origins.now
+abbrev pub settings_of_basis : Basis → List Setting
+settings_of_basis b = settings_in b.origins.now
 
 -- the levels of a directory and of a name
 abbrev pub directory_level : ℕ → Option ℕ → Level
@@ -25,10 +25,10 @@ name_level d name entry = record { target = Name d name; entry = entry }
 
 -- the line of a level
 abbrev pub level_line : Basis → Perms → Level → AnswerLine
-level_line b asked l = why b.pid (level_text_by b.tree.now.tree (table_of b) (set_of b) asked l)
+level_line b asked l = why b.pid (level_text_by b.tree.now.tree (basis_table b) (settings_of_basis b) asked l)
 
-abbrev pub lines_of : Basis → Perms → List Level → List AnswerLine
-lines_of b asked ls = map (level_line b asked) ls
+abbrev pub level_lines_of : Basis → Perms → List Level → List AnswerLine
+level_lines_of b asked ls = map (level_line b asked) ls
 
 -- the two requested values
 abbrev pub sets_of : Option (Option Set × Option Set) → Option (Option Promises × Option Promises)

@@ -27,14 +27,14 @@ abbrev pub pledged_of : Process → Pledged
 pledged_of p = record { promises = p.promises; execpromises = p.execpromises }
 
 -- the place at which walk `number` ended
-abbrev pub place_of : Before → ℕ → Option Place
-place_of b (suc zero) = b.first
-place_of b (suc (suc zero)) = b.second
-place_of b walks = None
+abbrev pub place_before : Before → ℕ → Option Place
+place_before b (suc zero) = b.first
+place_before b (suc (suc zero)) = b.second
+place_before b walks = None
 
 pub record IsBefore (s : State) (pid : ℕ) (p : Process) (call : Call) (b : Before) : Type 0 where
   pub line : b.line ≡ p.line
   pub pledge : b.pledge ≡ pledged_of p
   pub file : b.file ≡ file_number p call
   pub target : b.target ≡ target_before s p call
-  pub place : (k : ℕ) → place_of b k ≡ end_of_some s pid p (walk_number (walks_of call) k)
+  pub place : (k : ℕ) → place_before b k ≡ end_of_some s pid p (walk_number (walks_of call) k)

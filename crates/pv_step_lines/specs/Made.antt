@@ -5,12 +5,12 @@ use Rattle.pv_model.specs.declared.place.Place.{Place}
 use Rattle.pv_model.specs.Machine.{answer, AnswerLine, of_trace, Setting, entries_of_table, call_of, program_of, inside, calls_for, next, Process, State, process_at, with_process, Word, gio_word, promise_words, unveil_words, buffer_of, Tree, is_directory_at}
 use Rattle.pv_model.specs.Trace.{gone_lines}
 use Rattle.pv_trace.specs.Steps.{first_lines_of, end_lines_of, moved_by}
-use Rattle.pv_answers.specs.OfUnveil.Up.{directory_of}
+use Rattle.pv_answers.specs.OfUnveil.Up.{directory_of_place}
 use Rattle.pv_step_lines.specs.declared.making.MadeCall.{MadeCall}
 use Rattle.pv_step_lines.specs.declared.making.MadeStep.{MadeStep}
 use Rattle.pv_step_lines.specs.declared.making.MadeStep.TheVariants.{Gone, Register, Call as CallMade}
-use Rattle.pv_step_lines.specs.Before.{IsBefore, place_of}
-use Rattle.pv_step_lines.specs.Moved.{IsMoved}
+use Rattle.pv_step_lines.specs.Before.{IsBefore, place_before}
+use Rattle.pv_step_lines.specs.Moved.{IsEmptyOrSized}
 use Rattle.pv_step_lines.specs.Parts.{promise_part, table_part, moved_part}
 
 -- ---- the lines
@@ -19,13 +19,13 @@ module _ (pid : ℕ) (mine : List Setting) (m : MadeCall) (after : State) where
   abbrev pub first_part_lines : List AnswerLine
   first_part_lines = map of_trace (first_lines_of pid (call_of m.call) m.answer.walks)
 
-  abbrev pub promise_lines : List AnswerLine
-  promise_lines = flat_map (promise_part pid m.before.pledge (call_of m.call)) (promise_words (call_of m.call) m.answer.outcome)
+  abbrev pub promise_check_lines : List AnswerLine
+  promise_check_lines = flat_map (promise_part pid m.before.pledge (call_of m.call)) (promise_words (call_of m.call) m.answer.outcome)
 
   abbrev pub table_lines_of : Option Process → List AnswerLine
   table_lines_of None = []
   table_lines_of (Some q) =
-      flat_map (table_part after.tree (entries_of_table q.table) mine pid (call_of m.call) (place_of m.before m.answer.walks))
+      flat_map (table_part after.tree (entries_of_table q.table) mine pid (call_of m.call) (place_before m.before m.answer.walks))
       (unveil_words (call_of m.call) m.answer.walks m.answer.outcome)
 
   abbrev pub table_lines : List AnswerLine
@@ -35,12 +35,12 @@ module _ (pid : ℕ) (mine : List Setting) (m : MadeCall) (after : State) where
   moved_lines =
       flat_map (moved_part pid after m.before.file (call_of m.call)) (moved_by (buffer_of (process_at after pid)) (call_of m.call) m.answer.outcome)
 
-  abbrev pub last_lines : List AnswerLine
-  last_lines = map of_trace (end_lines_of pid (call_of m.call) m.answer.outcome)
+  abbrev pub lines_at_end : List AnswerLine
+  lines_at_end = map of_trace (end_lines_of pid (call_of m.call) m.answer.outcome)
 
   -- the lines of a call
   unfoldable pub call_made_lines : List AnswerLine
-  call_made_lines = first_part_lines ++ promise_lines ++ table_lines ++ moved_lines ++ last_lines
+  call_made_lines = first_part_lines ++ promise_check_lines ++ table_lines ++ moved_lines ++ lines_at_end
 
 -- the lines of a step
 abbrev pub made_lines : ℕ → List Setting → MadeStep → State → List AnswerLine
@@ -49,10 +49,10 @@ made_lines pid mine (Register line) after = []
 made_lines pid mine (CallMade m) after = call_made_lines pid mine m after
 
 -- the line of the process before the step
-abbrev pub line_of : MadeStep → Option ℕ
-line_of Gone = None
-line_of (Register line) = Some line
-line_of (CallMade m) = Some m.before.line
+abbrev pub line_before_step : MadeStep → Option ℕ
+line_before_step Gone = None
+line_before_step (Register line) = Some line
+line_before_step (CallMade m) = Some m.before.line
 
 -- ---- the step
 
@@ -82,18 +82,18 @@ IsMade s pid (CallMade m) after = IsMadeCall s pid m after
 
 abbrev pub IsInDirectory : Tree → Option Place → Type 0
 IsInDirectory t None = ⊤
-IsInDirectory t (Some place) = IsTrue (is_directory_at t (directory_of place))
+IsInDirectory t (Some place) = IsTrue (is_directory_at t (directory_of_place place))
 
 -- the bytes in a line
-abbrev pub AreMoved : Call → List Word → Type 0
-AreMoved call [] = ⊤
-AreMoved call (gio_word direction bytes ∷ ws) = IsMoved call bytes
-AreMoved call (w ∷ ws) = ⊤
+abbrev pub AreEmptyOrSized : Call → List Word → Type 0
+AreEmptyOrSized call [] = ⊤
+AreEmptyOrSized call (gio_word direction bytes ∷ ws) = IsEmptyOrSized call bytes
+AreEmptyOrSized call (w ∷ ws) = ⊤
 
 -- the place of a refused walk is still in a directory, and the bytes have their size
 pub record IsFitCall (pid : ℕ) (m : MadeCall) (after : State) : Type 0 where
-  pub place : (unveil_words (call_of m.call) m.answer.walks m.answer.outcome ≡ [] → ⊥) → IsInDirectory after.tree (place_of m.before m.answer.walks)
-  pub bytes : AreMoved (call_of m.call) (moved_by (buffer_of (process_at after pid)) (call_of m.call) m.answer.outcome)
+  pub place : (unveil_words (call_of m.call) m.answer.walks m.answer.outcome ≡ [] → ⊥) → IsInDirectory after.tree (place_before m.before m.answer.walks)
+  pub bytes : AreEmptyOrSized (call_of m.call) (moved_by (buffer_of (process_at after pid)) (call_of m.call) m.answer.outcome)
 
 abbrev pub IsFit : ℕ → MadeStep → State → Type 0
 IsFit pid (CallMade m) after = IsFitCall pid m after

@@ -13,5 +13,5 @@ HasSize (Fstat d) bytes = length bytes ≡ 8
 HasSize call bytes = ⊤
 
 -- no bytes, or bytes of that size
-abbrev pub IsMoved : Call → Bytes → Type 0
-IsMoved call bytes = (bytes ≡ []) ⊎ HasSize call bytes
+abbrev pub IsEmptyOrSized : Call → Bytes → Type 0
+IsEmptyOrSized call bytes = (bytes ≡ []) ⊎ HasSize call bytes

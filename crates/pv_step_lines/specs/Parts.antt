@@ -21,8 +21,8 @@ why pid text = answer_line pid (codes "WHY") text
 -- ---- promises
 
 -- the first of the two values of a pledge(2) that is refused
-abbrev pub first_increase : Pledged → Option Promises → Option Promises → Bytes
-first_increase held asked exec_asked =
+abbrev pub refused_increase_text : Pledged → Option Promises → Option Promises → Bytes
+refused_increase_text held asked exec_asked =
     if is_err (narrow_promises (is_lenient held.promises) held.promises asked) then increase_text (codes "promises") asked held.promises
     else increase_text (codes "execpromises") exec_asked held.execpromises
 
@@ -33,7 +33,7 @@ values_asked call = None
 
 abbrev pub increase_by : Pledged → Option (Option Promises × Option Promises) → Bytes
 increase_by held None = []
-increase_by held (Some (asked, exec_asked)) = first_increase held asked exec_asked
+increase_by held (Some (asked, exec_asked)) = refused_increase_text held asked exec_asked
 
 abbrev pub increase_reason : Pledged → Call → Bytes
 increase_reason held call = increase_by held (values_asked call)
@@ -51,19 +51,19 @@ promise_part pid held call word = of_trace (line pid word) ∷ []
 -- ---- the table
 
 -- the origin of an entry
-abbrev pub source_of : List Setting → ℕ → Bytes
-source_of mine k = set_text program_of mine k
+abbrev pub origin_text : List Setting → ℕ → Bytes
+origin_text mine k = set_text program_of mine k
 
 abbrev pub has_text : Table → ℕ → Bytes
 has_text table k = codes "entry " ++ decimal k ++ codes " has " ++ permissions_in_places (permissions_at table k)
 
 abbrev pub widening_by : Table → List Setting → ℕ → Perms → Bytes
-widening_by table mine k asked = has_text table k ++ codes ", asked " ++ permissions_in_places asked ++ source_of mine k
+widening_by table mine k asked = has_text table k ++ codes ", asked " ++ permissions_in_places asked ++ origin_text mine k
 
-abbrev pub found_by : Table → List Setting → Perms → Option ℕ → Bytes
-found_by table mine asked None = codes "no entry"
-found_by table mine asked (Some k) =
-    has_text table k ++ codes ", lacks " ++ permissions_in_places (permissions_lacked (permissions_at table k) asked) ++ source_of mine k
+abbrev pub lacked_text : Table → List Setting → Perms → Option ℕ → Bytes
+lacked_text table mine asked None = codes "no entry"
+lacked_text table mine asked (Some k) =
+    has_text table k ++ codes ", lacks " ++ permissions_in_places (permissions_lacked (permissions_at table k) asked) ++ origin_text mine k
 
 abbrev pub directory_words_by : Tree → ℕ → Option Bytes → Bytes
 directory_words_by t n None = node_words t n
@@ -75,7 +75,7 @@ level_words_of t (Name d name) = codes "name " ++ name_words t d name
 
 module _ (t : Tree) (table : Table) (mine : List Setting) where
   abbrev pub level_text_by : Perms → Level → Bytes
-  level_text_by asked l = level_words_of t l.target ++ codes ": " ++ found_by table mine asked l.entry
+  level_text_by asked l = level_words_of t l.target ++ codes ": " ++ lacked_text table mine asked l.entry
 
   abbrev pub level_lines : ℕ → Perms → List Level → List AnswerLine
   level_lines pid asked ls = map (λ l. why pid (level_text_by asked l)) ls

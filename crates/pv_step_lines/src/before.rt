@@ -1,6 +1,6 @@
 //! The part of the state before a call that its explanation needs.
 ghost use Rattle.std.specs.Prelude.{◌≡◌, IsSome, Some, option_copied};
-ghost use Rattle.pv_step_lines.specs.Before.{IsBefore, place_of};
+ghost use Rattle.pv_step_lines.specs.Before.{IsBefore, place_before};
 ghost use Rattle.pv_step_lines.specs.Before.{path_unveiled, target_before};
 ghost use Rattle.pv_step_lines.specs.Parts.{file_number};
 ghost use Rattle.pv_laws_states.specs.States.{IsValid};
@@ -84,7 +84,7 @@ impl Before {
 
     /// Returns the place at which walk `walk` ended, counted from 1, if it ended at a place.
     pub(crate) fn place(&self, walk: u8) -> Option<&Place>
-        ensures { option_copied result ≡ place_of self.now walk }
+        ensures { option_copied result ≡ place_before self.now walk }
     {
         match walk {
             1 => self.first.as_ref(),

@@ -88,7 +88,7 @@ pub fn write_call<W: Sink>(
 /// # Errors
 ///
 /// `Failed`, if a write failed. The sink received a prefix of the lines.
-#[tactic(auto, using(pv_answers::proofs::Writing::writes_none))]
+#[tactic(auto, using(pv_answers::proofs::WriterContracts::writes_none))]
 pub fn write_made<W: Sink>(
     out: &mut W,
     line_buffer: &mut LineBuffer,

@@ -1,10 +1,10 @@
 //! The derivation of a table's decision on a place, level by level.
 ghost use Rattle.std.specs.Prelude.{◌≡◌, IsTrue};
-ghost use Rattle.pv_step_lines.specs.Basis.{directory_level, level_line, lines_of, name_level, table_of};
+ghost use Rattle.pv_step_lines.specs.Basis.{directory_level, level_line, level_lines_of, name_level, basis_table};
 ghost use Rattle.pv_model.specs.Machine.{permissions_lacked, answer_bytes, answer_line_bytes, entries_of_table, is_directory_at, permissions_at};
 ghost use Rattle.pv_model.specs.Answers.Levels.{directory_levels, levels, name_levels};
 ghost use Rattle.pv_streams.specs.Sinks.{Writes};
-ghost use Rattle.pv_answers.specs.OfUnveil.Up.{directory_of};
+ghost use Rattle.pv_answers.specs.OfUnveil.Up.{directory_of_place};
 
 use crate::origin::Origin;
 use pv_answers::tree::Tree;
@@ -60,9 +60,9 @@ pub(crate) struct OriginText<'a> {
 
 impl<'a> Fragment for OriginText<'a> {
     ghost use Rattle.pv_step_lines.specs.Origin.{settings_in};
-    ghost use Rattle.pv_step_lines.specs.Parts.{source_of};
+    ghost use Rattle.pv_step_lines.specs.Parts.{origin_text};
 
-    ghost text = { λ p. source_of (settings_in p.origins.now) p.entry };
+    ghost text = { λ p. origin_text (settings_in p.origins.now) p.entry };
 
     fn write<W: Sink>(&self, out: &mut W) -> Result<(), Failed> {
         let Some(origin) = self.origins.get(self.entry as usize) else {
@@ -116,9 +116,9 @@ struct FoundText<'a> {
 impl<'a> Fragment for FoundText<'a> {
     ghost use Rattle.pv_model.specs.Calls.Restraints.{entries_of_table};
     ghost use Rattle.pv_step_lines.specs.Origin.{settings_in};
-    ghost use Rattle.pv_step_lines.specs.Parts.{found_by};
+    ghost use Rattle.pv_step_lines.specs.Parts.{lacked_text};
 
-    ghost text = { λ p. found_by (entries_of_table p.table.now.table) (settings_in p.origins.now) p.asked p.entry };
+    ghost text = { λ p. lacked_text (entries_of_table p.table.now.table) (settings_in p.origins.now) p.asked p.entry };
 
     fn write<W: Sink>(&self, out: &mut W) -> Result<(), Failed> {
         let (table, origins) = (self.table, self.origins);
@@ -228,7 +228,7 @@ fn write_directory_levels<W: Sink>(
     directory: u16,
 ) -> Result<(), Failed>
     requires { IsTrue (is_directory_at basis.now.tree.now.tree directory) }
-    ensures { Writes W.Sink (answer_bytes (lines_of basis.now asked (directory_levels basis.now.tree.now.tree (table_of basis.now) directory))) out.old out.new result }
+    ensures { Writes W.Sink (answer_bytes (level_lines_of basis.now asked (directory_levels basis.now.tree.now.tree (basis_table basis.now) directory))) out.old out.new result }
 {
     let mut reached = directory;
     for _level in 0..basis.tree.sizes().inodes + 2 {
@@ -254,7 +254,7 @@ fn write_name_levels<W: Sink>(
     name: &[u8],
 ) -> Result<(), Failed>
     requires { IsTrue (is_directory_at basis.now.tree.now.tree directory) }
-    ensures { Writes W.Sink (answer_bytes (lines_of basis.now asked (name_levels basis.now.tree.now.tree (table_of basis.now) directory name.now))) out.old out.new result }
+    ensures { Writes W.Sink (answer_bytes (level_lines_of basis.now asked (name_levels basis.now.tree.now.tree (basis_table basis.now) directory name.now))) out.old out.new result }
 {
     let entry = basis.table.own_name_entry(directory, name);
     write_name_level(out, basis, asked, directory, name, entry)?;
@@ -279,8 +279,8 @@ pub(crate) fn write_levels<W: Sink>(
     asked: Perms,
     place: &Place,
 ) -> Result<(), Failed>
-    requires { IsTrue (is_directory_at basis.now.tree.now.tree (directory_of place.now)) }
-    ensures { Writes W.Sink (answer_bytes (lines_of basis.now asked (levels basis.now.tree.now.tree (table_of basis.now) place.now))) out.old out.new result }
+    requires { IsTrue (is_directory_at basis.now.tree.now.tree (directory_of_place place.now)) }
+    ensures { Writes W.Sink (answer_bytes (level_lines_of basis.now asked (levels basis.now.tree.now.tree (basis_table basis.now) place.now))) out.old out.new result }
 {
     match place {
         Place::Node(node) => write_directory_levels(out, basis, asked, *node),

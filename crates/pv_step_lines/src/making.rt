@@ -1,6 +1,6 @@
 //! Steps, with the part of the state before them that their explanations need.
 ghost use Rattle.std.specs.Prelude.{◌≡◌, IfOk, IsTrue, OnErr};
-ghost use Rattle.pv_step_lines.specs.Made.{IsFit, IsFitCall, IsMade, IsMadeCall, IsMadeInside, line_of};
+ghost use Rattle.pv_step_lines.specs.Made.{IsFit, IsFitCall, IsMade, IsMadeCall, IsMadeInside, line_before_step};
 ghost use Rattle.pv_laws_states.specs.States.{is_call};
 ghost use Rattle.pv_model.specs.Machine.{call_of, process_at};
 ghost use Rattle.pv_answers.specs.OfProcs.Turns.{CallsNext, RegisterNext};
@@ -39,7 +39,7 @@ pub enum MadeStep<'a> {
 impl<'a> MadeStep<'a> {
     /// Returns the line of the process before the step, if it was live.
     pub fn line(&self) -> Option<u16>
-        ensures { result ≡ line_of self.now }
+        ensures { result ≡ line_before_step self.now }
     {
         match self {
             MadeStep::Gone => None,

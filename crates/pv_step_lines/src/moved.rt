@@ -1,7 +1,7 @@
 //! The meaning of the bytes that a call moved.
 ghost use Rattle.std.specs.Prelude.{◌≡◌, ◌≤◌, ◌++◌, [], ◌∷◌, length, codes, drop, flat_map, option_map, slice_index, take, IfSome};
 ghost use Rattle.pv_step_lines.specs.Parts.{file_at, moved_by_call, moved_part, node_text};
-ghost use Rattle.pv_step_lines.specs.Moved.{HasSize, IsMoved};
+ghost use Rattle.pv_step_lines.specs.Moved.{HasSize, IsEmptyOrSized};
 ghost use Rattle.pv_model.specs.declared.limits.TheConstants.{BUFFER};
 ghost use Rattle.pv_model.specs.Answers.Explain.{ended_words, sort_words, status_words};
 ghost use Rattle.pv_model.specs.Machine.{answer_bytes, answer_line, answer_line_bytes, call_of, number_of, quote};
@@ -215,7 +215,7 @@ pub(crate) fn write_moved_part<W: Sink>(
     reported: Option<(Direction, &[u8])>,
 ) -> Result<(), Failed>
     requires few { IfSome reported (λ moved. length moved.1.now ≤ BUFFER) }
-    requires sizes { IfSome reported (λ moved. IsMoved (call_of call) moved.1.now) }
+    requires sizes { IfSome reported (λ moved. IsEmptyOrSized (call_of call) moved.1.now) }
     ensures { Writes W.Sink (answer_bytes (flat_map (moved_part pid parts.now file (call_of call.entry)) (moved_words_of (option_map (λ moved. (moved.0, moved.1.now)) reported.entry)))) out.old out.new result }
 {
     let Some((direction, bytes)) = reported else {

@@ -1,7 +1,7 @@
 //! The reasons for the decision of a promise or a table.
 ghost use Rattle.std.specs.Prelude.{◌≡◌, codes, flat_map, map, IfSome, IsTrue, Some, option_copied};
 ghost use Rattle.std.specs.Result.{is_err};
-ghost use Rattle.pv_step_lines.specs.Basis.{set_of, sets_of, table_of};
+ghost use Rattle.pv_step_lines.specs.Basis.{settings_of_basis, sets_of, basis_table};
 ghost use Rattle.pv_step_lines.specs.Parts.{increase_by, judgement_lines, promise_part, promise_reason_by, table_part, table_reasons, values_asked, widening_by, why};
 ghost use Rattle.pv_model.specs.Answers.Explain.{asked_set, increase_text, lack_text, need_text};
 ghost use Rattle.pv_model.specs.Machine.{answer_bytes, answer_line_bytes, call_of, needs, is_lenient, narrow_promises, is_directory_at};
@@ -11,7 +11,7 @@ ghost use Rattle.pv_promises.specs.Pledge.{bits_of};
 ghost use Rattle.pv_streams.specs.Sinks.{Writes};
 ghost use Rattle.pv_trace.specs.Reported.{promise_words_of, unveil_words_of};
 ghost use Rattle.pv_trace.specs.Words.{promise_verdict_of, unveil_verdict_of};
-ghost use Rattle.pv_answers.specs.OfUnveil.Up.{directory_of};
+ghost use Rattle.pv_answers.specs.OfUnveil.Up.{directory_of_place};
 
 use crate::levels::{Basis, EntryText, OriginText, write_levels};
 use pv_answers::{Fragment, Letters, Line as AnswerLine, Plain, Pledged};
@@ -128,7 +128,7 @@ fn write_lack<W: Sink>(
     line.write(out)
 }
 
-// Writes the line of one of two values: what was requested and what was held.
+// Writes the line of one of two values: the requested and the held set.
 #[tactic(auto, unfolding(pv_model::specs::Trace::text_line))]
 fn write_value<W: Sink>(
     out: &mut W,
@@ -247,7 +247,7 @@ fn write_widening<W: Sink>(
     entry: u8,
     asked: Perms,
 ) -> Result<(), Failed>
-    ensures { Writes W.Sink (answer_line_bytes (why basis.now.pid (widening_by (table_of basis.now) (set_of basis.now) entry asked))) out.old out.new result }
+    ensures { Writes W.Sink (answer_line_bytes (why basis.now.pid (widening_by (basis_table basis.now) (settings_of_basis basis.now) entry asked))) out.old out.new result }
 {
     let has = EntryText {
         table: basis.table,
@@ -285,8 +285,8 @@ fn write_judgement<W: Sink>(
     asked: Perms,
     place: Option<&Place>,
 ) -> Result<(), Failed>
-    requires { IfSome place (λ place. IsTrue (is_directory_at basis.now.tree.now.tree (directory_of place.now))) }
-    ensures { Writes W.Sink (answer_bytes (judgement_lines basis.now.tree.now.tree (table_of basis.now) (set_of basis.now) basis.now.pid asked (option_copied place.entry))) out.old out.new result }
+    requires { IfSome place (λ place. IsTrue (is_directory_at basis.now.tree.now.tree (directory_of_place place.now))) }
+    ensures { Writes W.Sink (answer_bytes (judgement_lines basis.now.tree.now.tree (basis_table basis.now) (settings_of_basis basis.now) basis.now.pid asked (option_copied place.entry))) out.old out.new result }
 {
     match place {
         Some(place) => write_levels(out, basis, asked, place),
@@ -302,8 +302,8 @@ fn write_table_reasons<W: Sink>(
     place: Option<&Place>,
     verdict: UnveilVerdict,
 ) -> Result<(), Failed>
-    requires { IfSome place (λ place. IsTrue (is_directory_at basis.now.tree.now.tree (directory_of place.now))) }
-    ensures { Writes W.Sink (answer_bytes (table_reasons basis.now.tree.now.tree (table_of basis.now) (set_of basis.now) basis.now.pid (call_of call.entry) (option_copied place.entry) (unveil_verdict_of verdict))) out.old out.new result }
+    requires { IfSome place (λ place. IsTrue (is_directory_at basis.now.tree.now.tree (directory_of_place place.now))) }
+    ensures { Writes W.Sink (answer_bytes (table_reasons basis.now.tree.now.tree (basis_table basis.now) (settings_of_basis basis.now) basis.now.pid (call_of call.entry) (option_copied place.entry) (unveil_verdict_of verdict))) out.old out.new result }
 {
     match (call, verdict) {
         (_, UnveilVerdict::Locked) => write_locked(out, basis.pid),
@@ -330,8 +330,8 @@ pub(crate) fn write_table_part<W: Sink>(
     place: Option<&Place>,
     verdict: UnveilVerdict,
 ) -> Result<(), Failed>
-    requires { IfSome place (λ place. IsTrue (is_directory_at basis.now.tree.now.tree (directory_of place.now))) }
-    ensures { Writes W.Sink (answer_bytes (flat_map (table_part basis.now.tree.now.tree (table_of basis.now) (set_of basis.now) basis.now.pid (call_of call.entry) (option_copied place.entry)) (unveil_words_of (Some verdict)))) out.old out.new result }
+    requires { IfSome place (λ place. IsTrue (is_directory_at basis.now.tree.now.tree (directory_of_place place.now))) }
+    ensures { Writes W.Sink (answer_bytes (flat_map (table_part basis.now.tree.now.tree (basis_table basis.now) (settings_of_basis basis.now) basis.now.pid (call_of call.entry) (option_copied place.entry)) (unveil_words_of (Some verdict)))) out.old out.new result }
 {
     let line = Line {
         pid: basis.pid,

@@ -1,4 +1,5 @@
--- Lemmas of streams: Sinks (output, write by write), Reporting (output, text by text), Sources (input, read by read).
-pub mod Sinks
-pub mod Sources
-pub mod Reporting
+-- Lemmas of streams: SinkWrites (output, write by write), OutputTexts (output, text by text), SourceReads (input, read
+-- by read).
+pub mod SinkWrites
+pub mod SourceReads
+pub mod OutputTexts

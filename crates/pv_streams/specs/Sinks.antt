@@ -12,7 +12,8 @@ and_all written text = option_map (λ had. had ++ text) written
 abbrev pub WritesPrefix : Bytes → Option Bytes → Option Bytes → Type 0
 WritesPrefix text before after = (k : ℕ) × (after ≡ and_front before k text)
 
--- the contract of a writer: it writes the whole text, or it fails after a prefix of the text; the sink counts the failure
+-- the contract of a writer: it writes the complete text, or it fails after a prefix of the text; the sink counts the
+-- failure
 pub record Writes {W T E : Type 0} (sink : Writing W) (text : Bytes) (old new : W) (result : Result T E) : Type 0 where
   pub whole : OnOk result (sink.written new ≡ and_all (sink.written old) text)
   pub prefix : OnErr result (WritesPrefix text (sink.written old) (sink.written new))

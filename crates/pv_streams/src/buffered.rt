@@ -55,7 +55,7 @@ impl<W: Sink + Drop> Buffered<W> {
     }
 
     // Flushes the whole buffer. If a write fails, the bytes that were not written stay in the buffer.
-    #[tactic(auto, using(crate::proofs::Sinks::flushed_part, crate::proofs::Sinks::flushed_all, crate::proofs::Sinks::written_more))]
+    #[tactic(auto, using(crate::proofs::SinkWrites::flushed_part, crate::proofs::SinkWrites::flushed_all, crate::proofs::SinkWrites::written_more))]
     fn flush_buffer(&mut self) -> Result<(), Failed>
         ensures written { and_all (W.written self.new.sink) self.new.waiting.items ≡ and_all (W.written self.old.sink) self.old.waiting.items }
         ensures empty { OnOk result (self.new.waiting.items ≡ []) }
@@ -84,7 +84,7 @@ impl<W: Sink + Drop> Sink for Buffered<W> {
 
     ghost failures = { λ s. W.failures s.sink };
 
-    #[tactic(auto, using(crate::proofs::Sinks::more_buffered, crate::proofs::Sinks::written_nothing))]
+    #[tactic(auto, using(crate::proofs::SinkWrites::more_buffered, crate::proofs::SinkWrites::written_nothing))]
     fn write(&mut self, buffer: &[u8]) -> Result<usize, Failed> {
         let mut bytes = buffer;
         if bytes.len() > CHUNK - self.waiting.len() {

@@ -38,7 +38,7 @@ fn read_some<S: Source>(source: &mut S, chunk: &mut [u8]) -> Result<usize, RunFa
 ///
 /// Returns `Read` if a read fails, or if the source has more than 67,108,864 bytes. Returns `Memory` if memory cannot
 /// be allocated.
-#[tactic(auto, using(crate::proofs::Sources::read_more, crate::proofs::Sources::read_all, crate::proofs::Sources::gave_more))]
+#[tactic(auto, using(crate::proofs::SourceReads::read_more, crate::proofs::SourceReads::read_all, crate::proofs::SourceReads::gave_more))]
 pub fn read_whole<S: Source>(alloc: Global, source: &mut S) -> Result<Vec<u8>, RunFault>
     ensures whole { IfOk result (λ bytes. IfSome (S.remaining source.old) (λ all. all ≡ bytes.items)) }
     ensures size { IfOk result (λ bytes. vec_len bytes ≤ SOURCE_BYTES) }

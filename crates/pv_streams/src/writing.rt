@@ -7,7 +7,7 @@ ghost use Rattle.pv_streams.specs.Sinks.{Writes};
 use pv_model::{Failed, Sink};
 
 // Writes at least one of the bytes. A write of zero bytes from a nonempty slice is an error.
-#[tactic(auto, using(crate::proofs::Sinks::written_nothing))]
+#[tactic(auto, using(crate::proofs::SinkWrites::written_nothing))]
 pub(crate) fn write_some<W: Sink>(sink: &mut W, bytes: &[u8]) -> Result<usize, Failed>
     requires { 0 < length bytes.now }
     ensures some { IfOk result (λ n. 0 < n) }
@@ -28,7 +28,7 @@ pub(crate) fn write_some<W: Sink>(sink: &mut W, bytes: &[u8]) -> Result<usize, F
 /// # Errors
 ///
 /// Returns `Failed` if a write fails. The sink then has received a prefix of `bytes`.
-#[tactic(auto, using(crate::proofs::Sinks::written_more, crate::proofs::Sinks::reports_prefix))]
+#[tactic(auto, using(crate::proofs::SinkWrites::written_more, crate::proofs::SinkWrites::reports_prefix))]
 pub fn write_whole<W: Sink>(sink: &mut W, bytes: &[u8]) -> Result<(), Failed>
     ensures { Writes W.Sink bytes.now sink.old sink.new result }
 {
@@ -44,7 +44,7 @@ pub fn write_whole<W: Sink>(sink: &mut W, bytes: &[u8]) -> Result<(), Failed>
 /// # Errors
 ///
 /// Returns `Failed` if a write or the flush fails. The sink then has received a prefix of `bytes`.
-#[tactic(auto, using(crate::proofs::Sinks::begins_whole))]
+#[tactic(auto, using(crate::proofs::SinkWrites::begins_whole))]
 pub fn write_through<W: Sink>(sink: &mut W, bytes: &[u8]) -> Result<(), Failed>
     ensures written { Writes W.Sink bytes.now sink.old sink.new result }
     ensures empty { OnOk result (W.buffered sink.new ≡ 0) }

@@ -147,7 +147,7 @@ impl Directories for NoFiles {
     }
 }
 
-// Words that make the program write something, and what the standard error receives if the output takes nothing: without
+// Words that make the program write something, and the text on the standard error if the output takes nothing: without
 // arguments, the trace of the bundle on the standard input.
 const WORDS: &[(&[&str], &[u8])] = &[
     (&["pvsim", "--help"], b"pvsim: write\n"),

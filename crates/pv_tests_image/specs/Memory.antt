@@ -2,7 +2,7 @@
 use Rattle.std.specs.Prelude.{ℕ, true, false, [], codes, refl, Option, None, Some, IsTrue}
 use Rattle.pv_model.specs.Machine.{Bytes, Entry, make, further_name, directory_node, file_node, link_node}
 use Rattle.pv_host_copy.specs.declared.entry.Identity.{Identity}
-use Rattle.pv_host_copy.specs.Hosts.{HostEntries, no_more, a_directory, a_file, a_link, is_ordered}
+use Rattle.pv_host_copy.specs.Hosts.{HostEntries, no_more, with_directory, with_file_entry, with_link, is_ordered}
 use Rattle.pv_tests_image.specs.declared.directory.MadeUp.{MadeUp}
 use Rattle.pv_tests_image.specs.declared.directory.MadeUp.TheVariants.{Upper, AfterDirectory, AfterLink, AfterAll, Lower, AfterFirst, AfterBoth}
 use Rattle.pv_tests_image.specs.declared.target.Made.{Made}
@@ -14,27 +14,27 @@ node n = record { device = 1; inode = n }
 -- the entries that remain
 abbrev pub rest_of : MadeUp → HostEntries
 rest_of AfterAll = no_more
-rest_of AfterLink = a_file (codes "x") (node 6) true (codes "exit 0") no_more
-rest_of AfterDirectory = a_link (codes "l") (node 7) (codes "a/one") (a_file (codes "x") (node 6) true (codes "exit 0") no_more)
+rest_of AfterLink = with_file_entry (codes "x") (node 6) true (codes "exit 0") no_more
+rest_of AfterDirectory = with_link (codes "l") (node 7) (codes "a/one") (with_file_entry (codes "x") (node 6) true (codes "exit 0") no_more)
 rest_of Upper =
-    a_directory (codes "a") (a_file (codes "one") (node 5) false (codes "abc") (a_file (codes "two") (node 5) false (codes "abc") no_more))
-    (a_link (codes "l") (node 7) (codes "a/one") (a_file (codes "x") (node 6) true (codes "exit 0") no_more))
+    with_directory (codes "a") (with_file_entry (codes "one") (node 5) false (codes "abc") (with_file_entry (codes "two") (node 5) false (codes "abc") no_more))
+    (with_link (codes "l") (node 7) (codes "a/one") (with_file_entry (codes "x") (node 6) true (codes "exit 0") no_more))
 rest_of AfterBoth = no_more
-rest_of AfterFirst = a_file (codes "two") (node 5) false (codes "abc") no_more
-rest_of Lower = a_file (codes "one") (node 5) false (codes "abc") (a_file (codes "two") (node 5) false (codes "abc") no_more)
+rest_of AfterFirst = with_file_entry (codes "two") (node 5) false (codes "abc") no_more
+rest_of Lower = with_file_entry (codes "one") (node 5) false (codes "abc") (with_file_entry (codes "two") (node 5) false (codes "abc") no_more)
 
 -- the last name that was returned
-abbrev pub last_of : MadeUp → Option Bytes
-last_of Upper = None
-last_of AfterDirectory = Some (codes "a")
-last_of AfterLink = Some (codes "l")
-last_of AfterAll = Some (codes "x")
-last_of Lower = None
-last_of AfterFirst = Some (codes "one")
-last_of AfterBoth = Some (codes "two")
+abbrev pub last_name_returned : MadeUp → Option Bytes
+last_name_returned Upper = None
+last_name_returned AfterDirectory = Some (codes "a")
+last_name_returned AfterLink = Some (codes "l")
+last_name_returned AfterAll = Some (codes "x")
+last_name_returned Lower = None
+last_name_returned AfterFirst = Some (codes "one")
+last_name_returned AfterBoth = Some (codes "two")
 
 -- the names that remain ascend
-pub ascends_from : (d : MadeUp) → IsTrue (is_ordered (last_of d) (rest_of d))
+pub ascends_from : (d : MadeUp) → IsTrue (is_ordered (last_name_returned d) (rest_of d))
 ascends_from Upper = refl
 ascends_from AfterDirectory = refl
 ascends_from AfterLink = refl

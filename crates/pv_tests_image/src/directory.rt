@@ -71,13 +71,13 @@ fn file(inode: u64, executable: bool, bytes: &'static [u8]) -> HostNode<MadeUp, 
 }
 
 impl HostDirectory for MadeUp {
-    ghost use Rattle.pv_tests_image.specs.Memory.{ascends_from, last_of, left_of};
+    ghost use Rattle.pv_tests_image.specs.Memory.{ascends_from, last_name_returned, left_of};
 
     type Reader = MemoryFile;
 
     ghost rest = { λ d. Some (rest_of d) };
 
-    ghost last = { λ d. last_of d };
+    ghost last = { λ d. last_name_returned d };
 
     ghost left = { λ d. left_of d };
 

@@ -1,6 +1,6 @@
 //! A host directory in memory, in which a tree is created.
 ghost use Rattle.std.specs.Prelude.{◌≡◌, [], map, Some};
-ghost use Rattle.pv_host_copy.specs.Created.{Creates, is_absent};
+ghost use Rattle.pv_host_copy.specs.Created.{Creates, has_no_entry};
 ghost use Rattle.pv_model.specs.Machine.{path_of};
 ghost use Rattle.pv_tests_image.specs.Memory.{entry_made};
 
@@ -63,7 +63,7 @@ impl MemoryTarget {
 
     // Returns whether nothing was created at a path.
     fn is_absent(&self, path: &[u8]) -> bool
-        ensures { result ≡ is_absent path.now (map entry_made self.now.made.items) }
+        ensures { result ≡ has_no_entry path.now (map entry_made self.now.made.items) }
     {
         for one in &self.made {
             if one.path() == path {

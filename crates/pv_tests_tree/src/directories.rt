@@ -301,7 +301,7 @@ fn name_of(number: u16) -> [u8; 2]
     [128 + (number / 64) as u8, 128 + (number % 64) as u8]
 }
 
-// Adds as many names as a directory of version 1 can have.
+// Adds the maximum number of names of a directory of version 1.
 fn fill(rt: &impl Abort, files: &mut Directories) {
     for k in 0..2_128u16 {
         expect_add(rt, files, &name_of(k), 1, Ok(()));

@@ -9,7 +9,7 @@ use Rattle.std.proofs.lemmas.List.Sums.{fails_before_first}
 use Rattle.std.specs.Cmp.Lexicographic.{pointwise}
 use Rattle.pv_model.specs.declared.open_flags.OpenFlags.{OpenFlags}
 use Rattle.pv_model.specs.Machine.{Bytes, is_empty, Parsed, is_plain, decimal_of}
-use Rattle.pv_model.specs.Grammar.Arguments.{outside, after_backslash, after_x, hex_value, first_digit, onto_text, if_short, text_rest, in_range, negative_of, number_of, without_front, if_nothing_left}
+use Rattle.pv_model.specs.Grammar.Arguments.{outside, after_backslash, after_x, hex_value, first_digit, onto_text, if_short, text_rest, in_range, negative_of, parsed_number, without_front, if_nothing_left}
 use Rattle.pv_model.specs.Grammar.Lines.{value_from, is_digit, is_decimal, has_leading_zero}
 use Rattle.pv_text.proofs.TextLines.{position_or_len-within}
 use Rattle.pv_text.specs.Reading.{onto_front, IsFront, text_end, up_to_greatest}
@@ -162,7 +162,7 @@ negative_by n (Some m) is some within =
 
 -- a word that is a minus sign and a decimal
 pub negative_is : (word : Bytes) (n : ℕ) → get_or word 0 0 ≡ 45 → Some n ≡ option_map up_to_greatest (decimal_of (take (length word - 1) (drop 1 word)))
-    → (n ≡ 0 → ⊥) → n ≤ 2147483648 → number_of word ≡ Some (negsuc (n - 1))
+    → (n ≡ 0 → ⊥) → n ≤ 2147483648 → parsed_number word ≡ Some (negsuc (n - 1))
 negative_is [] n minus is some within = absurd (omega arith)
 negative_is (b ∷ bs) n minus is some within =
     let t : eqb b 45 ≡ true = eq-eqb b 45 minus in

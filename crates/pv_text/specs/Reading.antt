@@ -28,5 +28,5 @@ abbrev pub up_to_greatest : ℕ → ℕ
 up_to_greatest n = min n 4294967295
 
 -- the number of a decimal word, saturated to 32 bits
-abbrev pub held_of : Bytes → Option ℕ
-held_of word = option_map up_to_greatest (decimal_of word)
+abbrev pub saturated_number : Bytes → Option ℕ
+saturated_number word = option_map up_to_greatest (decimal_of word)

@@ -2,7 +2,7 @@
 ghost use Rattle.std.specs.Prelude.{◌≡◌};
 ghost use Rattle.pv_model.specs.Machine.{text_at, word_at, one_argument, two_arguments};
 ghost use Rattle.pv_model.specs.Grammar.Arguments.{text_or_null_at, operand_at, register_at, number_at, whence_at, origin_at, flags_at, no_argument, three_arguments};
-ghost use Rattle.pv_text.specs.Reading.{held_of};
+ghost use Rattle.pv_text.specs.Reading.{saturated_number};
 
 use crate::lines::after_one_space;
 use crate::texts::{text, text_or_null};
@@ -150,7 +150,7 @@ pub fn origin_text_and_flags(bytes: &[u8]) -> Option<(Origin, Text, OpenFlags)>
 
 // Parses one argument, a decimal number.
 fn one_size(bytes: &[u8]) -> Option<u32>
-    ensures { result ≡ one_argument (word_at held_of) bytes.now }
+    ensures { result ≡ one_argument (word_at saturated_number) bytes.now }
 {
     let (first, rest) = size(after_one_space(bytes)?)?;
     if rest.is_empty() { Some(first) } else { None }
@@ -159,7 +159,7 @@ fn one_size(bytes: &[u8]) -> Option<u32>
 /// Parses two arguments, decimal numbers without leading zeros. A number greater than 4,294,967,295 is parsed as
 /// 4,294,967,295.
 pub fn two_sizes(bytes: &[u8]) -> Option<(u32, u32)>
-    ensures { result ≡ two_arguments (word_at held_of) (word_at held_of) bytes.now }
+    ensures { result ≡ two_arguments (word_at saturated_number) (word_at saturated_number) bytes.now }
 {
     let (first, rest) = size(after_one_space(bytes)?)?;
     let second = one_size(rest)?;
@@ -169,7 +169,7 @@ pub fn two_sizes(bytes: &[u8]) -> Option<(u32, u32)>
 /// Parses two arguments, a text and a decimal number without leading zeros. A number greater than 4,294,967,295 is
 /// parsed as 4,294,967,295.
 pub fn text_and_size(bytes: &[u8]) -> Option<(Text, u32)>
-    ensures { result ≡ two_arguments text_at (word_at held_of) bytes.now }
+    ensures { result ≡ two_arguments text_at (word_at saturated_number) bytes.now }
 {
     let (text, rest) = text(after_one_space(bytes)?)?;
     let size = one_size(rest)?;

@@ -1,9 +1,9 @@
 //! Parsing arguments that are one word: numbers, registers, and the flags of open.
 ghost use Rattle.std.specs.Prelude.{◌≡◌, ◌||◌};
 ghost use Rattle.pv_model.specs.Machine.{word_at, is_empty};
-ghost use Rattle.pv_model.specs.Grammar.Arguments.{register_of, register_at, number_of, number_at, operand_of, operand_at, whence_of, whence_at, origin_of, origin_at, flags_of, flags_at, flag_or_none, without_front, mode_at};
+ghost use Rattle.pv_model.specs.Grammar.Arguments.{register_of, register_at, parsed_number, number_at, operand_of, operand_at, whence_of, whence_at, origin_of, origin_at, parsed_flags, flags_at, flag_or_none, without_front, mode_at};
 ghost use Rattle.pv_model.specs.Grammar.Lines.{has_leading_zero};
-ghost use Rattle.pv_text.specs.Reading.{Reads, held_of};
+ghost use Rattle.pv_text.specs.Reading.{Reads, saturated_number};
 
 use crate::lines::split_word;
 use pv_model::{Mode, OpenFlags, Operand, Origin, Register, Whence};
@@ -17,7 +17,7 @@ fn is_padded(digits: &[u8]) -> bool
 
 /// Parses a decimal number without leading zeros. A number greater than 4,294,967,295 is parsed as 4,294,967,295.
 pub fn decimal(digits: &[u8]) -> Option<u32>
-    ensures { result ≡ held_of digits.now }
+    ensures { result ≡ saturated_number digits.now }
 {
     if is_padded(digits) {
         return None;
@@ -36,7 +36,7 @@ pub fn decimal(digits: &[u8]) -> Option<u32>
 
 // Parses a word as a number of 32 bits.
 fn number_of_word(word: &[u8]) -> Option<i32>
-    ensures { result ≡ number_of word.now }
+    ensures { result ≡ parsed_number word.now }
 {
     match word {
         [b'-', digits @ ..] => {
@@ -148,9 +148,9 @@ fn mode(word: &[u8]) -> Option<(Mode, &[u8])>
 }
 
 // Parses a word as the flags of open.
-#[tactic(auto, unfolding(pv_model::specs::Grammar::Arguments::flags_of))]
+#[tactic(auto, unfolding(pv_model::specs::Grammar::Arguments::parsed_flags))]
 fn flags_of_word(word: &[u8]) -> Option<OpenFlags>
-    ensures { result ≡ flags_of word.now }
+    ensures { result ≡ parsed_flags word.now }
 {
     let (mode, rest) = mode(word)?;
     let (append, rest) = flag(b"+append", rest);
@@ -210,7 +210,7 @@ pub fn whence(bytes: &[u8]) -> Option<(Whence, &[u8])>
 
 /// Parses a decimal number. A number greater than 4,294,967,295 is parsed as 4,294,967,295.
 pub fn size(bytes: &[u8]) -> Option<(u32, &[u8])>
-    ensures { Reads result (word_at held_of bytes.now) }
+    ensures { Reads result (word_at saturated_number bytes.now) }
 {
     let (word, rest) = split_word(bytes);
     let size = decimal(word)?;

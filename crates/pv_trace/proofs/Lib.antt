@@ -1,7 +1,8 @@
--- Lemmas of lines: Lines (the text of lines), Digits (of a number below 100,000), Fronts (the leading bytes of a text
--- that need no escape), Flags (eight texts appended one by one), Paths (prefixes of lists of paths).
-pub mod Digits
-pub mod Flags
-pub mod Fronts
-pub mod Lines
-pub mod Paths
+-- Lemmas of lines: LineTexts (the text of lines), NumberDigits (of a number below 100,000), UnescapedFronts (the
+-- leading bytes of a text that need no escape), JoinedTexts (eight texts appended one by one), PathPrefixes (prefixes
+-- of lists of paths).
+pub mod NumberDigits
+pub mod JoinedTexts
+pub mod UnescapedFronts
+pub mod LineTexts
+pub mod PathPrefixes

@@ -38,18 +38,18 @@ returned_of (Value n) = value_of n
 returned_of (Error errno) = error_of errno
 
 -- the word of the specification
-abbrev pub word_of : Word → TraceWord
-word_of (Call call) = call_word (call_of call)
-word_of (Nami path) = nami_word path.now
-word_of (Pldg call promise verdict) = pldg_word (call_of call) promise (promise_verdict_of verdict)
-word_of (Unvl verdict) = unvl_word (unveil_verdict_of verdict)
-word_of (Gio direction bytes) = gio_word (direction_of direction) bytes.now
-word_of (Ret call returned) = ret_word (call_of call) (returned_of returned)
-word_of Psig = psig_word
-word_of Wait = wait_word
-word_of Gone = gone_word
+abbrev pub trace_word_of : Word → TraceWord
+trace_word_of (Call call) = call_word (call_of call)
+trace_word_of (Nami path) = nami_word path.now
+trace_word_of (Pldg call promise verdict) = pldg_word (call_of call) promise (promise_verdict_of verdict)
+trace_word_of (Unvl verdict) = unvl_word (unveil_verdict_of verdict)
+trace_word_of (Gio direction bytes) = gio_word (direction_of direction) bytes.now
+trace_word_of (Ret call returned) = ret_word (call_of call) (returned_of returned)
+trace_word_of Psig = psig_word
+trace_word_of Wait = wait_word
+trace_word_of Gone = gone_word
 
--- a transfer has at most as many bytes as a buffer
+-- the number of bytes of a transfer is at most the size of a buffer
 abbrev pub HasFewBytes : Word → Type 0
 HasFewBytes (Gio direction bytes) = length bytes.now ≤ BUFFER
 HasFewBytes word = ⊤

@@ -4,7 +4,7 @@ ghost use Rattle.pv_model.specs.Machine.{line};
 ghost use Rattle.pv_model.specs.Trace.{line_bytes};
 ghost use Rattle.pv_trace.specs.declared.line_buffer.TheConstants.{LINE_BYTES, LINE_BUFFER};
 ghost use Rattle.pv_streams.specs.Sinks.{Writes};
-ghost use Rattle.pv_trace.specs.Words.{word_of, HasFewBytes};
+ghost use Rattle.pv_trace.specs.Words.{trace_word_of, HasFewBytes};
 
 use crate::line_buffer::LineBuffer;
 use crate::words::{
@@ -92,11 +92,11 @@ pub struct Line<'a> {
 
 impl<'a> Model for Line<'a> {
     ghost use Rattle.pv_model.specs.Trace.{Line as TraceLine};
-    ghost use Rattle.pv_trace.specs.Words.{word_of, HasFewBytes};
+    ghost use Rattle.pv_trace.specs.Words.{trace_word_of, HasFewBytes};
 
     ghost Value = { TraceLine };
 
-    ghost view = { λ l. record { pid = l.pid; word = word_of l.word } };
+    ghost view = { λ l. record { pid = l.pid; word = trace_word_of l.word } };
 
     ghost invariant = { λ l. HasFewBytes l.word };
 }
@@ -105,7 +105,7 @@ impl<'a> Model for Line<'a> {
 fn put_line(out: &mut LineBuffer, pid: u32, word: &Word)
     requires few { HasFewBytes word.now }
     requires room { length out.old.items + LINE_BYTES ≤ LINE_BUFFER }
-    ensures text { out.new.items ≡ out.old.items ++ line_bytes (line pid (word_of word.now)) }
+    ensures text { out.new.items ≡ out.old.items ++ line_bytes (line pid (trace_word_of word.now)) }
     ensures growth { length out.new.items ≤ length out.old.items + LINE_BYTES }
 {
     match word {

@@ -52,7 +52,7 @@ fn digit(n: u32) -> u8
 }
 
 /// Appends a number in decimal to the line buffer, which must have room for 40 bytes.
-#[tactic(auto, using(std::proofs::lemmas::Fmt::decimal_digit, crate::proofs::Digits::two_digits, crate::proofs::Digits::three_digits, crate::proofs::Digits::four_digits))]
+#[tactic(auto, using(std::proofs::lemmas::Fmt::decimal_digit, crate::proofs::NumberDigits::two_digits, crate::proofs::NumberDigits::three_digits, crate::proofs::NumberDigits::four_digits))]
 pub fn put_decimal(out: &mut LineBuffer, n: u32)
     requires { length out.old.items + 40 ≤ LINE_BUFFER }
     ensures text { out.new.items ≡ out.old.items ++ decimal n }
@@ -106,7 +106,7 @@ fn spaces(count: usize) -> &'static [u8]
 }
 
 // Returns a number of at most five digits, right-aligned in five columns.
-#[tactic(auto, using(std::proofs::lemmas::Fmt::decimal_digit, crate::proofs::Digits::two_digits, crate::proofs::Digits::three_digits, crate::proofs::Digits::four_digits, crate::proofs::Digits::five_digits))]
+#[tactic(auto, using(std::proofs::lemmas::Fmt::decimal_digit, crate::proofs::NumberDigits::two_digits, crate::proofs::NumberDigits::three_digits, crate::proofs::NumberDigits::four_digits, crate::proofs::NumberDigits::five_digits))]
 fn five_places(number: u32) -> [u8; 5]
     requires { number < 100000 }
     ensures { result ≡ pad_left 5 (decimal number) }

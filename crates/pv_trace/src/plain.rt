@@ -37,7 +37,7 @@ fn plain_end(text: &[u8]) -> Option<usize>
 
 // Returns the number of bytes at the start of a text that represent themselves. It tests them one by one.
 #[inline]
-#[tactic(auto, using(crate::proofs::Fronts::front_within, crate::proofs::Fronts::front_same, crate::proofs::Fronts::front_ends))]
+#[tactic(auto, using(crate::proofs::UnescapedFronts::front_within, crate::proofs::UnescapedFronts::front_same, crate::proofs::UnescapedFronts::front_ends))]
 fn plain_front(text: &[u8]) -> usize
     ensures within { result ≤ length text.now }
     ensures same { flat_map quote_byte (take result text.now) ≡ take result text.now }
@@ -48,7 +48,7 @@ fn plain_front(text: &[u8]) -> usize
 
 /// Returns the number of bytes at the start of a text that represent themselves between quotation marks.
 #[inline]
-#[tactic(auto, using(crate::proofs::Fronts::onward_same))]
+#[tactic(auto, using(crate::proofs::UnescapedFronts::onward_same))]
 pub fn plain_count(text: &[u8]) -> usize
     ensures within { result ≤ length text.now }
     ensures same { flat_map quote_byte (take result text.now) ≡ take result text.now }

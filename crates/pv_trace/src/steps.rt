@@ -19,7 +19,7 @@ use pv_streams::{Failed, Sink, write_whole};
 
 // Appends the NAMI lines of a call with one path, at most one. Like the other functions below that append a variable
 // number of lines, it returns that number.
-#[tactic(auto, using(crate::proofs::Paths::take_one))]
+#[tactic(auto, using(crate::proofs::PathPrefixes::take_one))]
 fn put_one_path(out: &mut LineBuffer, pid: u32, path: &Text, walks: u8) -> u8
     requires { length out.old.items + PATH_LINE_BYTES ≤ LINE_BUFFER }
     ensures text { out.new.items ≡ out.old.items ++ trace_bytes (map (path_line pid) (take walks (path.now ∷ []))) }
@@ -36,7 +36,7 @@ fn put_one_path(out: &mut LineBuffer, pid: u32, path: &Text, walks: u8) -> u8
 }
 
 // Appends the NAMI lines of a call with two paths.
-#[tactic(auto, using(crate::proofs::Paths::take_two))]
+#[tactic(auto, using(crate::proofs::PathPrefixes::take_two))]
 fn put_two_paths(out: &mut LineBuffer, pid: u32, first: &Text, second: &Text, walks: u8) -> u8
     requires { length out.old.items + 2 * PATH_LINE_BYTES ≤ LINE_BUFFER }
     ensures text { out.new.items ≡ out.old.items ++ trace_bytes (map (path_line pid) (take walks (first.now ∷ second.now ∷ []))) }
@@ -153,7 +153,7 @@ fn put_end_lines(out: &mut LineBuffer, pid: u32, call: CallRef<'_>, outcome: Out
 }
 
 // Replaces the contents of a line buffer by the lines of a call.
-#[tactic(auto, unfolding(crate::specs::Steps::lines_by), using(crate::proofs::Lines::text_joined))]
+#[tactic(auto, unfolding(crate::specs::Steps::lines_by), using(crate::proofs::LineTexts::text_joined))]
 fn put_lines(
     out: &mut LineBuffer,
     pid: u32,

@@ -6,9 +6,9 @@ use Rattle.pv_model.specs.Answers.Nodes.{least_name}
 use Rattle.pv_laws_trees.proofs.Trees.{ordered, sound, parent-entry, parent-none_named}
 use Rattle.pv_dirs.specs.Listing.{IsNextNameOf}
 use Rattle.pv_tree.specs.NodeNames.{is_after, first_after}
-use Rattle.pv_tree.proofs.Rising.{Named, next-found, not-after_itself}
+use Rattle.pv_tree.proofs.NameOrder.{Named, next-found, not-after_itself}
 
--- all names follow if there is no last one
+-- without a last name, all names follow
 pub first-of_all : (names : List Named) → first_after None names ≡ first_of names
 first-of_all [] = refl
 first-of_all (x ∷ xs) = refl

@@ -1,36 +1,37 @@
 -- Lemmas of the tree with its counts.
 --
--- - Names counts names, Keeping has the nodes that the collection removes, Carrying builds the stored data after every
---   change, Parents has parents
--- - single changes: Counting, Linking, Making (new nodes), Made (the stored data after that), Moving, Contents (the
---   contents of a file), Elsewhere (names that a change does not affect); Rooms (errors), Limits (the sizes of both
---   versions), Entries, Prefix (the tree with only a root)
--- - names of a node: Rising (lists that ascend in the order of names), NextOnes (from one name to the next), LeastNames
---   (the least of all). Lending: runs of borrowed bytes
--- - Copying: the stored data of a copied tree
--- - an existing image: Gathering (the data that a pass over entries has collected so far), Encoding (names and contents
---   are bytes)
-pub mod Entries
-pub mod Limits
-pub mod Names
-pub mod Parents
-pub mod Keeping
-pub mod Carrying
-pub mod Counting
-pub mod Linking
-pub mod Rooms
-pub mod Making
-pub mod Made
-pub mod Moving
-pub mod Elsewhere
-pub mod Prefix
-pub mod Contents
-pub mod Gathering
-pub mod Encoding
-pub mod Rising
-pub mod NextOnes
+-- - NameCounts counts names, CollectedNodes has the nodes that the collection removes, CarriedData builds the stored
+--   data after every change, ParentChanges has parents
+-- - single changes: CollectionCounts, LinkCounts, NodeCreation (new nodes), NewNodeData (the stored data after that),
+--   EntryMoves, ContentChanges (the contents of a file), UnaffectedLookups (names that a change does not affect);
+--   RoomForEntries (errors), VersionSizes (the sizes of both versions), DirectoryEntries, RootTree (the tree with only
+--   a root)
+-- - names of a node: NameOrder (lists that ascend in the order of names), NextNames (from one name to the next),
+--   LeastNames (the least of all). BorrowedRuns: runs of borrowed bytes
+-- - TreeCopies: the stored data of a copied tree
+-- - an existing image: GatheredNames (the data that a pass over entries has collected so far), ImageByteLists (names
+--   and contents are bytes)
+pub mod DirectoryEntries
+pub mod VersionSizes
+pub mod NameCounts
+pub mod ParentChanges
+pub mod CollectedNodes
+pub mod CarriedData
+pub mod CollectionCounts
+pub mod LinkCounts
+pub mod RoomForEntries
+pub mod NodeCreation
+pub mod NewNodeData
+pub mod EntryMoves
+pub mod UnaffectedLookups
+pub mod RootTree
+pub mod ContentChanges
+pub mod GatheredNames
+pub mod ImageByteLists
+pub mod NameOrder
+pub mod NextNames
 pub mod LeastNames
-pub mod Lending
-pub mod Copying
+pub mod BorrowedRuns
+pub mod TreeCopies
 pub use Rattle.pv_dirs.proofs as OfDirs
 pub use Rattle.pv_laws_trees.proofs as OfLawsTrees

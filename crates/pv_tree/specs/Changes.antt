@@ -3,7 +3,7 @@ use Rattle.std.specs.Prelude.{◌≡◌, ◌≢◌, ℕ, [], ◌∷◌, ◌||◌
 use Rattle.pv_model.specs.declared.version.Version.{Version}
 use Rattle.pv_model.specs.Machine.{Bytes, with_content, bytes_of, overwrite, resize, empty_tree, Tree, root, node_at, find_entry, is_directory_at, is_name, with_entry, without_entry}
 use Rattle.pv_dirs.specs.Trees.{without_node}
-pub use Rattle.pv_laws_trees.specs.NewNodes.{new_node, sort_of}
+pub use Rattle.pv_laws_trees.specs.NewNodes.{new_node, kind_of_new}
 
 -- a tree with only a root
 abbrev pub root_alone : Version → ℕ → ℕ → Tree
@@ -30,8 +30,8 @@ pub record IsOtherName (t : Tree) (d : ℕ) (old : Bytes) (e : ℕ) (new : Bytes
   pub name : IsTrue (is_name t.version new)
   pub apart : find_entry t e new ≢ find_entry t d old
 
--- the node of an entry of directory d that is moved to another name, in e, and the node that had this name
-pub record AreMoved (t : Tree) (d : ℕ) (old : Bytes) (e : ℕ) (new : Bytes) (n : ℕ) (replaced : Option ℕ) : Type 0 where
+-- the node of an entry of directory d that is moved to another name, in e, and the previous node of this name
+pub record IsMoveOfEntry (t : Tree) (d : ℕ) (old : Bytes) (e : ℕ) (new : Bytes) (n : ℕ) (replaced : Option ℕ) : Type 0 where
   pub node : find_entry t d old ≡ Some n
   pub gone : replaced ≡ find_entry t e new
 
@@ -41,9 +41,9 @@ overwritten t n at [] = t
 overwritten t n at (b ∷ bytes) = with_content t n (overwrite (bytes_of (node_at t n)) at (b ∷ bytes))
 
 -- the tree after a truncation of a file, or an extension with zeros
-abbrev pub resized : Tree → ℕ → ℕ → Tree
-resized t n size = with_content t n (resize (bytes_of (node_at t n)) size)
+abbrev pub resized_tree : Tree → ℕ → ℕ → Tree
+resized_tree t n size = with_content t n (resize (bytes_of (node_at t n)) size)
 
 -- the tree without node n if it has neither a name nor a reference and is not the root
-abbrev pub settled : Tree → ℕ → ℕ → ℕ → Tree
-settled t n names holds = if (root == n) || (nat_lt 0 names || nat_lt 0 holds) then t else without_node t n
+abbrev pub without_if_unreferenced : Tree → ℕ → ℕ → ℕ → Tree
+without_if_unreferenced t n names holds = if (root == n) || (nat_lt 0 names || nat_lt 0 holds) then t else without_node t n

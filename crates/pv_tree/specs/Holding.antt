@@ -1,7 +1,7 @@
 -- A tree with reference counts.
 use Rattle.std.specs.Prelude.{◌≡◌, ℕ, ◌+◌, ◌-◌, List, slice_index, slice_set}
 use Rattle.pv_model.specs.Machine.{Tree}
-pub use Rattle.pv_laws_trees.specs.ReferenceCounts.{held_numbers, collected}
+pub use Rattle.pv_laws_trees.specs.ReferenceCounts.{referenced_numbers, collected}
 
 -- a tree, and the reference count of each number
 pub record HeldTree : Type 0 where
@@ -17,8 +17,8 @@ abbrev pub IsUnheld : List ℕ → Type 0
 IsUnheld holds = (n : ℕ) → slice_index holds n ≡ 0
 
 -- another tree with the same reference counts
-abbrev pub with_tree : HeldTree → Tree → HeldTree
-with_tree h t = record { tree = t; holds = h.holds }
+abbrev pub held_with_tree : HeldTree → Tree → HeldTree
+held_with_tree h t = record { tree = t; holds = h.holds }
 
 -- another tree without unreferenced nodes, with the same reference counts
 abbrev pub after : HeldTree → Tree → HeldTree

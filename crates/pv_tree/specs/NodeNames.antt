@@ -33,6 +33,6 @@ IsNextNameOfNode t n last next =
     MatchOption next ((other : ℕ × Bytes) → find_entry t other.0 other.1 ≡ Some n → IsFalse (is_after last other)) (IsLeastAfter t n last)
 
 -- the last name behind a reference
-abbrev pub last_of : Option (ℕ × Bor Bytes) → Option (ℕ × Bytes)
-last_of None = None
-last_of (Some (directory, name)) = Some (directory, name.now)
+abbrev pub last_name_of : Option (ℕ × Bor Bytes) → Option (ℕ × Bytes)
+last_name_of None = None
+last_name_of (Some (directory, name)) = Some (directory, name.now)

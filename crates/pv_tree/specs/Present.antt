@@ -45,7 +45,7 @@ stored (Some d) = d
 
 -- the stored data of a tree that may have unreferenced nodes: the parent of each directory, and the number of names of
 -- each node
-pub record IsCounted (t : Tree) (parents names holds : List ℕ) : Type 0 where
+pub record HasTreeCounts (t : Tree) (parents names holds : List ℕ) : Type 0 where
   pub well_formed : IsWellFormed t
   pub few : t.inodes ≤ INODES
   pub fits : IsTrue (fits t)
@@ -60,5 +60,5 @@ pub record IsCounted (t : Tree) (parents names holds : List ℕ) : Type 0 where
 
 -- the same for a tree without unreferenced nodes
 pub record IsTied (t : Tree) (parents names holds : List ℕ) : Type 0 where
-  pub counted : IsCounted t parents names holds
+  pub counted : HasTreeCounts t parents names holds
   pub is_collected : collected t holds ≡ t

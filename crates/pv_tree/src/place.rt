@@ -25,11 +25,11 @@ pub(crate) enum Spot<'a> {
 
 impl<'a> Model for PlaceRef<'a> {
     ghost use Rattle.pv_model.specs.declared.place.Place.{Place};
-    ghost use Rattle.pv_tree.specs.Places.{place_of, IsShort};
+    ghost use Rattle.pv_tree.specs.Places.{place_of_spot, IsShort};
 
     ghost Value = { Place };
 
-    ghost view = { λ p. place_of p.spot };
+    ghost view = { λ p. place_of_spot p.spot };
 
     ghost invariant = { λ p. IsShort p.spot };
 }

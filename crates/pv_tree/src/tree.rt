@@ -7,7 +7,7 @@ ghost use Rattle.std.specs.List.{list_any};
 ghost use Rattle.pv_model.specs.declared.limits.TheConstants.{BLOCK};
 ghost use Rattle.pv_dirs.specs.OfInodes.Sizes.{AreImageSizes};
 ghost use Rattle.pv_dirs.specs.Listing.{IsNextName, IsNextNameOf};
-ghost use Rattle.pv_dirs.specs.Trees.{sort_of, bytes_at};
+ghost use Rattle.pv_dirs.specs.Trees.{kind_of_node, node_bytes_at};
 ghost use Rattle.pv_tree.specs.Changes.{root_alone};
 ghost use Rattle.pv_tree.specs.Holding.{holds_at};
 ghost use Rattle.pv_tree.specs.Present.{IsPresent};
@@ -171,7 +171,7 @@ impl Tree {
     /// Returns the kind of a node.
     pub fn kind(&self, node: u16) -> Kind
         requires { IsSome (node_at self.now.tree node) }
-        ensures { option_map sort_of (node_at self.now.tree node) ≡ Some result }
+        ensures { option_map kind_of_node (node_at self.now.tree node) ≡ Some result }
     {
         self.directories.kind(node)
     }
@@ -297,11 +297,11 @@ impl Tree {
     pub fn lend(&self, node: u16, at: u32) -> &[u8]
         requires used { IsSome (node_at self.now.tree node) }
         requires other { is_directory_at self.now.tree node ≡ false }
-        requires within { at < length (bytes_at self.now.tree node) }
+        requires within { at < length (node_bytes_at self.now.tree node) }
         ensures run { result.now
-            ≡ take (length result.now) (drop at (bytes_at self.now.tree node)) }
+            ≡ take (length result.now) (drop at (node_bytes_at self.now.tree node)) }
         ensures some { 1 ≤ length result.now }
-        ensures within { at + length result.now ≤ length (bytes_at self.now.tree node) }
+        ensures within { at + length result.now ≤ length (node_bytes_at self.now.tree node) }
     {
         self.directories.lend(node, at)
     }
@@ -313,9 +313,9 @@ impl Tree {
         requires used { IsSome (node_at self.now.tree node) }
         requires other { is_directory_at self.now.tree node ≡ false }
         ensures count { result
-            ≡ min (length buffer.old) (length (bytes_at self.now.tree node) - at) }
+            ≡ min (length buffer.old) (length (node_bytes_at self.now.tree node) - at) }
         ensures bytes { buffer.new
-            ≡ take result (drop at (bytes_at self.now.tree node)) ++ drop result buffer.old }
+            ≡ take result (drop at (node_bytes_at self.now.tree node)) ++ drop result buffer.old }
     {
         self.directories.read_at(node, at, buffer)
     }

@@ -1,7 +1,7 @@
--- Lemmas of tables: EntryLemmas and KeyLemmas (entries by number and by key), Climbing (climbs to parent directories),
--- JudgedLemmas (the computed judgement is by the entry that governs).
-pub mod Climbing
-pub mod EntryLemmas
-pub mod JudgedLemmas
-pub mod KeyLemmas
+-- Lemmas of tables: EntryNumbers and EntryKeys (entries by number and by key), ClimbSteps (climbs to parent
+-- directories), ComputedJudgement (the computed judgement is by the entry that governs).
+pub mod ClimbSteps
+pub mod EntryNumbers
+pub mod ComputedJudgement
+pub mod EntryKeys
 pub use Rattle.pv_tree.proofs as OfTree

@@ -10,12 +10,12 @@ abbrev pub up : Tree → ℕ → Option ℕ
 up t d = if d == root then None else parent t d
 
 -- the directory of a place: the one that contains its name, or the node itself if it has no name
-abbrev pub directory_of : Place → ℕ
-directory_of (Unnamed d) = d
-directory_of (At d name n) = d
+abbrev pub directory_of_place : Place → ℕ
+directory_of_place (Unnamed d) = d
+directory_of_place (At d name n) = d
 
 -- a path leads from a directory to a place of a directory
 abbrev pub LeadsToDirectory : Type 0
 LeadsToDirectory =
     (t : Tree) → IsWellFormed t → (follow : Follow) (start : ℕ) (path : Bytes) (place : Place) → IsTrue (is_directory_at t start)
-    → resolve t follow start path ≡ Ok place → IsTrue (is_directory_at t (directory_of place))
+    → resolve t follow start path ≡ Ok place → IsTrue (is_directory_at t (directory_of_place place))

@@ -2,7 +2,7 @@
 ghost use Rattle.std.specs.Prelude.{◌≡◌, ◌<◌, length, IfSome, IsTrue};
 ghost use Rattle.std.specs.Option.{option_or};
 ghost use Rattle.pv_model.specs.Machine.{is_directory_at, directory_rights, entry_for, governing_entry, judge_entry, judgement};
-ghost use Rattle.pv_unveil.specs.Up.{up, directory_of};
+ghost use Rattle.pv_unveil.specs.Up.{up, directory_of_place};
 ghost use Rattle.pv_unveil.specs.Unveiled.{in_force};
 
 use crate::entries::Entries;
@@ -65,7 +65,7 @@ pub(crate) fn name_rights(entries: &Entries, tree: &Tree, directory: u16, name: 
 /// is the entry of the name, or else the one that governs its directory.
 #[tactic(auto, unfolding(pv_model::specs::Unveil::governing_entry))]
 pub(crate) fn governing_entry(entries: &Entries, tree: &Tree, place: &PlaceRef<'_>) -> Option<u8>
-    requires { IsTrue (is_directory_at tree.now.tree (directory_of place.now)) }
+    requires { IsTrue (is_directory_at tree.now.tree (directory_of_place place.now)) }
     ensures value { result ≡ governing_entry tree.now.tree entries.now place.now }
     ensures in_table { IfSome result (λ k. k < length entries.now) }
 {
@@ -105,7 +105,7 @@ pub(crate) fn judge_in(
     place: &PlaceRef<'_>,
     needed: Perms,
 ) -> Judgement
-    requires { IsTrue (is_directory_at tree.now.tree (directory_of place.now)) }
+    requires { IsTrue (is_directory_at tree.now.tree (directory_of_place place.now)) }
     ensures { result ≡ judgement tree.now.tree (in_force entries.now) place.now needed }
 {
     if entries.is_empty() {

@@ -1,7 +1,7 @@
 //! Unveil tables.
 ghost use Rattle.std.specs.Prelude.{◌≡◌, ◌<◌, ◌≤◌, length, OnOk, OnErr, IfOk, IfErr, None, Some, true, false, ◌↔◌, IsTrue, if◌then◌else◌, ◌&&◌, option_map, slice_get, slice_set, IfSome};
 ghost use Rattle.pv_model.specs.Machine.{give, directory_rights, entry_for, permissions_at};
-ghost use Rattle.pv_unveil.specs.Added.{refusal, put_in};
+ghost use Rattle.pv_unveil.specs.Added.{refusal_of_addition, put_in};
 
 use crate::entries::Entries;
 use crate::rights::{governing_entry, judge_in, name_rights};
@@ -44,7 +44,7 @@ fn put(entries: &mut Entries, target: Target, permissions: Perms) -> Result<u8, 
     ensures added { OnOk result (put_in entries.old target permissions ≡ give entries.new) }
     ensures number { IfOk result (λ k. entry_for entries.new target ≡ Some k) }
     ensures permissions { IfOk result (λ k. permissions_at entries.new k ≡ permissions) }
-    ensures refused { IfErr result (λ fault. put_in entries.old target permissions ≡ refusal fault) }
+    ensures refused { IfErr result (λ fault. put_in entries.old target permissions ≡ refusal_of_addition fault) }
     ensures unchanged { OnErr result (entries.new ≡ entries.old) }
 {
     match entries.for_target(&target) {
@@ -72,7 +72,7 @@ impl Table {
     ghost use Rattle.pv_model.specs.Tree.{is_directory_at};
     ghost use Rattle.pv_model.specs.Unveil.{governing_entry, judgement};
     ghost use Rattle.pv_unveil.specs.Judged.{IsJudged};
-    ghost use Rattle.pv_unveil.specs.Up.{directory_of};
+    ghost use Rattle.pv_unveil.specs.Up.{directory_of_place};
     ghost use Rattle.pv_unveil.specs.Added.{add_to};
 
     /// Creates a table without entries and unlocked.
@@ -175,7 +175,7 @@ impl Table {
     /// else by the one that governs its directory. The name of the place must be in a directory of the tree, or its
     /// node must be a directory.
     pub fn governing(&self, tree: &Tree, place: &PlaceRef<'_>) -> Option<u8>
-        requires { IsTrue (is_directory_at tree.now.tree (directory_of place.now)) }
+        requires { IsTrue (is_directory_at tree.now.tree (directory_of_place place.now)) }
         ensures value { result ≡ governing_entry tree.now.tree (entries_of_table self.now.table) place.now }
         ensures in_table { IfSome result (λ k. k < length (entries_of_table self.now.table)) }
     {
@@ -198,7 +198,7 @@ impl Table {
         ensures lock_stays { self.new.locked ≡ self.old.locked }
 
         // The first variant that applies, in the order of `AddFault`.
-        ensures refused { IfErr result (λ fault. add_to self.old target permissions ≡ refusal fault) }
+        ensures refused { IfErr result (λ fault. add_to self.old target permissions ≡ refusal_of_addition fault) }
         ensures unchanged { OnErr result (self.new ≡ self.old) }
     {
         if self.locked {
@@ -232,7 +232,7 @@ impl Table {
     /// governs the place, it is hidden. If the entry lacks a permission, access is denied. The name of the place must
     /// be in a directory of the tree, or its node must be a directory; this holds for each place that a path leads to.
     pub fn judge(&self, tree: &Tree, place: &PlaceRef<'_>, needed: Perms) -> Judgement
-        requires { IsTrue (is_directory_at tree.now.tree (directory_of place.now)) }
+        requires { IsTrue (is_directory_at tree.now.tree (directory_of_place place.now)) }
         ensures value { result ≡ judgement tree.now.tree self.now.table place.now needed }
         ensures by_entry { IsJudged tree.now.tree self.now.table place.now needed result }
     {

@@ -1,10 +1,10 @@
 //! The permissions of a process at the names of a tree, in the order of a listing.
 ghost use Rattle.std.specs.Prelude.{◌≡◌, flat_map, IsTrue};
-ghost use Rattle.pv_answers.specs.Reaching.{lines_within, listed_line, listed_lines, path_of, state_of};
+ghost use Rattle.pv_answers.specs.Reaching.{listed_lines_within, listed_line, listed_lines, linked_path_bytes, reacher_state};
 ghost use Rattle.pv_model.specs.Answers.Reach.{listed_names};
 ghost use Rattle.pv_model.specs.Machine.{listed_path, quote, quote_byte, is_directory_at, IsWellFormed};
 ghost use Rattle.pv_streams.specs.Sinks.{Writes};
-ghost use Rattle.pv_calls_state.specs.OfUnveil.Up.{directory_of};
+ghost use Rattle.pv_calls_state.specs.OfUnveil.Up.{directory_of_place};
 
 use crate::fragments::{Fragment, Plain};
 use crate::lines::Letters;
@@ -26,7 +26,7 @@ pub(crate) enum LinkedPath<'a> {
 
 // Writes the names of a path in escaped form.
 fn write_names<W: Sink>(out: &mut W, path: &LinkedPath<'_>) -> Result<(), Failed>
-    ensures { Writes W.Sink (flat_map quote_byte (path_of path.now)) out.old out.new result }
+    ensures { Writes W.Sink (flat_map quote_byte (linked_path_bytes path.now)) out.old out.new result }
 {
     match path {
         LinkedPath::Root => Ok(()),
@@ -42,7 +42,7 @@ fn write_names<W: Sink>(out: &mut W, path: &LinkedPath<'_>) -> Result<(), Failed
 struct Names<'a>(&'a LinkedPath<'a>);
 
 impl<'a> Fragment for Names<'a> {
-    ghost text = { λ p. flat_map quote_byte (path_of p.0.now) };
+    ghost text = { λ p. flat_map quote_byte (linked_path_bytes p.0.now) };
 
     fn write<W: Sink>(&self, out: &mut W) -> Result<(), Failed> {
         write_names(out, self.0)
@@ -54,7 +54,7 @@ impl<'a> Fragment for Names<'a> {
 struct PathText<'a>(&'a LinkedPath<'a>);
 
 impl<'a> Fragment for PathText<'a> {
-    ghost text = { λ p. quote (listed_path (path_of p.0.now)) };
+    ghost text = { λ p. quote (listed_path (linked_path_bytes p.0.now)) };
 
     fn write<W: Sink>(&self, out: &mut W) -> Result<(), Failed> {
         match self.0 {
@@ -76,8 +76,8 @@ fn write_name<W: Sink>(
     place: &PlaceRef<'_>,
     node: u16,
 ) -> Result<(), Failed>
-    requires { IsTrue (is_directory_at (state_of reacher.now).tree (directory_of place.now)) }
-    ensures { Writes W.Sink (listed_line reacher.now (record { path = path_of path.now; place = place.now; node = node })) out.old out.new result }
+    requires { IsTrue (is_directory_at (reacher_state reacher.now).tree (directory_of_place place.now)) }
+    ensures { Writes W.Sink (listed_line reacher.now (record { path = linked_path_bytes path.now; place = place.now; node = node })) out.old out.new result }
 {
     let entry = governing(reacher, place);
     let letters = Letters(permitted(reacher.owned, entry));
@@ -109,9 +109,9 @@ fn write_within<W: Sink>(
     place: &PlaceRef<'_>,
     node: u16,
 ) -> Result<(), Failed>
-    requires well_formed { IsWellFormed (state_of reacher.now).tree }
-    requires directory { IsTrue (is_directory_at (state_of reacher.now).tree (directory_of place.now)) }
-    ensures { Writes W.Sink (lines_within reacher.now depth (path_of path.now) place.now node) out.old out.new result }
+    requires well_formed { IsWellFormed (reacher_state reacher.now).tree }
+    requires directory { IsTrue (is_directory_at (reacher_state reacher.now).tree (directory_of_place place.now)) }
+    ensures { Writes W.Sink (listed_lines_within reacher.now depth (linked_path_bytes path.now) place.now node) out.old out.new result }
 {
     if depth == 0 {
         return Ok(());
@@ -140,7 +140,7 @@ fn write_within<W: Sink>(
 ///
 /// `Failed`, if a write failed. The sink received a prefix of the lines.
 pub(crate) fn write_listed<W: Sink>(out: &mut W, reacher: &Reacher<'_>) -> Result<(), Failed>
-    ensures { Writes W.Sink (listed_lines reacher.now (listed_names (state_of reacher.now).tree)) out.old out.new result }
+    ensures { Writes W.Sink (listed_lines reacher.now (listed_names (reacher_state reacher.now).tree)) out.old out.new result }
 {
     let depth = reacher.parts.tree().sizes().inodes + 1;
     let place = PlaceRef::of_node(ROOT);

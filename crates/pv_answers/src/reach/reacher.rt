@@ -1,10 +1,10 @@
 //! A process and its permissions by the governing entry.
 ghost use Rattle.std.specs.Prelude.{◌≡◌, ◌<◌, length, option_map, IfSome, IsTrue};
-ghost use Rattle.pv_answers.specs.Reaching.{all_on, descriptor_words, given_by, may_line, opened_at, permitted_by, state_of, table_of, who_by, words_on};
+ghost use Rattle.pv_answers.specs.Reaching.{all_on, descriptor_words, given_by, may_line, opened_at, permitted_by, reacher_state, reacher_table, who_by, words_on};
 ghost use Rattle.pv_model.specs.Machine.{entries_of_table, at_number, is_directory_at, governing_entry};
 ghost use Rattle.pv_model.specs.Promises.{holds};
 ghost use Rattle.pv_streams.specs.Sinks.{Writes};
-ghost use Rattle.pv_calls_state.specs.OfUnveil.Up.{directory_of};
+ghost use Rattle.pv_calls_state.specs.OfUnveil.Up.{directory_of_place};
 
 use crate::fragments::{Fragment, Plain};
 use crate::lines::{Decimal, Line, ModeLetters};
@@ -96,9 +96,9 @@ pub(crate) fn permitted(owned: &ProcessRecord, entry: Option<u8>) -> Perms
 
 /// Returns the entry that governs a place, if there is one. A link at the place is not followed.
 pub(crate) fn governing(reacher: &Reacher<'_>, place: &PlaceRef<'_>) -> Option<u8>
-    requires { IsTrue (is_directory_at (state_of reacher.now).tree (directory_of place.now)) }
-    ensures value { result ≡ governing_entry (state_of reacher.now).tree (entries_of_table (table_of reacher.now)) place.now }
-    ensures in_table { IfSome result (λ k. k < length (entries_of_table (table_of reacher.now))) }
+    requires { IsTrue (is_directory_at (reacher_state reacher.now).tree (directory_of_place place.now)) }
+    ensures value { result ≡ governing_entry (reacher_state reacher.now).tree (entries_of_table (reacher_table reacher.now)) place.now }
+    ensures in_table { IfSome result (λ k. k < length (entries_of_table (reacher_table reacher.now))) }
 {
     let tree = reacher.parts.tree();
     reacher.owned.unveiled.governing(tree, place)

@@ -1,7 +1,7 @@
 //! The permissions of a process where no name of the tree leads: absent names, removed directories, files without a
 //! name.
 ghost use Rattle.std.specs.Prelude.{◌≡◌, ◌<◌, length, IsNone};
-ghost use Rattle.pv_answers.specs.Reaching.{absent_line, absent_lines, directory_lines, is_absent_in, may_line, opened_at, removed_words, state_of, table_of, unnamed_line, unnamed_lines, unnamed_words};
+ghost use Rattle.pv_answers.specs.Reaching.{absent_line, absent_lines, directory_lines, is_absent_in, may_line, opened_at, removed_words, reacher_state, reacher_table, unnamed_line, unnamed_lines, unnamed_words};
 ghost use Rattle.pv_model.specs.Machine.{node_path, entries_of_table, is_removed};
 ghost use Rattle.pv_streams.specs.Sinks.{Writes};
 
@@ -35,7 +35,7 @@ fn is_absent(tree: &Tree, directory: u16, name: &[u8]) -> bool
 
 // Writes the line of a table entry if its target is an absent name. The first entry for that name governs it.
 fn write_absent<W: Sink>(out: &mut W, reacher: &Reacher<'_>, number: u8) -> Result<(), Failed>
-    requires { number < length (entries_of_table (table_of reacher.now)) }
+    requires { number < length (entries_of_table (reacher_table reacher.now)) }
     ensures { Writes W.Sink (absent_line reacher.now number) out.old out.new result }
 {
     let table = &reacher.owned.unveiled;
@@ -129,7 +129,7 @@ fn write_on_unnamed<W: Sink>(
     node: u16,
     descriptor: AndDescriptor,
 ) -> Result<(), Failed>
-    requires { IsNone (node_path (state_of reacher.now).tree node) }
+    requires { IsNone (node_path (reacher_state reacher.now).tree node) }
     ensures { Writes W.Sink (may_line reacher.now (unnamed_words reacher.now node descriptor.number descriptor.mode)) out.old out.new result }
 {
     let tree = reacher.parts.tree();

@@ -9,8 +9,8 @@ ghost use Rattle.pv_model.specs.Machine.{close, dup, dup2, new_open_file, with_c
 ghost use Rattle.pv_calls_state.specs.Attempts.{IsDone};
 ghost use Rattle.pv_calls_state.specs.Changes.{with_closed_descriptor, with_descriptor_at, with_opened_descriptor};
 ghost use Rattle.pv_calls_state.specs.Opening.{CanOpen, IsLeastDescriptor, LacksRoomForFile, MakesFile, OpensNode, References};
-ghost use Rattle.pv_calls_state.specs.Releasing.{at_most, HoldsOpened, Releases};
-ghost use Rattle.pv_procs.specs.ProcessTable.{process_in, update};
+ghost use Rattle.pv_calls_state.specs.Releasing.{at_most_one, HoldsOpened, Releases};
+ghost use Rattle.pv_procs.specs.ProcessTable.{process_in, updated_table};
 ghost use Rattle.pv_procs.specs.OfTree.Holding.{holds_at};
 ghost use Rattle.pv_laws_trees.specs.Tree.{Appears};
 
@@ -46,7 +46,7 @@ pub(super) fn file_at(descriptors: &Descriptors, d: u8) -> Option<usize>
 fn release_some(tree: &mut Tree, files: &mut OpenFiles, file: Option<usize>)
     requires opened { IfSome file (λ k. IsSome (at_number files.old.files k)) }
     requires held { HoldsOpened tree.old files.old }
-    ensures { Releases (at_most file) [] tree.old files.old tree.new files.new }
+    ensures { Releases (at_most_one file) [] tree.old files.old tree.new files.new }
 {
     tree.invariant();
     if let Some(file) = file {
@@ -61,7 +61,7 @@ fn close_descriptor(processes: &mut Processes, pid: u32, d: i32) -> Result<usize
     ensures file { (me : Process) → process_in processes.old pid ≡ Some me
         → result ≡ ok_or (option_map (λ e. e.file) (descriptor_under me.descriptors d)) EBADF }
     ensures closed { OnOk result
-        (processes.new ≡ update processes.old pid (with_closed_descriptor d)) }
+        (processes.new ≡ updated_table processes.old pid (with_closed_descriptor d)) }
     ensures unchanged { OnErr result (processes.new ≡ processes.old) }
 {
     processes.invariant();
@@ -81,7 +81,7 @@ fn give_descriptor(
         → d ≡ least_free me.descriptors) }
     ensures in_range { IfOk result (λ d. d < DESCRIPTORS) }
     ensures given { OnOk result
-        (processes.new ≡ update processes.old pid (with_opened_descriptor file close_on_exec)) }
+        (processes.new ≡ updated_table processes.old pid (with_opened_descriptor file close_on_exec)) }
     ensures errno { IfErr result (λ e. e ≡ EMFILE) }
     ensures full { OnErr result (IsLeastDescriptor (process_in processes.old pid) DESCRIPTORS) }
     ensures unchanged { OnErr result (processes.new ≡ processes.old) }
@@ -97,7 +97,7 @@ fn give_descriptor(
 fn set_descriptor(processes: &mut Processes, pid: u32, number: u8, file: usize)
     requires live { IsSome (process_in processes.old pid) }
     requires in_range { number < DESCRIPTORS }
-    ensures { processes.new ≡ update processes.old pid (with_descriptor_at number file) }
+    ensures { processes.new ≡ updated_table processes.old pid (with_descriptor_at number file) }
 {
     processes.record_mut(pid).descriptors.set(number, file);
 }
@@ -277,7 +277,7 @@ fn open_node(
     ensures files { files.new
         ≡ with_opened files.old (least_free files.old.files) (new_open_file flags node) }
     ensures number { IsLeastDescriptor (process_in processes.old pid) result }
-    ensures processes { processes.new ≡ update processes.old pid
+    ensures processes { processes.new ≡ updated_table processes.old pid
         (with_opened_descriptor (least_free files.old.files) flags.close_on_exec) }
 {
     let Ok(file) = files.add(node, flags.mode, flags.append) else {

@@ -2,7 +2,7 @@
 ghost use Rattle.std.specs.Prelude.{◌≡◌, if◌then◌else◌, ℕ, ◌+◌, ◌<◌, ◌≤◌, [], IsSome, is_some, OnErr, Some, option_map, slice_index};
 ghost use Rattle.pv_laws_states.specs.States.{IsValid};
 ghost use Rattle.pv_model.specs.Machine.{update, end_process, fork, wait, with_program, collect, held_by_table, at_number, Process, process_at, node_at};
-ghost use Rattle.pv_calls_state.specs.Attempts.{IsDone, collected};
+ghost use Rattle.pv_calls_state.specs.Attempts.{IsDone, collected_attempt};
 ghost use Rattle.pv_calls_state.specs.Counts.{times};
 ghost use Rattle.pv_calls_state.specs.Releasing.{files_on, if_marked, marked_of, HoldsOpened, Releases, Shares, Unreferences};
 ghost use Rattle.pv_procs.specs.Reaping.{waited};
@@ -51,7 +51,7 @@ impl Parts {
     pub fn reap(&mut self, pid: u32) -> Reap
         requires { IsSome (process_at self.old pid) }
         ensures performed { (me : Process) → process_at self.old pid ≡ Some me
-            → collected (wait self.old pid me) ≡ waited result self.new }
+            → collected_attempt (wait self.old pid me) ≡ waited result self.new }
         ensures blocked { result ≡ Reap.Blocked → self.new ≡ self.old }
         ensures unchanged { result ≡ Reap.NoChild → self.new ≡ self.old }
     {

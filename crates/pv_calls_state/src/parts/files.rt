@@ -5,7 +5,7 @@ ghost use Rattle.pv_model.specs.declared.limits.TheConstants.{BUFFER};
 ghost use Rattle.pv_model.specs.Machine.{with_file, at_number, is_file, process_at, node_at};
 ghost use Rattle.pv_calls_state.specs.Changes.{ChangesTree};
 ghost use Rattle.pv_calls_state.specs.Writing.{IsOnFile, LacksRoomForFront, WritesFront};
-ghost use Rattle.pv_procs.specs.OfTree.Changes.{resized};
+ghost use Rattle.pv_procs.specs.OfTree.Changes.{resized_tree};
 
 use super::Parts;
 use pv_model::Name;
@@ -66,7 +66,7 @@ impl Parts {
     pub fn resize(&mut self, node: u16, size: u32) -> Result<(), Space>
         requires whole { IsValid self.old }
         requires file { IsTrue (is_file (node_at self.old.tree node)) }
-        ensures { ChangesTree result self.old self.new (resized self.old.tree node size) }
+        ensures { ChangesTree result self.old self.new (resized_tree self.old.tree node size) }
     {
         self.tree.invariant();
         self.files.invariant();

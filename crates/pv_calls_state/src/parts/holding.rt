@@ -5,9 +5,9 @@ ghost use Rattle.pv_laws_states.specs.States.{IsValid};
 ghost use Rattle.pv_model.specs.Machine.{update, give, entries_of_table, collect, Process, process_at, node_at, target_directory};
 ghost use Rattle.pv_calls_state.specs.Changes.{AddsEntry, Unveils, unveiled_of, with_directory};
 ghost use Rattle.pv_calls_state.specs.Counts.{times};
-ghost use Rattle.pv_procs.specs.ProcessTable.{process_in, update as process_updated};
+ghost use Rattle.pv_procs.specs.ProcessTable.{process_in, updated_table as process_updated};
 ghost use Rattle.pv_procs.specs.OfTree.Holding.{holds_at};
-ghost use Rattle.pv_procs.specs.OfUnveil.Added.{add_to, refusal};
+ghost use Rattle.pv_procs.specs.OfUnveil.Added.{add_to, refusal_of_addition};
 
 use super::Parts;
 use pv_model::{Perms, Target};
@@ -43,7 +43,7 @@ fn add_to_table(table: &mut Table, target: Target, permissions: Perms) -> Result
         (λ is_new. is_new ≡ nat_lt (length (entries_of_table table.old.table))
         (length (entries_of_table table.new.table))) }
     ensures lock_stays { table.new.locked ≡ table.old.locked }
-    ensures refused { IfErr result (λ fault. add_to table.old target permissions ≡ refusal fault) }
+    ensures refused { IfErr result (λ fault. add_to table.old target permissions ≡ refusal_of_addition fault) }
     ensures unchanged { OnErr result (table.new ≡ table.old) }
 {
     let count = table.len();
@@ -65,7 +65,7 @@ fn add_entry(
         → AddsEntry processes.old pid me target permissions is_new processes.new) }
     ensures refused { IfErr result
         (λ fault. (me : Process) → process_in processes.old pid ≡ Some me
-        → add_to (unveiled_of me) target permissions ≡ refusal fault) }
+        → add_to (unveiled_of me) target permissions ≡ refusal_of_addition fault) }
     ensures unchanged { OnErr result (processes.new ≡ processes.old) }
 {
     processes.invariant();
@@ -116,7 +116,7 @@ impl Parts {
             → Unveils self.old pid me target permissions self.new) }
         ensures refused { IfErr result
             (λ fault. (me : Process) → process_at self.old pid ≡ Some me
-            → add_to (unveiled_of me) target permissions ≡ refusal fault) }
+            → add_to (unveiled_of me) target permissions ≡ refusal_of_addition fault) }
         ensures unchanged { OnErr result (self.new ≡ self.old) }
     {
         self.tree.invariant();

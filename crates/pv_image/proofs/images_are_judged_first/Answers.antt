@@ -1,5 +1,5 @@
-use Rattle.pv_image.proofs.Migrations.{to-fault, from-fault}
+use Rattle.pv_image.proofs.MigrationResults.{to-error, from-error}
 use Rattle.pv_image.proofs.images_are_judged_first.Goals as goal
 
 pub returns : goal.returns
-returns c = λ bytes blocks inodes fault. (to-fault bytes blocks inodes fault, from-fault bytes blocks inodes fault)
+returns c = λ bytes blocks inodes fault. (to-error bytes blocks inodes fault, from-error bytes blocks inodes fault)

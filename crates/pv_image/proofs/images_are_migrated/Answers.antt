@@ -1,4 +1,4 @@
-use Rattle.pv_image.proofs.Migrations.{to-migrates, from-migrates}
+use Rattle.pv_image.proofs.MigrationResults.{to-migrates, from-migrates}
 use Rattle.pv_image.proofs.images_are_migrated.Goals as goal
 
 pub returns : goal.returns

@@ -1,4 +1,4 @@
-use Rattle.pv_image.proofs.Migrations.{to-lacks, from-lacks}
+use Rattle.pv_image.proofs.MigrationResults.{to-lacks, from-lacks}
 use Rattle.pv_image.proofs.small_lacks_room.Goals as goal
 
 pub returns : goal.returns

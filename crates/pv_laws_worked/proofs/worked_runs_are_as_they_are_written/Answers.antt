@@ -69,7 +69,7 @@ returns c = record {
     programs_are_files = Compared.programs_are_files;
     not_all_pairs = Compared.not_all_pairs;
     an_empty_pledge = Compared.an_empty_pledge;
-    an_image_beside_itself = Compared.an_image_beside_itself;
+    an_image_and_itself = Compared.an_image_and_itself;
   };
   errors = record {
     of_pledge = Errors.of_pledge;
@@ -224,9 +224,9 @@ returns c = record {
     openat_removed = Openat.openat_removed;
   };
   policies = record {
-    letters_that_are_new = Policies.letters_that_are_new;
+    permissions_that_are_new = Policies.permissions_that_are_new;
     either_of_two = Policies.either_of_two;
-    either_beside_wpath = Policies.either_beside_wpath;
+    either_with_wpath = Policies.either_with_wpath;
     rpath_itself = Policies.rpath_itself;
     idle_promises = Policies.idle_promises;
     idle_permissions = Policies.idle_permissions;
@@ -280,10 +280,10 @@ returns c = record {
     nothing_that_counts = Sources.nothing_that_counts;
     sizes_come_first = Sources.sizes_come_first;
     each_line_is_judged = Sources.each_line_is_judged;
-    labels_at_fault = Sources.labels_at_fault;
-    faults_of_the_tree = Sources.faults_of_the_tree;
+    labels_in_error = Sources.labels_in_error;
+    errors_of_the_tree = Sources.errors_of_the_tree;
     sources_with_init_as_directory = Sources.sources_with_init_as_directory;
-    exec_at_fault = Sources.exec_at_fault;
+    exec_in_error = Sources.exec_in_error;
     twenty_are_reported = Sources.twenty_are_reported;
     instructions_too_many = Sources.instructions_too_many;
   };

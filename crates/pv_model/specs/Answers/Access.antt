@@ -1,5 +1,5 @@
--- The text of `access`: which process can access what, under any schedule.
-use Rattle.std.specs.Prelude.{ℕ, pos, Bool, true, false, not, ◌&&◌, ◌==◌, if◌then◌else◌, List, [], ◌∷◌, ◌++◌, map, flat_map, filter, filter_map, codes, Option, None, Some, is_none, option_map, option_and_then, option_to_list}
+-- The text of `access`: the accesses of each process under any schedule.
+use Rattle.std.specs.Prelude.{ℕ, pos, Bool, true, false, not, ◌&&◌, ◌==◌, if◌then◌else◌, List, [], ◌++◌, map, filter, filter_map, codes, Option, None, Some, is_none, option_map, option_and_then, option_to_list}
 use Rattle.std.specs.List.{list_any}
 use Rattle.pv_model.specs.declared.call.Call.{Call}
 use Rattle.pv_model.specs.declared.call.Call.TheVariants.{Execve, Open, OpenAt, Read, Write, Ftruncate, Mkdir, Symlink, Link, Unlink, Rmdir, Rename}
@@ -9,18 +9,15 @@ use Rattle.pv_model.specs.declared.open_flags.OpenFlags.{OpenFlags}
 use Rattle.pv_model.specs.declared.outcome.Outcome.{Outcome}
 use Rattle.pv_model.specs.declared.outcome.Outcome.TheVariants.{Value, Text, Failed}
 use Rattle.pv_model.specs.declared.place.Place.{Place}
-use Rattle.pv_model.specs.Answers.Explore.{is_complete, done_line}
 use Rattle.pv_model.specs.Answers.Files.{node_brief, named_files}
-use Rattle.pv_model.specs.Answers.Lines.{AnswerLine, answer_line, answer_line_bytes}
-use Rattle.pv_model.specs.Answers.Nodes.{name_words}
-use Rattle.pv_model.specs.Answers.Observed.{Observation, of_calls, observations, first_observations, observation_lines}
+use Rattle.pv_model.specs.Answers.Lines.{AnswerLine, answer_line}
+use Rattle.pv_model.specs.Answers.Observed.{of_calls, observations}
 use Rattle.pv_model.specs.Bytes.{Bytes}
 use Rattle.pv_model.specs.Calls.Paths.{same_node}
 use Rattle.pv_model.specs.Effect.{node_of, name_of, open_file}
 use Rattle.pv_model.specs.State.{Program, Process, State, process_at}
 use Rattle.pv_model.specs.Step.{Stepped}
 use Rattle.pv_model.specs.Touch.{Touch, read_file, change_file, change_entry, report_node, gain_descriptor, descriptor_of, flags_of, places, reports_of_place, reports_of_descriptor, has_succeeded}
-use Rattle.pv_model.specs.Trace.{mode_text}
 use Rattle.pv_model.specs.Tree.{root, find_entry}
 
 -- an access of a call to a file, a name, a node or a new descriptor
@@ -70,7 +67,7 @@ module _ (s : State) (p : Process) where
   abbrev pub node_of_descriptor : Call → List ℕ
   node_of_descriptor call = option_to_list (option_map (λ file. file.1.node) (option_and_then (open_file s p) (descriptor_of call)))
 
-  -- the file that a read returns bytes of, or that an execve finds not to parse as a program
+  -- the file whose bytes a read returns, or that an execve cannot parse as a program
   abbrev pub nodes_read : Call → Outcome → List ℕ
   nodes_read (Read d n) (Text taken) = if taken.len == 0 then [] else node_of_descriptor (Read d n)
   nodes_read (Execve path) (Failed ENOEXEC cause) = nodes_of_places (Execve path)
@@ -80,7 +77,7 @@ module _ (s : State) (p : Process) where
   nodes_executed (Execve path) (Value n) = nodes_of_places (Execve path)
   nodes_executed call _ = []
 
-  -- the file that a call writes at least one byte to, or gives a length
+  -- the file to which a call writes at least one byte, or whose length it sets
   abbrev pub nodes_written : Call → Outcome → List ℕ
   nodes_written (Write d n) (Value count) = if count == 0 then [] else node_of_descriptor (Write d n)
   nodes_written (Ftruncate d n) (Value count) = node_of_descriptor (Ftruncate d n)
@@ -128,19 +125,6 @@ module _ (s : State) (pid : ℕ) (p : Process) (call : Call) (now : Stepped) whe
       ++ map writes (nodes_written s p call now.outcome)
       ++ (if has_succeeded now.outcome then accesses_by_success else [])
 
-  -- the line of an access, with the words of the state before the call, or after it for a new descriptor
-  abbrev pub access_line : Access → AnswerLine
-  access_line (reads f) = answer_line pid (codes "READ") (node_brief s.tree f)
-  access_line (executes f) = answer_line pid (codes "EXEC") (node_brief s.tree f)
-  access_line (writes f) = answer_line pid (codes "WRIT") (node_brief s.tree f)
-  access_line (changes_name d name) = answer_line pid (codes "NAME") (name_words s.tree d name)
-  access_line (reports n) = answer_line pid (codes "TELL") (node_brief s.tree n)
-  access_line (opens n mode) = answer_line pid (codes "OPEN") (mode_text mode ++ codes " " ++ node_brief now.after.tree n)
-
-  -- the accesses of a call, as lines
-  abbrev pub lines_of_accesses : List AnswerLine
-  lines_of_accesses = map access_line accesses
-
 -- ---- the lines
 
 -- the file whose bytes an access depends on
@@ -150,10 +134,6 @@ file_read (executes f) = Some f
 file_read _ = None
 
 module _ (program_of : Bytes → Option Program) (limit : ℕ) (s : State) where
-  -- the accesses of all steps, each with its first step
-  abbrev pub reported_accesses : List (Observation AnswerLine)
-  reported_accesses = first_observations answer_line_bytes (observations (of_calls lines_of_accesses) program_of limit s)
-
   -- the files that some step reads or executes
   abbrev pub files_read : List ℕ
   files_read = filter_map (λ o. file_read o.item) (observations (of_calls accesses) program_of limit s)
@@ -167,9 +147,3 @@ module _ (program_of : Bytes → Option Program) (limit : ℕ) (s : State) where
 
   abbrev pub unread_line : ℕ → AnswerLine
   unread_line n = answer_line 0 (codes "UNRD") (node_brief s.tree n)
-
-  unfoldable pub access_lines : List AnswerLine
-  access_lines =
-      flat_map (observation_lines (λ l. l ∷ [])) reported_accesses
-      ++ (if is_complete program_of limit s then map unread_line unread_files else [])
-      ++ done_line program_of limit s ∷ []

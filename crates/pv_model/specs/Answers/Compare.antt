@@ -6,7 +6,7 @@ use Rattle.pv_model.specs.Answers.Explore.{completeness_text, witness_text}
 use Rattle.pv_model.specs.Answers.Lines.{AnswerLine, answer_line, of_trace}
 use Rattle.pv_model.specs.Answers.Numbers.{same_state}
 use Rattle.pv_model.specs.Answers.Observed.{is_pledge, is_unveil}
-use Rattle.pv_model.specs.Answers.Search.{with_move, search, is_closed}
+use Rattle.pv_model.specs.Answers.Search.{with_element, search, is_closed}
 use Rattle.pv_model.specs.Bytes.{Bytes}
 use Rattle.pv_model.specs.Program.{Next, inside, calls_for, next}
 use Rattle.pv_model.specs.State.{Program, Process, State, process_at}
@@ -40,11 +40,11 @@ same_pair a b = same_state a.first b.first && same_state a.second b.second
 abbrev pub pair_after : PairMove → Pair
 pair_after m = record { first = m.first.after; second = m.second.after }
 
-abbrev pub found_by : PairMove → FoundPair
-found_by m = record { witness = m.witness; states = pair_after m }
+abbrev pub pair_found_by : PairMove → FoundPair
+pair_found_by m = record { witness = m.witness; states = pair_after m }
 
-abbrev pub is_found : PairMove → List FoundPair → Bool
-is_found m found = list_any (λ f. same_pair f.states (pair_after m)) found
+abbrev pub is_pair_found : PairMove → List FoundPair → Bool
+is_pair_found m found = list_any (λ f. same_pair f.states (pair_after m)) found
 
 abbrev pub is_live : State → ℕ → Bool
 is_live s pid = is_some (process_at s pid)
@@ -94,16 +94,16 @@ module _ (program_of : Bytes → Option Program) where
   module _ (limit : ℕ) where
     -- the comparison of moves in the order of the search, with the pairs visited before them
     abbrev pub compared_from : List FoundPair → List PairMove → Comparison
-    compared_from found [] = alike (is_closed pair_moves found_by is_found limit found) (length found)
+    compared_from found [] = alike (is_closed pair_moves pair_found_by is_pair_found limit found) (length found)
     compared_from found (m ∷ ms) =
         if differs m then different m (length found)
-        else compared_from (with_move pair_moves found_by is_found limit found m) ms
+        else compared_from (with_element pair_moves pair_found_by is_pair_found limit found m) ms
 
     -- the comparison of all steps that schedules make from two states
     unfoldable pub comparison : State → State → Comparison
     comparison s t =
         let start : FoundPair = record { witness = []; states = record { first = s; second = t } } in
-        compared_from (start ∷ []) (flat_map pair_moves (search pair_moves found_by is_found limit start))
+        compared_from (start ∷ []) (flat_map pair_moves (search pair_moves pair_found_by is_pair_found limit start))
 
 -- ---- the lines
 

@@ -193,7 +193,7 @@ module _ (program_of : Bytes → Option Program) where
   location_at None = []
   location_at (Some p) = codes ", line " ++ decimal p.line
 
-  -- the number of a step, and the line that its process is at
+  -- the number of a step, and the line of its process
   abbrev pub step_line : ℕ → State → ℕ → AnswerLine
   step_line k s pid = answer_line pid (codes "STEP") (decimal k ++ location_at (process_at s pid))
 

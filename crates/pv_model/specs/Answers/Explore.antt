@@ -46,14 +46,14 @@ module _ (program_of : Bytes → Option Program) where
   module _ (limit : ℕ) where
     -- the visited states after a step, which adds its next state if that is new and the limit is not reached
     abbrev pub with_move : List Found → Move → List Found
-    with_move found m = Search.with_move moves_of found_by leads_back limit found m
+    with_move found m = Search.with_element moves_of found_by leads_back limit found m
 
     abbrev pub found_after : (List Found → List Found) → List Found → Option Found → List Found
-    found_after rest found f = Search.found_after moves_of found_by leads_back limit rest found f
+    found_after rest found f = Search.elements_after moves_of found_by leads_back limit rest found f
 
-    -- the visited states after the steps from `states` more of them, beginning with number k
+    -- the visited states after the steps from the next `states` states, beginning with number k
     abbrev pub found_from : ℕ → ℕ → List Found → List Found
-    found_from states k found = Search.found_from moves_of found_by leads_back limit states k found
+    found_from states k found = Search.elements_from moves_of found_by leads_back limit states k found
 
     -- the states that steps reach from a state, each once, in breadth-first order, up to the limit
     unfoldable pub states_found : State → List Found
@@ -71,16 +71,16 @@ module _ (program_of : Bytes → Option Program) where
 
 module _ {X : Type 0} (key : X → Numbers) where
   -- the elements whose key equals neither an earlier element's key nor one of the given keys
-  abbrev pub new_ones : List Numbers → List X → List X
-  new_ones had [] = []
-  new_ones had (x ∷ xs) = if list_any (bytes_eq (key x)) had then new_ones had xs else x ∷ new_ones (key x ∷ had) xs
+  abbrev pub elements_with_new_keys : List Numbers → List X → List X
+  elements_with_new_keys had [] = []
+  elements_with_new_keys had (x ∷ xs) = if list_any (bytes_eq (key x)) had then elements_with_new_keys had xs else x ∷ elements_with_new_keys (key x ∷ had) xs
 
 abbrev pub move_text : Move → Bytes
 move_text m = trace_bytes m.stepped.lines
 
 -- the steps whose text no earlier step has
 abbrev pub reported_moves : List Move → List Move
-reported_moves ms = new_ones move_text ([] ∷ []) ms
+reported_moves ms = elements_with_new_keys move_text ([] ∷ []) ms
 
 -- one more step before turns
 abbrev pub onto_turns : ℕ → Schedule → Schedule
@@ -113,7 +113,7 @@ has_ended s = is_empty (live_processes s.processes)
 
 -- the distinct trees of the visited states without live processes
 abbrev pub endings : List Found → List Tree
-endings found = new_ones tree_numbers [] (map (λ f. named_tree f.state.tree) (filter (λ f. has_ended f.state) found))
+endings found = elements_with_new_keys tree_numbers [] (map (λ f. named_tree f.state.tree) (filter (λ f. has_ended f.state) found))
 
 abbrev pub completeness_text : Bool → Bytes
 completeness_text true = codes "complete"

@@ -45,19 +45,19 @@ abbrev pub leak_of : Located → ℕ → List Why → List Leak
 leak_of l f [] = []
 leak_of l f (why ∷ whys) = record { at = l; file = node_brief l.found.state.tree f; why = why } ∷ []
 
--- the files of a state that a process is not closed to
+-- the files of a state to which a process is not closed
 abbrev pub leaks_at : Located → List Leak
 leaks_at l = flat_map (λ f. leak_of l f (leaks l.found.state l.process f)) (files_of_tree l.found.state.tree)
 
-abbrev pub line_of : Leak → ℕ
-line_of leak = leak.at.process.line
+abbrev pub leak_line : Leak → ℕ
+leak_line leak = leak.at.process.line
 
 abbrev pub greatest_line : List Leak → ℕ
-greatest_line ls = fold max 0 (map line_of ls)
+greatest_line ls = fold max 0 (map leak_line ls)
 
 -- the first leak at the greatest line
 abbrev pub last_leak : List Leak → Option Leak
-last_leak ls = first_of (filter (λ leak. line_of leak == greatest_line ls) ls)
+last_leak ls = first_of (filter (λ leak. leak_line leak == greatest_line ls) ls)
 
 -- ---- ranges of lines
 
@@ -76,7 +76,7 @@ range_text (from, to) = if from == to then decimal from else decimal from ++ cod
 
 -- the lines of leaks, each once, by number
 abbrev pub lines_leaking : List Leak → List ℕ
-lines_leaking ls = filter (among (map line_of ls)) (range_with_len 1 (greatest_line ls))
+lines_leaking ls = filter (among (map leak_line ls)) (range_with_len 1 (greatest_line ls))
 
 abbrev pub ranges_text : List Leak → Bytes
 ranges_text ls = join_by range_text (codes ", ") (in_ranges (lines_leaking ls))
@@ -101,7 +101,7 @@ abbrev pub is_closed_to : ℕ → Located → Bool
 is_closed_to f l = not (is_file_at l.found.state.tree f) || is_empty (leaks l.found.state l.process f)
 
 module _ (program_of : Bytes → Option Program) (limit : ℕ) (s : State) where
-  -- the files of the first tree that every process of a program is closed to in every state
+  -- the files of the first tree to which every process of a program is closed in every state
   abbrev pub safe_files : List Located → List ℕ
   safe_files ls = filter (λ f. list_all (is_closed_to f) ls) (named_files s.tree)
 

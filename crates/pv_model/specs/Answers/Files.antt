@@ -1,7 +1,7 @@
 -- The files of a tree in the order of the listing, and the description of a node by its path alone.
 use Rattle.std.specs.Prelude.{ℕ, Bool, ◌&&◌, List, [], ◌++◌, map, filter, codes, Option, None, Some}
 use Rattle.std.specs.Fmt.{decimal}
-use Rattle.pv_model.specs.Answers.Explore.{new_ones}
+use Rattle.pv_model.specs.Answers.Explore.{elements_with_new_keys}
 use Rattle.pv_model.specs.Answers.Nodes.{node_path}
 use Rattle.pv_model.specs.Answers.Numbers.{number_numbers}
 use Rattle.pv_model.specs.Answers.Reach.{listed_names}
@@ -26,7 +26,7 @@ module _ (t : Tree) where
 
   -- the files with names, in the order of the listing, each once
   abbrev pub named_files : List ℕ
-  named_files = new_ones number_numbers [] (filter is_file_at (map (λ l. l.node) (listed_names t)))
+  named_files = elements_with_new_keys number_numbers [] (filter is_file_at (map (λ l. l.node) (listed_names t)))
 
   -- the files without names, by number
   abbrev pub unnamed_files : List ℕ

@@ -1,4 +1,4 @@
--- The text of `needs`: what each program image of a run required of its sandbox.
+-- The text of `needs`: the demands of each program image of a run on its sandbox.
 use Rattle.std.specs.Prelude.{ℕ, Bool, true, false, not, ◌&&◌, ◌==◌, if◌then◌else◌, List, [], ◌∷◌, ◌++◌, length, map, flat_map, filter, filter_map, take, codes, bytes_eq, Option, None, Some}
 use Rattle.std.specs.Fmt.{decimal}
 use Rattle.std.specs.List.{list_any, range_with_len}

@@ -2,7 +2,7 @@
 use Rattle.std.specs.Prelude.{ℕ, Bool, true, false, if◌then◌else◌, List, [], ◌∷◌, map, flat_map, filter, bytes_eq, Option, None, Some}
 use Rattle.pv_model.specs.declared.call.Call.{Call}
 use Rattle.pv_model.specs.declared.call.Call.TheVariants.{Pledge, Unveil}
-use Rattle.pv_model.specs.Answers.Explore.{Found, Move, states_found, moves_of, new_ones, by_line}
+use Rattle.pv_model.specs.Answers.Explore.{Found, Move, states_found, moves_of, elements_with_new_keys, by_line}
 use Rattle.pv_model.specs.Answers.Lines.{AnswerLine}
 use Rattle.pv_model.specs.Answers.Numbers.{Numbers}
 use Rattle.pv_model.specs.Bytes.{Bytes, is_empty}
@@ -34,7 +34,7 @@ module _ {X : Type 0} (observe : Observer X) (program_of : Bytes → Option Prog
 
 -- the observations whose item no earlier one has; items are compared by a key
 abbrev pub first_observations : {X : Type 0} → (X → Numbers) → List (Observation X) → List (Observation X)
-first_observations key os = new_ones (λ o. key o.item) [] os
+first_observations key os = elements_with_new_keys (λ o. key o.item) [] os
 
 -- an observation with its witness
 abbrev pub observation_lines : {X : Type 0} → (X → List AnswerLine) → Observation X → List AnswerLine
@@ -67,14 +67,14 @@ module _ {X : Type 0} (observe : CallObserver X) (s : State) (pid : ℕ) where
 
 module _ {X : Type 0} (key : X → Numbers) where
   -- an element with all elements whose key is equal to its own
-  abbrev pub with_alike : List X → X → X × List X
-  with_alike xs x = (x, filter (λ y. bytes_eq (key y) (key x)) xs)
+  abbrev pub with_equal_key : List X → X → X × List X
+  with_equal_key xs x = (x, filter (λ y. bytes_eq (key y) (key x)) xs)
 
   -- the elements grouped by their keys, in the order of the first element of each group
   abbrev pub groups : List X → List (X × List X)
-  groups xs = map (with_alike xs) (new_ones key [] xs)
+  groups xs = map (with_equal_key xs) (elements_with_new_keys key [] xs)
 
--- ---- calls that change what a process may do
+-- ---- calls that change the rights of a process
 
 abbrev pub is_pledge : Call → Bool
 is_pledge (Pledge promises execpromises) = true

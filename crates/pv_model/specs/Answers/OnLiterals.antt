@@ -1,6 +1,6 @@
 -- The definitions to unfold in a proof by computation of answers on literals.
 use Rattle.std.specs.Prelude.{⊤}
-use Rattle.pv_model.specs.Answers.Access.{accesses, access_lines}
+use Rattle.pv_model.specs.Answers.Access.{accesses}
 use Rattle.pv_model.specs.Answers.Compare.{comparison, comparison_lines}
 use Rattle.pv_model.specs.Answers.Explain.{explained_step, explain_lines}
 use Rattle.pv_model.specs.Answers.Explore.{states_found, explore_lines}
@@ -19,5 +19,5 @@ use Rattle.pv_model.specs.OnLiterals.{machine_on_literals}
 
 -- all definitions of answers that are folded
 unfoldable pub answers_on_literals : ⊤
-unfolding machine_on_literals node_path state_lines locations reached_permissions reach_texts reach_lines levels settings_after explained_step explain_lines asked process_images needs_lines turn turns instruction_numbers process_numbers tree_numbers state_numbers states_found explore_lines graph_lines accesses access_lines policy_lines granted_policy_lines comparison comparison_lines exposure_lines
+unfolding machine_on_literals node_path state_lines locations reached_permissions reach_texts reach_lines levels settings_after explained_step explain_lines asked process_images needs_lines turn turns instruction_numbers process_numbers tree_numbers state_numbers states_found explore_lines graph_lines accesses policy_lines granted_policy_lines comparison comparison_lines exposure_lines
 answers_on_literals = tt

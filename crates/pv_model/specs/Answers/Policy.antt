@@ -1,4 +1,5 @@
--- The text of `policy`: what each program needs of its sandbox under any schedule, and what it holds and never uses.
+-- The text of `policy`: the needs of each program under any schedule, and the promises and permissions that it holds
+-- and never uses.
 use Rattle.std.specs.Prelude.{ℕ, Bool, true, false, not, ◌&&◌, if◌then◌else◌, List, [], ◌∷◌, ◌++◌, map, flat_map, filter, fold, codes, bytes_eq, Option, None, Some, is_some, slice_get}
 use Rattle.std.specs.Fmt.{decimal}
 use Rattle.std.specs.List.{list_any}
@@ -32,7 +33,7 @@ use Rattle.pv_model.specs.Unveil.{governing_entry, judgement}
 
 -- ---- the calls of a program
 
--- a call in a search: the state and the process before it, the call, and what it asked
+-- a call in a search: the state and the process before it, the call, and its demands
 pub record Request : Type 0 where
   pub before : State
   pub process : Process
@@ -42,8 +43,8 @@ pub record Request : Type 0 where
 abbrev pub Requests : Type 0
 Requests = List (Observation Request)
 
-abbrev pub program_key : Observation Request → Numbers
-program_key r = program_numbers r.item.process.program
+abbrev pub request_program_key : Observation Request → Numbers
+request_program_key r = program_numbers r.item.process.program
 
 module _ (program_of : Bytes → Option Program) where
   abbrev pub request : State → ℕ → Process → Call → Stepped → List Request
@@ -106,11 +107,11 @@ is_none_of permissions = covers no_permissions permissions
 abbrev pub walks_asked : Requests → List (Observation Judged)
 walks_asked rs = flat_map (λ r. map (observed r.move) r.item.asked.walks) rs
 
-abbrev pub permissions_text : Perms → Bytes → Bytes
-permissions_text permissions words = permissions_in_places permissions ++ codes ", " ++ words
+abbrev pub granted_text : Perms → Bytes → Bytes
+granted_text permissions words = permissions_in_places permissions ++ codes ", " ++ words
 
 abbrev pub new_permissions_lines : Perms → Observation Judged → List AnswerLine
-new_permissions_lines new w = if is_none_of new then [] else by_line w.move ∷ answer_line w.move.pid (codes "UNVL") (permissions_text new w.item.words) ∷ []
+new_permissions_lines new w = if is_none_of new then [] else by_line w.move ∷ answer_line w.move.pid (codes "UNVL") (granted_text new w.item.words) ∷ []
 
 -- the walks that asked for permissions that no earlier one had asked for
 abbrev pub new_permissions : Perms → List (Observation Judged) → List AnswerLine
@@ -152,9 +153,9 @@ abbrev pub restricted : Requests → List Request
 restricted rs = filter is_restricted_call (map (λ r. r.item) rs)
 
 -- a place whose target is the given one
-abbrev pub place_of : Target → Place
-place_of (Directory n) = Unnamed n
-place_of (Name d name) = At d name None
+abbrev pub place_of_target : Target → Place
+place_of_target (Directory n) = Unnamed n
+place_of_target (Name d name) = At d name None
 
 -- permissions at a target in words
 abbrev pub Granted : Type 0
@@ -164,33 +165,33 @@ Granted = Bytes × Perms
 abbrev pub entries_held : Request → List Granted
 entries_held r = map (λ e. (target_words r.before.tree e.0, e.1)) (entries_of_table r.process.table)
 
-abbrev pub at_entry : Request → Option (Target × Perms) → Perms → List Granted
-at_entry r None permissions = []
-at_entry r (Some e) permissions = (target_words r.before.tree e.0, permissions) ∷ []
+abbrev pub used_at_entry : Request → Option (Target × Perms) → Perms → List Granted
+used_at_entry r None permissions = []
+used_at_entry r (Some e) permissions = (target_words r.before.tree e.0, permissions) ∷ []
 
 abbrev pub at_governor : Request → Option ℕ → Perms → List Granted
 at_governor r None permissions = []
-at_governor r (Some k) permissions = at_entry r (slice_get (entries_of_table r.process.table) k) permissions
+at_governor r (Some k) permissions = used_at_entry r (slice_get (entries_of_table r.process.table) k) permissions
 
 -- the permissions that an allowed walk used, at the entry that governs its place
 abbrev pub permissions_used : Request → Judged → List Granted
 permissions_used r w =
-    if is_allowed (judgement r.before.tree r.process.table (place_of w.target) w.permissions)
-    then at_governor r (governing_entry r.before.tree (entries_of_table r.process.table) (place_of w.target)) w.permissions
+    if is_allowed (judgement r.before.tree r.process.table (place_of_target w.target) w.permissions)
+    then at_governor r (governing_entry r.before.tree (entries_of_table r.process.table) (place_of_target w.target)) w.permissions
     else []
 
 abbrev pub all_used : List Request → List Granted
 all_used rs = flat_map (λ r. flat_map (permissions_used r) r.asked.walks) rs
 
-abbrev pub joined : List Granted → Perms
-joined gs = fold join_permissions no_permissions (map (λ g. g.1) gs)
+abbrev pub union_of_granted : List Granted → Perms
+union_of_granted gs = fold join_permissions no_permissions (map (λ g. g.1) gs)
 
 abbrev pub idle_permission_line : Perms → Bytes → List AnswerLine
-idle_permission_line left words = if is_none_of left then [] else idle_line (permissions_text left words) ∷ []
+idle_permission_line left words = if is_none_of left then [] else idle_line (granted_text left words) ∷ []
 
 -- the permissions that the entries with the same words give, without those used
 abbrev pub idle_at : List Granted → Granted × List Granted → List AnswerLine
-idle_at used ((words, permissions), gs) = idle_permission_line (permissions_lacked (joined (filter (λ g. bytes_eq g.0 words) used)) (joined gs)) words
+idle_at used ((words, permissions), gs) = idle_permission_line (permissions_lacked (union_of_granted (filter (λ g. bytes_eq g.0 words) used)) (union_of_granted gs)) words
 
 abbrev pub idle_permission_lines : List Request → List AnswerLine
 idle_permission_lines rs = flat_map (idle_at (all_used rs)) (groups (λ g. g.0) (flat_map entries_held rs))
@@ -208,7 +209,7 @@ module _ (program_of : Bytes → Option Program) (limit : ℕ) (s : State) where
 
   abbrev pub lines_of_requests : Requests → List AnswerLine
   lines_of_requests rs =
-      flat_map policy_of_program (counted_from 1 (groups program_key rs))
+      flat_map policy_of_program (counted_from 1 (groups request_program_key rs))
       ++ done_line program_of limit s ∷ []
 
   -- the lines of all calls

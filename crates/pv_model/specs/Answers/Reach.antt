@@ -1,4 +1,4 @@
--- The text of `reach`: what the next call of a process may do at each place, whatever that call is.
+-- The text of `reach`: the permissions of the next call of a process at each place, whatever that call is.
 use Rattle.std.specs.Prelude.{ℕ, zero, suc, Bool, true, false, not, ◌&&◌, ◌==◌, if◌then◌else◌, List, [], ◌∷◌, ◌++◌, length, map, flat_map, filter, codes, Option, None, Some, is_none, option_map}
 use Rattle.std.specs.Fmt.{decimal}
 use Rattle.pv_model.specs.declared.judgement.Judgement.{Judgement}

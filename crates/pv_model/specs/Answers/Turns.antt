@@ -52,7 +52,8 @@ module _ (program_of : Bytes → Option Program) where
     turns_within (suc turns) zero pid s = []
     turns_within (suc turns) (suc steps) pid s = turn_then (turns_within turns) (suc steps) s (next_turn pid s)
 
-    -- the turns from a state on, with a limit on the total number of steps; there are at most as many turns as steps
+    -- the turns from a state on, with a limit on the total number of steps; the number of turns is at most the number
+    -- of steps
     unfoldable pub turns : ℕ → State → Schedule
     turns steps s = turns_within steps steps 0 s
 

@@ -36,33 +36,33 @@ abbrev pub onto_text : ℕ → Parsed Bytes → Parsed Bytes
 onto_text b None = None
 onto_text b (Some p) = Some (b ∷ p.0, p.1)
 
-abbrev pub Onward : Type 0
-Onward = Escape → Parsed Bytes
+abbrev pub EscapeParser : Type 0
+EscapeParser = Escape → Parsed Bytes
 
-abbrev pub text_outside : ℕ → Bytes → Onward → Parsed Bytes
+abbrev pub text_outside : ℕ → Bytes → EscapeParser → Parsed Bytes
 text_outside b bs onward =
     if b == 34 then Some ([], bs)
     else if b == 92 then onward after_backslash
     else if is_plain b then onto_text b (onward outside)
     else None
 
-abbrev pub first_digit : Onward → Option ℕ → Parsed Bytes
+abbrev pub first_digit : EscapeParser → Option ℕ → Parsed Bytes
 first_digit onward None = None
 first_digit onward (Some high) = onward (after_digit high)
 
-abbrev pub second_digit : Onward → ℕ → Option ℕ → Parsed Bytes
+abbrev pub second_digit : EscapeParser → ℕ → Option ℕ → Parsed Bytes
 second_digit onward high None = None
 second_digit onward high (Some low) = if 16 * high + low == 0 then None else onto_text (16 * high + low) (onward outside)
 
 -- parses one byte of a quoted text
-abbrev pub text_step : ℕ → Bytes → Onward → Escape → Parsed Bytes
+abbrev pub text_step : ℕ → Bytes → EscapeParser → Escape → Parsed Bytes
 text_step b bs onward outside = text_outside b bs onward
 text_step b bs onward after_backslash = if b == 120 then onward after_x else None
 text_step b bs onward after_x = first_digit onward (hex_value b)
 text_step b bs onward (after_digit high) = second_digit onward high (hex_value b)
 
 -- parses the rest of a quoted text, up to the closing quotation mark
-abbrev pub text_rest : Bytes → Onward
+abbrev pub text_rest : Bytes → EscapeParser
 text_rest [] escape = None
 text_rest (b ∷ bs) escape = text_step b bs (text_rest bs) escape
 
@@ -107,9 +107,9 @@ abbrev pub negative_of : Option ℕ → Option ℤ
 negative_of None = None
 negative_of (Some n) = if n == 0 then None else Some (negsuc (n - 1))
 
-abbrev pub number_of : Bytes → Option ℤ
-number_of [] = None
-number_of (b ∷ bs) =
+abbrev pub parsed_number : Bytes → Option ℤ
+parsed_number [] = None
+parsed_number (b ∷ bs) =
     if b == 45 then negative_of (in_range (suc NUMBER) (decimal_of bs)) else option_map pos (in_range NUMBER (decimal_of (b ∷ bs)))
 
 abbrev pub register_digit : Bytes → Option ℕ
@@ -128,7 +128,7 @@ or_number None n = option_map Number n
 
 -- a number or a register
 abbrev pub operand_of : Bytes → Option Operand
-operand_of word = or_number (register_of word) (number_of word)
+operand_of word = or_number (register_of word) (parsed_number word)
 
 abbrev pub whence_of : Bytes → Option Whence
 whence_of word =
@@ -196,8 +196,8 @@ abbrev pub flags_of_mode : Parsed Mode → Option OpenFlags
 flags_of_mode None = None
 flags_of_mode (Some p) = flags_after p.0 p.1
 
-unfoldable pub flags_of : Bytes → Option OpenFlags
-flags_of word = flags_of_mode (mode_at word)
+unfoldable pub parsed_flags : Bytes → Option OpenFlags
+parsed_flags word = flags_of_mode (mode_at word)
 
 abbrev pub operand_at : Bytes → Parsed Operand
 operand_at bytes = word_at operand_of bytes
@@ -206,7 +206,7 @@ abbrev pub register_at : Bytes → Parsed ℕ
 register_at bytes = word_at register_of bytes
 
 abbrev pub number_at : Bytes → Parsed ℤ
-number_at bytes = word_at number_of bytes
+number_at bytes = word_at parsed_number bytes
 
 abbrev pub whence_at : Bytes → Parsed Whence
 whence_at bytes = word_at whence_of bytes
@@ -215,7 +215,7 @@ abbrev pub origin_at : Bytes → Parsed Origin
 origin_at bytes = word_at origin_of bytes
 
 abbrev pub flags_at : Bytes → Parsed OpenFlags
-flags_at bytes = word_at flags_of bytes
+flags_at bytes = word_at parsed_flags bytes
 
 -- an argument after a space
 abbrev pub argument : {A : Type 0} → (Bytes → Parsed A) → Bytes → Parsed A
@@ -233,12 +233,12 @@ abbrev pub one_argument : {A : Type 0} → (Bytes → Parsed A) → Bytes → Op
 one_argument first bytes = if_last (argument first bytes)
 
 module _ {A B : Type 0} where
-  abbrev pub and_one : (Bytes → Parsed B) → Parsed A → Option (A × B)
-  and_one second None = None
-  and_one second (Some p) = option_map (λ b. (p.0, b)) (one_argument second p.1)
+  abbrev pub and_argument : (Bytes → Parsed B) → Parsed A → Option (A × B)
+  and_argument second None = None
+  and_argument second (Some p) = option_map (λ b. (p.0, b)) (one_argument second p.1)
 
   abbrev pub two_arguments : (Bytes → Parsed A) → (Bytes → Parsed B) → Bytes → Option (A × B)
-  two_arguments first second bytes = and_one second (argument first bytes)
+  two_arguments first second bytes = and_argument second (argument first bytes)
 
 module _ {A B C : Type 0} where
   abbrev pub and_two : (Bytes → Parsed B) → (Bytes → Parsed C) → Parsed A → Option (A × B × C)

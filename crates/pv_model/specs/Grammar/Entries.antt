@@ -62,7 +62,7 @@ EncodesManifest in_bundle bytes m = HasForm in_bundle bytes m × AreSizes m.bloc
 -- bundle's line `schedule`; if that line is missing, it is the line after the last
 pub data HasNoForm (in_bundle : Bool) : ℕ → List Bytes → ℕ → Type 0 where
   no_schedule : (n : ℕ) → in_bundle ≡ true → HasNoForm in_bundle n [] n
-  no_entry : (n : ℕ) (line : Bytes) (rest : List Bytes) → (in_bundle ≡ true → line ≢ codes "schedule")
+  not_an_entry : (n : ℕ) (line : Bytes) (rest : List Bytes) → (in_bundle ≡ true → line ≢ codes "schedule")
       → ((body following : List Bytes) (e : Entry) → rest ≡ body ++ following → EncodesEntry line body e → ⊥) → HasNoForm in_bundle n (line ∷ rest) n
   further : (n m : ℕ) (line : Bytes) (body rest : List Bytes) (e : Entry) → EncodesEntry line body e → HasNoForm in_bundle (n + 1 + length body) rest m
       → HasNoForm in_bundle n (line ∷ body ++ rest) m

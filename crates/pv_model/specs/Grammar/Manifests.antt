@@ -38,9 +38,9 @@ abbrev pub with_line_end : Bytes → Bytes
 with_line_end line = line ++ 10 ∷ []
 
 -- an executable file has the next lines as its bytes, each with its LF
-abbrev pub program_line : List Bytes → Option (Bytes × ℕ) → Option Taking
-program_line lines None = None
-program_line lines (Some p) =
+abbrev pub executable_line : List Bytes → Option (Bytes × ℕ) → Option Taking
+executable_line lines None = None
+executable_line lines (Some p) =
     if is_manifest_path p.0 && nat_le p.1 PROGRAM_LINES && nat_le p.1 (length lines)
     then Some (make p.0 (file_node true (flat_map with_line_end (take p.1 lines))), p.1)
     else None
@@ -58,7 +58,7 @@ unfoldable pub entry_by : Bytes → Bytes → List Bytes → Option Taking
 entry_by word rest lines =
     if bytes_eq word (codes "dir") then directory_line (one_argument text_at rest)
     else if bytes_eq word (codes "bytes") then file_line (two_arguments text_at text_at rest)
-    else if bytes_eq word (codes "exec") then program_line lines (two_arguments text_at (word_at decimal_of) rest)
+    else if bytes_eq word (codes "exec") then executable_line lines (two_arguments text_at (word_at decimal_of) rest)
     else if bytes_eq word (codes "link") then link_line (two_arguments text_at text_at rest)
     else if bytes_eq word (codes "name") then name_line (two_arguments text_at text_at rest)
     else None
@@ -90,8 +90,8 @@ at_end true n = Err (Form n)
 at_end false n = Ok (record { entries = []; following = [] })
 
 module _ (in_bundle : Bool) (read : Bytes → List Bytes → Option Taking) where
-  abbrev pub at_line : Bytes → List Bytes → ℕ → (ℕ → ℕ → Result Listed ManifestFault) → Result Listed ManifestFault
-  at_line line lines n onward =
+  abbrev pub listed_at_line : Bytes → List Bytes → ℕ → (ℕ → ℕ → Result Listed ManifestFault) → Result Listed ManifestFault
+  listed_at_line line lines n onward =
       if in_bundle && is_schedule_line line then Ok (record { entries = []; following = lines })
       else or_form n (read line lines) (onward (suc n))
 
@@ -99,7 +99,7 @@ module _ (in_bundle : Bool) (read : Bytes → List Bytes → Option Taking) wher
   abbrev pub entries_from : List Bytes → ℕ → ℕ → Result Listed ManifestFault
   entries_from [] n skipped = at_end in_bundle n
   entries_from (line ∷ lines) n (suc skipped) = entries_from lines (suc n) skipped
-  entries_from (line ∷ lines) n zero = at_line line lines n (entries_from lines)
+  entries_from (line ∷ lines) n zero = listed_at_line line lines n (entries_from lines)
 
 -- a manifest: the image's numbers of blocks and inodes, its entries, and the lines after it
 pub record Manifest : Type 0 where

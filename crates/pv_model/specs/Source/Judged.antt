@@ -12,7 +12,7 @@ use Rattle.pv_model.specs.Grammar.Schedules.{turn_of}
 use Rattle.pv_model.specs.Grammar.Texts.{ended}
 use Rattle.pv_model.specs.Manifest.{Entry, make, empty_tree}
 use Rattle.pv_model.specs.Source.Blocks.{Block, single, program, taken, cut_off, schedule, blocks_of}
-use Rattle.pv_model.specs.Source.Programs.{program_lines, taken_lines, instructions_of, reported_if, program_faults}
+use Rattle.pv_model.specs.Source.Programs.{program_lines, taken_lines, instructions_of, reported_if, program_errors}
 use Rattle.pv_model.specs.Source.Words.{NumberedWords, lines_that_count}
 use Rattle.pv_model.specs.Source.Written.{bytes_of_lines, text_of_blocks}
 use Rattle.pv_model.specs.Tree.{Tree, file_node}
@@ -57,12 +57,12 @@ invalid_turns before [] = []
 invalid_turns before (line ∷ lines) = reported_if (invalid_turn before line.1) line.0 (invalid_turns (suc before) lines)
 
 -- the lines with errors in programs between <<END and END, in the program of `/init`, and in the schedule
-abbrev pub faults_in : Block → List ℕ
-faults_in (single n words) = []
-faults_in (program n words body) = program_faults (program_lines body)
-faults_in (taken n words body) = if is_init (second_text words) then program_faults (taken_lines body) else []
-faults_in (cut_off n) = []
-faults_in (schedule n words body) = invalid_turns 0 (lines_that_count body)
+abbrev pub errors_in : Block → List ℕ
+errors_in (single n words) = []
+errors_in (program n words body) = program_errors (program_lines body)
+errors_in (taken n words body) = if is_init (second_text words) then program_errors (taken_lines body) else []
+errors_in (cut_off n) = []
+errors_in (schedule n words body) = invalid_turns 0 (lines_that_count body)
 
 -- ---- the tree
 
@@ -100,12 +100,12 @@ with_entry_of s n is_exec (Some entry) =
 
 -- ---- all blocks, in order
 
-abbrev pub number_of : Block → ℕ
-number_of (single n words) = n
-number_of (program n words body) = n
-number_of (taken n words body) = n
-number_of (cut_off n) = n
-number_of (schedule n words body) = n
+abbrev pub line_of_block : Block → ℕ
+line_of_block (single n words) = n
+line_of_block (program n words body) = n
+line_of_block (taken n words body) = n
+line_of_block (cut_off n) = n
+line_of_block (schedule n words body) = n
 
 abbrev pub is_exec_block : Block → Bool
 is_exec_block (program n words body) = true
@@ -113,9 +113,9 @@ is_exec_block (taken n words body) = true
 is_exec_block _ = false
 
 -- the check of a block after the first: the line `schedule` has no other word
-abbrev pub judged_block : TreeSoFar → Block → Judgement
-judged_block s (schedule n words body) = (not (length words == 1), s)
-judged_block s block = with_entry_of s (number_of block) (is_exec_block block) (entry_of_block block)
+abbrev pub checked_block : TreeSoFar → Block → Judgement
+checked_block s (schedule n words body) = (not (length words == 1), s)
+checked_block s block = with_entry_of s (line_of_block block) (is_exec_block block) (entry_of_block block)
 
 abbrev pub image_so_far : Option (ℕ × ℕ) → Judgement
 image_so_far None = (true, record { tree = None; lacked_room = false })
@@ -124,21 +124,21 @@ image_so_far (Some sizes) =
     else (true, record { tree = None; lacked_room = false })
 
 -- the first block gives the image's sizes
-abbrev pub judged_first : Block → Judgement
-judged_first (single n words) = image_so_far (sizes_of (spaced words))
-judged_first _ = image_so_far None
+abbrev pub checked_first : Block → Judgement
+checked_first (single n words) = image_so_far (sizes_of (spaced words))
+checked_first _ = image_so_far None
 
 abbrev pub reported_of : Block → Judgement → (TreeSoFar → List ℕ) → List ℕ
-reported_of block judgement onward = reported_if judgement.0 (number_of block) (faults_in block ++ onward judgement.1)
+reported_of block judgement onward = reported_if judgement.0 (line_of_block block) (errors_in block ++ onward judgement.1)
 
-abbrev pub faults_from : List Block → TreeSoFar → List ℕ
-faults_from [] s = []
-faults_from (block ∷ blocks) s = reported_of block (judged_block s block) (faults_from blocks)
+abbrev pub errors_from : List Block → TreeSoFar → List ℕ
+errors_from [] s = []
+errors_from (block ∷ blocks) s = reported_of block (checked_block s block) (errors_from blocks)
 
 -- the lines with errors, in order; if the source has no words, the line after the last is an error
-unfoldable pub faults_of_blocks : ℕ → List Block → List ℕ
-faults_of_blocks last [] = last ∷ []
-faults_of_blocks last (block ∷ blocks) = reported_of block (judged_first block) (faults_from blocks)
+unfoldable pub errors_of_blocks : ℕ → List Block → List ℕ
+errors_of_blocks last [] = last ∷ []
+errors_of_blocks last (block ∷ blocks) = reported_of block (checked_first block) (errors_from blocks)
 
 -- ---- sources
 
@@ -146,11 +146,11 @@ faults_of_blocks last (block ∷ blocks) = reported_of block (judged_first block
 abbrev pub REPORTED : ℕ
 REPORTED = 20
 
-abbrev pub or_faults : List Block → List ℕ → Result Bytes (List ℕ)
-or_faults blocks [] = Ok (text_of_blocks blocks)
-or_faults blocks (n ∷ reported) = Err (n ∷ reported)
+abbrev pub or_errors : List Block → List ℕ → Result Bytes (List ℕ)
+or_errors blocks [] = Ok (text_of_blocks blocks)
+or_errors blocks (n ∷ reported) = Err (n ∷ reported)
 
 -- the manifest or bundle that a source denotes, or the lines with errors
 unfoldable pub read_source : Bytes → Result Bytes (List ℕ)
 read_source source =
-    let blocks = blocks_of source in or_faults blocks (take REPORTED (faults_of_blocks (suc (length (lines_of source))) blocks))
+    let blocks = blocks_of source in or_errors blocks (take REPORTED (errors_of_blocks (suc (length (lines_of source))) blocks))

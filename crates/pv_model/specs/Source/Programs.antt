@@ -158,5 +158,5 @@ invalid_lines count names before (line ∷ lines) =
     (invalid_lines count (and_label line.label names) (before + count_instruction line.instruction) lines)
 
 -- the lines of a program that have errors
-unfoldable pub program_faults : List ProgramLine → List ℕ
-program_faults lines = invalid_lines (length (instructions_of lines)) [] 0 lines
+unfoldable pub program_errors : List ProgramLine → List ℕ
+program_errors lines = invalid_lines (length (instructions_of lines)) [] 0 lines

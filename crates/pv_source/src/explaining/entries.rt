@@ -44,7 +44,7 @@ fn usage(word: &[u8]) -> &'static [u8] {
     b"exec \"PATH\" <<END, or exec \"PATH\" K followed by K lines"
 }
 
-// Writes what is missing in a line with this first word.
+// Writes the missing part of a line with this first word.
 fn say_missing<'a>(out: &mut Saying, name: &'a [u8], what: &'a [u8]) -> Result<(), AllocError> {
     let (before, form) = (Plain(b": missing "), Plain(usage(name)));
     say_all(

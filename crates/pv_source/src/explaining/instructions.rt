@@ -27,7 +27,7 @@ pub fn second_label(alloc: Global, label: Option<&[u8]>) -> Result<Saying, Alloc
     Ok(out)
 }
 
-// Returns the first word of a promises argument that is no keyword.
+// Returns the first word of a promises argument that is not a keyword.
 fn unknown_keyword(promises: &Option<Text>) -> Option<&[u8]> {
     let Some(promises) = promises else {
         return None;
@@ -38,7 +38,7 @@ fn unknown_keyword(promises: &Option<Text>) -> Option<&[u8]> {
         .find(|word| read_promises(word).is_err())
 }
 
-// Writes that a word is no keyword of pledge(2).
+// Writes that a word is not a keyword of pledge(2).
 fn say_unknown_promise(alloc: Global, out: &mut Saying, word: &[u8]) -> Result<(), AllocError> {
     let mut keywords = Vec::new(alloc);
     for promise in ALL {
@@ -48,7 +48,7 @@ fn say_unknown_promise(alloc: Global, out: &mut Saying, word: &[u8]) -> Result<(
     say_nearest(alloc, out, word, &keywords)
 }
 
-// Writes that a letter is no permission of unveil(2).
+// Writes that a byte is not a permission of unveil(2).
 fn say_unknown_permission(out: &mut Saying, permissions: &Option<Text>) -> Result<(), AllocError> {
     let text = match permissions {
         Some(text) => text.as_slice(),
@@ -65,8 +65,8 @@ fn say_unknown_permission(out: &mut Saying, permissions: &Option<Text>) -> Resul
     )
 }
 
-/// Returns the message that a line is a pledge(2) with a word that is no keyword, or an unveil(2) with a letter that is
-/// no permission.
+/// Returns the message that a line is a pledge(2) with a word that is not a keyword, or an unveil(2) with a byte that
+/// is not a permission.
 ///
 /// # Errors
 ///

@@ -2,7 +2,7 @@
 ghost use Rattle.std.specs.Prelude.{◌≡◌, ◌++◌, [], ◌∷◌, true, codes, flat_map, OnOk};
 ghost use Rattle.std.specs.Fmt.{decimal};
 ghost use Rattle.pv_model.specs.Machine.{hex_byte};
-ghost use Rattle.pv_source.specs.Saying.{is_printable, IsPrintable, said_byte, said, said_excerpt, said_marked, said_part};
+ghost use Rattle.pv_source.specs.Saying.{is_printable, IsPrintable, said_byte, printable_text, said_excerpt, said_marked, said_part};
 
 use itoa::Buffer;
 use pv_model::hex_digit;
@@ -11,7 +11,7 @@ use std::marker::Model;
 
 // The maximum length of an excerpt of the source.
 const EXCERPT: usize = 60;
-// The length of what is shown of a longer text, without the mark of the cut.
+// The length of the shown prefix of a longer text, without the mark of the cut.
 const SHOWN: usize = 57;
 
 /// A part of a message.
@@ -63,7 +63,7 @@ impl Saying {
     }
 
     // Appends a byte from 20 to 7E.
-    #[tactic(auto, using(crate::proofs::SaidBytes::printable_more))]
+    #[tactic(auto, using(crate::proofs::MessageBytes::printable_more))]
     fn push(&mut self, byte: u8) -> Result<(), AllocError>
         requires { is_printable byte ≡ true }
         ensures { OnOk result (self.new ≡ self.old ++ byte ∷ []) }
@@ -74,7 +74,7 @@ impl Saying {
 }
 
 // Appends a byte as a number.
-#[tactic(auto, using(crate::proofs::SaidBytes::digit_printable))]
+#[tactic(auto, using(crate::proofs::MessageBytes::digit_printable))]
 fn say_hex(out: &mut Saying, byte: u8) -> Result<(), AllocError>
     ensures { OnOk result (out.new ≡ out.old ++ hex_byte byte) }
 {
@@ -100,7 +100,7 @@ fn say_byte(out: &mut Saying, byte: u8) -> Result<(), AllocError>
 ///
 /// Returns `AllocError` if memory cannot be allocated.
 pub fn say(out: &mut Saying, bytes: &[u8]) -> Result<(), AllocError>
-    ensures { OnOk result (out.new ≡ out.old ++ said bytes.now) }
+    ensures { OnOk result (out.new ≡ out.old ++ printable_text bytes.now) }
 {
     for byte in bytes {
         say_byte(out, *byte)?;
@@ -139,7 +139,7 @@ pub fn say_word(
     word: &[u8],
     after: &[u8],
 ) -> Result<(), AllocError>
-    ensures { OnOk result (out.new ≡ out.old ++ said before.now ++ said_marked word.now ++ said after.now) }
+    ensures { OnOk result (out.new ≡ out.old ++ printable_text before.now ++ said_marked word.now ++ printable_text after.now) }
 {
     say(out, before)?;
     say_marked(out, word)?;
@@ -148,7 +148,7 @@ pub fn say_word(
 
 // Appends a number in decimal.
 fn say_number(out: &mut Saying, n: u32) -> Result<(), AllocError>
-    ensures { OnOk result (out.new ≡ out.old ++ said (decimal n)) }
+    ensures { OnOk result (out.new ≡ out.old ++ printable_text (decimal n)) }
 {
     let mut buffer = Buffer::new();
     say(out, buffer.format(n).as_bytes())

@@ -174,7 +174,7 @@ pub fn argument_name(want: Want) -> &'static [u8] {
     }
 }
 
-/// Returns what an argument of this kind must be.
+/// Returns the requirement on an argument of this kind.
 pub fn wanted(want: Want) -> &'static [u8] {
     match want {
         Want::Nothing => b"expected no argument",

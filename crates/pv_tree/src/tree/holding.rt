@@ -1,8 +1,8 @@
 //! Reference counts.
 ghost use Rattle.std.specs.Prelude.{◌≡◌, ◌≢◌, ◌<◌, suc, ◌+◌, ◌-◌, ℕ, IsSome};
 ghost use Rattle.pv_model.specs.Machine.{node_at, find_entry};
-ghost use Rattle.pv_laws_trees.specs.Found.{Alike};
-ghost use Rattle.pv_tree.specs.Changes.{settled};
+ghost use Rattle.pv_laws_trees.specs.Found.{AreEqualLookups};
+ghost use Rattle.pv_tree.specs.Changes.{without_if_unreferenced};
 ghost use Rattle.pv_tree.specs.Holding.{HeldTree, holds_at, held_more, held_less, collected};
 
 use super::Tree;
@@ -12,7 +12,7 @@ use pv_model::limits::ROOT;
 /// Removes a node if it has no name and no reference. The root stays.
 pub(crate) fn settle(directories: &mut Directories, node: u16, names: u32, holds: u16)
     requires { IsSome (node_at directories.old node) }
-    ensures { directories.new ≡ settled directories.old node names holds }
+    ensures { directories.new ≡ without_if_unreferenced directories.old node names holds }
 {
     if node != ROOT && names == 0 && holds == 0 {
         directories.drop_inode(node);
@@ -41,7 +41,7 @@ impl Tree {
         ensures less { holds_at self.new node + 1 ≡ holds_at self.old node }
         ensures others { (other : ℕ) → other ≢ node
             → holds_at self.new other ≡ holds_at self.old other }
-        ensures found { Alike (find_entry self.old.tree) (find_entry self.new.tree) }
+        ensures found { AreEqualLookups (find_entry self.old.tree) (find_entry self.new.tree) }
     {
         let at = node as usize;
         self.holds[at] -= 1;

@@ -1,12 +1,12 @@
 //! Creating nodes.
 ghost use Rattle.std.specs.Prelude.{◌≡◌, ◌<◌, length, IsTrue, false, None, Some, IsSome, IfOk, OnOk, OnErr};
 ghost use Rattle.pv_model.specs.Machine.{greatest_entries, is_too_long, node_at, entries_at, find_entry, is_name, is_node, with_node, with_entry, with_new_node, new_number, IsWellFormed};
-ghost use Rattle.pv_laws_trees.specs.Found.{AlikeBut};
+ghost use Rattle.pv_laws_trees.specs.Found.{AreEqualExceptAt};
 ghost use Rattle.pv_laws_trees.specs.Encoded.{are_bytes, has_bytes};
 ghost use Rattle.pv_laws_trees.specs.Tree.{Appears};
-ghost use Rattle.pv_dirs.specs.Trees.{new_node as empty_node, LacksRoom, without_node};
-ghost use Rattle.pv_tree.specs.Changes.{new_node, sort_of, IsNewName};
-ghost use Rattle.pv_tree.specs.Holding.{with_tree};
+ghost use Rattle.pv_dirs.specs.Trees.{empty_node, LacksRoomForTree, without_node};
+ghost use Rattle.pv_tree.specs.Changes.{new_node, kind_of_new, IsNewName};
+ghost use Rattle.pv_tree.specs.Holding.{held_with_tree};
 ghost use Rattle.pv_tree.specs.Rooms.{TreeChanges, HeldTreeChanges};
 ghost use Rattle.pv_tree.specs.Present.{IsShaped};
 
@@ -17,7 +17,7 @@ use pv_model::{Kind, NewNode};
 
 // Returns the kind of a new node.
 fn sort_of(kind: NewNode) -> Kind
-    ensures { result ≡ sort_of kind.entry }
+    ensures { result ≡ kind_of_new kind.entry }
 {
     match kind {
         NewNode::Directory => Kind::Directory,
@@ -37,12 +37,12 @@ fn as_read(text: &[u8]) -> &[u8]
 
 // Writes the contents of a new node. If there are too few free data blocks, it fails and changes nothing.
 fn fill(directories: &mut Directories, node: u16, kind: NewNode) -> Result<(), Space>
-    requires fresh { node_at directories.old node ≡ Some (empty_node (sort_of kind)) }
+    requires fresh { node_at directories.old node ≡ Some (empty_node (kind_of_new kind)) }
     requires text { IsTrue (is_node directories.old.version (new_node kind)) }
     ensures ok { OnOk result
         (directories.new ≡ with_node directories.old node (new_node kind.entry)) }
     ensures err { OnErr result (directories.new ≡ directories.old) }
-    ensures full { OnErr result (LacksRoom (with_node directories.old node (new_node kind.entry))) }
+    ensures full { OnErr result (LacksRoomForTree (with_node directories.old node (new_node kind.entry))) }
     ensures bytes { OnOk result (IsTrue (has_bytes (new_node kind.entry))) }
 {
     match kind {
@@ -75,7 +75,7 @@ fn furnish(
     node: u16,
     kind: NewNode,
 ) -> Result<(), Space>
-    requires fresh { node_at directories.old node ≡ Some (empty_node (sort_of kind)) }
+    requires fresh { node_at directories.old node ≡ Some (empty_node (kind_of_new kind)) }
     requires text { IsTrue (is_node directories.old.version (new_node kind)) }
     requires shaped { IsShaped (with_node directories.old node (new_node kind)) }
     requires entry { IsNewName (with_node directories.old node (new_node kind)) directory name.now }
@@ -141,9 +141,9 @@ impl Tree {
         requires text { IsTrue (is_node self.old.tree.version (new_node kind)) }
         ensures number { IfOk result (λ n. n ≡ new_number self.old.tree) }
         ensures change { HeldTreeChanges result self.old self.new
-            (with_tree self.old
+            (held_with_tree self.old
             (with_new_node self.old.tree directory name.now (new_node kind.entry))) }
-        ensures elsewhere { AlikeBut directory name.now
+        ensures elsewhere { AreEqualExceptAt directory name.now
             (find_entry self.old.tree) (find_entry self.new.tree) }
         ensures there { IfOk result (λ n. IsSome (node_at self.new.tree n)) }
     {

@@ -1,10 +1,10 @@
 //! Adding and removing names.
 ghost use Rattle.std.specs.Prelude.{◌≡◌, [], IsTrue, false, None, IsSome, IfSome, IfOk, OnErr};
 ghost use Rattle.pv_model.specs.Machine.{contains_directory, entries_there, fits, node_at, find_entry, is_directory_at, is_name, with_entry, without_entry, IsWellFormed};
-ghost use Rattle.pv_laws_trees.specs.Found.{AlikeBut, AlikeButTwo};
+ghost use Rattle.pv_laws_trees.specs.Found.{AreEqualExceptAt, AreEqualExceptAtTwo};
 ghost use Rattle.pv_laws_trees.specs.Tree.{Appears};
-ghost use Rattle.pv_tree.specs.Changes.{moved, AreMoved, IsOtherName};
-ghost use Rattle.pv_tree.specs.Holding.{with_tree, after};
+ghost use Rattle.pv_tree.specs.Changes.{moved, IsMoveOfEntry, IsOtherName};
+ghost use Rattle.pv_tree.specs.Holding.{held_with_tree, after};
 ghost use Rattle.pv_tree.specs.Rooms.{TreeChanges, HeldTreeChanges};
 ghost use Rattle.pv_tree.specs.Present.{IsShaped};
 
@@ -19,7 +19,7 @@ use pv_dirs::inodes::Space;
 struct Moved {
     // The node of the entry.
     node: u16,
-    // The node that had the new name before, if there was one.
+    // The previous node of the new name, if there was one.
     gone: Option<u16>,
 }
 
@@ -39,7 +39,7 @@ fn move_entry(
     requires entry { IsOtherName directories.old from name.now to other.now }
     requires to { IsTrue (is_directory_at directories.old to) }
     ensures nodes { IfOk result
-        (λ m. AreMoved directories.old from name.now to other.now m.node m.gone) }
+        (λ m. IsMoveOfEntry directories.old from name.now to other.now m.node m.gone) }
     ensures change { TreeChanges result directories.old directories.new
         (moved directories.old from name.now to other.now) }
     ensures free { OnErr result (find_entry directories.old to other.now ≡ None) }
@@ -77,8 +77,8 @@ impl Tree {
         requires node { IsSome (node_at self.old.tree node) }
         requires other { is_directory_at self.old.tree node ≡ false }
         ensures change { HeldTreeChanges result self.old self.new
-            (with_tree self.old (with_entry self.old.tree directory name.now node)) }
-        ensures elsewhere { AlikeBut directory name.now
+            (held_with_tree self.old (with_entry self.old.tree directory name.now node)) }
+        ensures elsewhere { AreEqualExceptAt directory name.now
             (find_entry self.old.tree) (find_entry self.new.tree) }
     {
         enter(&mut self.directories, directory, name, node)?;
@@ -95,7 +95,7 @@ impl Tree {
             (find_entry self.old.tree directory name.now) ≡ [] }
         ensures tree { self.new
             ≡ after self.old (without_entry self.old.tree directory name.now) }
-        ensures elsewhere { AlikeBut directory name.now
+        ensures elsewhere { AreEqualExceptAt directory name.now
             (find_entry self.old.tree) (find_entry self.new.tree) }
     {
         let Some(node) = self.directories.remove(directory, name) else {
@@ -124,7 +124,7 @@ impl Tree {
             (find_entry self.old.tree to other.now) ≡ [] }
         ensures change { HeldTreeChanges result self.old self.new
             (after self.old (moved self.old.tree from name.now to other.now)) }
-        ensures elsewhere { AlikeButTwo from name.now to other.now
+        ensures elsewhere { AreEqualExceptAtTwo from name.now to other.now
             (find_entry self.old.tree) (find_entry self.new.tree) }
     {
         let moved = move_entry(&mut self.directories, from, name, to, other)?;

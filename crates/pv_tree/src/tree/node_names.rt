@@ -2,7 +2,7 @@
 ghost use Rattle.std.specs.Prelude.{◌≡◌};
 ghost use Rattle.pv_model.specs.Answers.Nodes.{least_name};
 ghost use Rattle.pv_model.specs.Machine.{names_of};
-ghost use Rattle.pv_tree.specs.NodeNames.{first_after, names_after, names_from, last_of, IsNextNameOfNode};
+ghost use Rattle.pv_tree.specs.NodeNames.{first_after, names_after, names_from, last_name_of, IsNextNameOfNode};
 
 use super::Tree;
 use pv_model::Name;
@@ -34,9 +34,9 @@ impl Tree {
     /// name of all if there is no `last`. Names are ordered by directory number, then by their bytes. Returns `None` if
     /// there is no greater name.
     pub fn next_name(&self, node: u16, last: Option<(u16, &[u8])>) -> Option<(u16, Name)>
-        ensures value { result ≡ first_after (last_of last.entry) (names_of self.now.tree node) }
-        ensures least { IsNextNameOfNode self.now.tree node (last_of last.entry) result }
-        ensures rest { names_after (last_of last.entry) (names_of self.now.tree node)
+        ensures value { result ≡ first_after (last_name_of last.entry) (names_of self.now.tree node) }
+        ensures least { IsNextNameOfNode self.now.tree node (last_name_of last.entry) result }
+        ensures rest { names_after (last_name_of last.entry) (names_of self.now.tree node)
             ≡ names_from result (names_of self.now.tree node) }
     {
         let (first, past) = match last {

@@ -1,7 +1,8 @@
 use Rattle.std.proofs.Common.{◌≡◌, ◌∷◌, ◌++◌, [], List, append-nil, sym}
 use Rattle.std.proofs.lemmas.Grind.{flat_map-append}
-use Rattle.pv_reduced.proofs.OfAnswers.Writing.{or_as, or_longer, or_ok, writes_as}
-use Rattle.pv_reduced.proofs.OfStepLines.Stops.{stopped, then_writes, unwritten}
+use Rattle.pv_reduced.proofs.OfAnswers.WriterContracts.{or_as, or_longer, or_ok, writes_as}
+use Rattle.pv_reduced.proofs.OfStepLines.StoppedWriters.{stopped, then_writes, unwritten}
+use Rattle.pv_named_files.specs.FirstPaths.{files_given, first_tree}
 use Rattle.pv_access.specs.Unread.{unread_lines}
 use Rattle.pv_model.specs.Machine.{AnswerLine, answer_bytes, answer_line_bytes}
 use Rattle.pv_reduced.specs.Kinds.{count_line}
@@ -14,19 +15,25 @@ in-two unread last = sym (flat_map-append answer_line_bytes unread (last ∷ [])
 pub returns-in_err-write_unread : goal.returns-in_err-write_unread
 returns-in_err-write_unread g c =
     let r = c.args.searched.now in
+    let t = first_tree c.args.paths.now in
+    let files = files_given c.args.paths.now in
     stopped c.from_residual.ensures.1
-    (or_as (in-two (unread_lines c.args.tree.now.tree r.texts r.complete) (count_line c.args.kind r.states r.complete)) (or_longer _ c.in_err-write_unread.ensures))
+    (or_as (in-two (unread_lines t files r.texts r.complete) (count_line c.args.kind r.states r.complete)) (or_longer _ c.in_err-write_unread.ensures))
 
 pub returns-in_err-write_count : goal.returns-in_err-write_count
 returns-in_err-write_count g c =
     let r = c.args.searched.now in
+    let t = first_tree c.args.paths.now in
+    let files = files_given c.args.paths.now in
     unwritten c.from_residual-in_err-write_count.ensures.1
-    (writes_as (in-two (unread_lines c.args.tree.now.tree r.texts r.complete) (count_line c.args.kind r.states r.complete))
+    (writes_as (in-two (unread_lines t files r.texts r.complete) (count_line c.args.kind r.states r.complete))
     (then_writes c.in_ok-write_unread.ensures (writes_as (sym (append-nil _)) c.in_err-write_count.ensures)))
 
 pub returns : goal.returns
 returns g c =
     let r = c.args.searched.now in
+    let t = first_tree c.args.paths.now in
+    let files = files_given c.args.paths.now in
     or_ok
-    (writes_as (in-two (unread_lines c.args.tree.now.tree r.texts r.complete) (count_line c.args.kind r.states r.complete))
+    (writes_as (in-two (unread_lines t files r.texts r.complete) (count_line c.args.kind r.states r.complete))
     (then_writes c.in_ok-write_unread.ensures (writes_as (sym (append-nil _)) c.in_ok-write_count.ensures)))

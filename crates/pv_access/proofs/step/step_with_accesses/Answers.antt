@@ -1,5 +1,5 @@
 use Rattle.std.proofs.Common.{◌∙◌, ap, sym}
-use Rattle.pv_laws_access.proofs.Ends.{step-is}
+use Rattle.pv_laws_access.proofs.ProcessesAfterEnds.{step-is}
 use Rattle.pv_model.specs.Machine.{program_of, Stepped, step_by}
 use Rattle.pv_access.proofs.step.step_with_accesses.Goals as goal
 

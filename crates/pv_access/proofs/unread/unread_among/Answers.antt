@@ -1,7 +1,7 @@
 use Rattle.std.proofs.Common.{◌+◌, ◌∙◌, ℕ, List, ◌++◌, ap, append_assoc, append-nil, drop, filter, get_or, sym}
 use Rattle.std.proofs.lemmas.List.{drop_all, drop_more}
-use Rattle.pv_access.specs.Unread.{is_without_note, one_if}
-use Rattle.pv_access.proofs.Notes.{filter-first}
+use Rattle.pv_access.specs.Unread.{is_without_note, singleton_if}
+use Rattle.pv_access.proofs.FileNotes.{filter-first}
 use Rattle.pv_access.proofs.unread.unread_among.Goals as goal
 
 pub loop-file-preserved : goal.loop-file-preserved
@@ -13,7 +13,7 @@ loop-file-preserved c =
     let files = c.loop-file.files.items in
     let rest = drop (i + 1) ns in
     ap (λ (fs : List ℕ). fs ++ filter test rest) c.in_ok-push_unread.ensures
-    ∙ append_assoc files (one_if (test n) n) (filter test rest)
+    ∙ append_assoc files (singleton_if (test n) n) (filter test rest)
     ∙ ap (λ (fs : List ℕ). files ++ fs) (filter-first test n rest)
     ∙ sym (ap (λ (xs : List ℕ). files ++ filter test xs) (drop_more ns i 0 c.loop-file-test.true))
     ∙ c.loop-file.invariant

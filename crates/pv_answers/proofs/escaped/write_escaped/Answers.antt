@@ -1,7 +1,7 @@
 use Rattle.std.proofs.Common.{◌≡◌, ◌∙◌, ◌++◌, ℕ, take, drop, flat_map, refl, rules}
-use Rattle.pv_listing.proofs.Rests.{rest_after, rest_begins, components-split, plain-split, rest_all, written_text}
+use Rattle.pv_listing.proofs.TextRemainders.{rest_after, rest_begins, components-split, plain-split, rest_all, written_text}
 use Rattle.pv_model.specs.Machine.{Bytes, quote_byte}
-use Rattle.pv_streams.proofs.Reporting.{on_err}
+use Rattle.pv_streams.proofs.OutputTexts.{on_err}
 use Rattle.pv_answers.proofs.escaped.write_escaped.Goals as goal
 
 -- a part, and the rest

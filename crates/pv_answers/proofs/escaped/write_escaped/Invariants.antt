@@ -1,6 +1,6 @@
 use Rattle.std.proofs.Common.{◌≡◌, length, flat_map}
 use Rattle.pv_model.specs.Machine.{quote_byte}
-use Rattle.pv_listing.proofs.Rests.{LeavesRest}
+use Rattle.pv_listing.proofs.TextRemainders.{LeavesRest}
 use Rattle.pv_answers.proofs.escaped.write_escaped.Given as goal
 
 abbrev pub invariant-loop-rest : goal.invariant-loop-rest

@@ -1,7 +1,7 @@
 use Rattle.std.proofs.Common.{◌∙◌, arith, rules}
-use Rattle.pv_listing.proofs.Rests.{rest_after, rest_begins}
-use Rattle.pv_streams.proofs.Reporting.{on_err}
-use Rattle.pv_answers.proofs.Holdings.{descriptor-next}
+use Rattle.pv_listing.proofs.TextRemainders.{rest_after, rest_begins}
+use Rattle.pv_streams.proofs.OutputTexts.{on_err}
+use Rattle.pv_answers.proofs.HeldLines.{descriptor-next}
 use Rattle.pv_answers.proofs.holding.write_descriptors.Goals as goal
 
 pub returns-in_err-write_descriptor_line : goal.returns-in_err-write_descriptor_line

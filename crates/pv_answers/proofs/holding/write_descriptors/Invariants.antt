@@ -1,8 +1,8 @@
 use Rattle.std.proofs.Common.{◌≡◌, drop}
-use Rattle.pv_listing.proofs.Rests.{LeavesRest}
+use Rattle.pv_listing.proofs.TextRemainders.{LeavesRest}
 use Rattle.pv_model.specs.Machine.{answer_bytes}
 use Rattle.pv_answers.specs.Holdings.{descriptor_lines}
-use Rattle.pv_answers.proofs.Holdings.{descriptor_lines_from}
+use Rattle.pv_answers.proofs.HeldLines.{descriptor_lines_from}
 use Rattle.pv_answers.proofs.holding.write_descriptors.Given as goal
 
 abbrev pub invariant-loop-number : goal.invariant-loop-number

@@ -1,8 +1,8 @@
 use Rattle.std.proofs.Common.{◌∙◌, arith, rules}
-use Rattle.pv_listing.proofs.Rests.{rest_after, rest_begins}
+use Rattle.pv_listing.proofs.TextRemainders.{rest_after, rest_begins}
 use Rattle.pv_model.specs.Machine.{entries_of_table}
-use Rattle.pv_streams.proofs.Reporting.{on_err}
-use Rattle.pv_answers.proofs.Holdings.{entry-next}
+use Rattle.pv_streams.proofs.OutputTexts.{on_err}
+use Rattle.pv_answers.proofs.HeldLines.{entry-next}
 use Rattle.pv_answers.proofs.holding.write_entries.Goals as goal
 
 pub returns-in_err-write_entry : goal.returns-in_err-write_entry

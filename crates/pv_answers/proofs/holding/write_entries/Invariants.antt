@@ -1,8 +1,8 @@
 use Rattle.std.proofs.Common.{◌≡◌, drop}
-use Rattle.pv_listing.proofs.Rests.{LeavesRest}
+use Rattle.pv_listing.proofs.TextRemainders.{LeavesRest}
 use Rattle.pv_model.specs.Machine.{answer_bytes, entries_of_table}
 use Rattle.pv_answers.specs.Holdings.{entry_lines}
-use Rattle.pv_answers.proofs.Holdings.{entry_lines_from}
+use Rattle.pv_answers.proofs.HeldLines.{entry_lines_from}
 use Rattle.pv_answers.proofs.holding.write_entries.Given as goal
 
 abbrev pub invariant-loop-number : goal.invariant-loop-number

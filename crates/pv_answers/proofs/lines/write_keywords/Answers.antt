@@ -1,10 +1,10 @@
 use Rattle.std.proofs.Common.{◌∙◌, arith, refl, sym, subst, rules}
 use Rattle.std.proofs.lemmas.Grind.{common_steps}
-use Rattle.pv_listing.proofs.Rests.{LeavesRest, rest_all, rest_after, rest_begins}
+use Rattle.pv_listing.proofs.TextRemainders.{LeavesRest, rest_all, rest_after, rest_begins}
 use Rattle.pv_model.specs.Machine.{spaced, all_promises}
-use Rattle.pv_streams.proofs.Reporting.{on_err}
+use Rattle.pv_streams.proofs.OutputTexts.{on_err}
 use Rattle.pv_answers.specs.Texts.{keywords_in}
-use Rattle.pv_answers.proofs.Keywords.{keywords-end, keyword-next, keyword-none}
+use Rattle.pv_answers.proofs.KeywordTexts.{keywords-end, keyword-next, keyword-none}
 use Rattle.pv_answers.proofs.lines.write_keywords.Goals as goal
 use Rattle.pv_answers.proofs.lines.write_keywords.Goals.{then-has+in_ok-write_keyword, else-has}
 

@@ -2,7 +2,7 @@ use Rattle.std.proofs.Common.{◌∙◌, ap, sym}
 use Rattle.std.specs.Prelude.{is_some, nat_lt}
 use Rattle.std.proofs.lemmas.Bool.{eq-eqb}
 use Rattle.pv_model.specs.Machine.{node_path}
-use Rattle.pv_answers.proofs.Paths.{counted-path, root-path, unused-path, unused-by}
+use Rattle.pv_answers.proofs.NodePaths.{counted-path, root-path, unused-path, unused-by}
 use Rattle.pv_answers.proofs.nodes.has_path.Goals as goal
 
 pub returns-then-node-eq-ROOT : goal.returns-then-node-eq-ROOT

@@ -1,6 +1,6 @@
 use Rattle.std.proofs.Common.{◌∙◌, sym, ap}
 use Rattle.pv_model.specs.Answers.ProcessRecord.{buffer_front}
-use Rattle.pv_answers.proofs.Rows.{front-zero, front-all}
+use Rattle.pv_answers.proofs.TextParts.{front-zero, front-all}
 use Rattle.pv_answers.proofs.numbers.front_of.Goals as goal
 
 pub returns-then-last-ne0 : goal.returns-then-last-ne0

@@ -1,8 +1,8 @@
 use Rattle.std.proofs.Common.{length}
 use Rattle.pv_model.specs.Machine.{answer_bytes, state_lines}
-use Rattle.pv_answers.proofs.Following.{records_after}
-use Rattle.pv_answers.proofs.States.{lines_of_all}
-use Rattle.pv_answers.proofs.Writing.{WritesBut}
+use Rattle.pv_answers.proofs.ProcessSequence.{records_after}
+use Rattle.pv_answers.proofs.ProcessLines.{lines_of_all}
+use Rattle.pv_answers.proofs.WriterContracts.{WritesBut}
 use Rattle.pv_answers.proofs.state.write_state.Given as goal
 
 abbrev pub invariant-loop-pid : goal.invariant-loop-pid

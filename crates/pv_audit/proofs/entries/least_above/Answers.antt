@@ -1,7 +1,7 @@
 use Rattle.std.proofs.Common.{◌≡◌, ◌+◌, ◌-◌, ℕ, suc, length, Option, sym, ap, ◌∙◌, arith}
 use Rattle.pv_model.specs.Machine.{entries_of_table, Tree, IsWellFormed, Table}
 use Rattle.pv_model.specs.Tree.{ancestors_within}
-use Rattle.pv_calls_state.proofs.OfUnveil.Climbing.{up-directory}
+use Rattle.pv_calls_state.proofs.OfUnveil.ClimbSteps.{up-directory}
 use Rattle.pv_audit.specs.Findings.{lesser, passing, least_above}
 use Rattle.pv_audit.proofs.TableEntries.{least_own, more-up, more-top, own-none, own-governs, ancestors-within}
 use Rattle.pv_audit.proofs.entries.least_above.Goals as goal

@@ -1,6 +1,6 @@
 use Rattle.std.proofs.Common.{sym, ◌∙◌, arith}
 use Rattle.pv_model.specs.Machine.{at_number}
-use Rattle.pv_audit.proofs.DescriptorOnes.{quiet-none, quiet-more, quiet-least, quiet-all, hit-file, hit-none}
+use Rattle.pv_audit.proofs.NodeDescriptors.{quiet-none, quiet-more, quiet-least, quiet-all, hit-file, hit-none}
 use Rattle.pv_audit.proofs.reasons.least_descriptor.Goals as goal
 use Rattle.pv_audit.proofs.reasons.least_descriptor.Goals.{in-Some+else-is_open_on, in_default}
 

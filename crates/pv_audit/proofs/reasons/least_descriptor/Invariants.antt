@@ -1,4 +1,4 @@
-use Rattle.pv_audit.proofs.DescriptorOnes.{IsQuietTo}
+use Rattle.pv_audit.proofs.NodeDescriptors.{IsQuietTo}
 use Rattle.pv_audit.proofs.reasons.least_descriptor.Given as goal
 
 abbrev pub invariant-loop-d : goal.invariant-loop-d

@@ -1,6 +1,6 @@
 use Rattle.std.proofs.Common.{ap, ◌∙◌}
 use Rattle.pv_audit.specs.Findings.{are_live}
-use Rattle.pv_audit.proofs.LiveOnes.{suspects-live}
+use Rattle.pv_audit.proofs.LiveProcesses.{suspects-live}
 use Rattle.pv_audit.proofs.suspects.found_suspects.Goals as goal
 
 pub note_names-requires : goal.note_names-requires

@@ -3,7 +3,7 @@ use Rattle.pv_audit.specs.declared.suspects.Suspect.{Suspect}
 use Rattle.std.proofs.lemmas.Bool.{and_parts, leb-true}
 use Rattle.pv_calls_state.specs.OfProcs.ProcessTable.{ProcessTable, process_in}
 use Rattle.pv_audit.specs.Findings.{suspect}
-use Rattle.pv_audit.proofs.LiveOnes.{Recorded, start, below-zero, below-all, suspects-more, suspects-same, suspects-few}
+use Rattle.pv_audit.proofs.LiveProcesses.{Recorded, start, below-zero, below-all, suspects-more, suspects-same, suspects-few}
 use Rattle.pv_audit.proofs.suspects.live_suspects.Goals as goal
 use Rattle.pv_audit.proofs.suspects.live_suspects.Goals.{then-live, else-live}
 

@@ -1,10 +1,10 @@
 use Rattle.std.proofs.Common.{List, get_or, is_some, ◌∙◌, ap, arith}
 use Rattle.std.proofs.lemmas.List.{get_or_default}
 use Rattle.pv_model.specs.Machine.{process_at}
-use Rattle.pv_calls_state.proofs.OfProcs.Steps.{mapped_further}
+use Rattle.pv_calls_state.proofs.OfProcs.ElementSteps.{mapped_further}
 use Rattle.pv_audit.specs.declared.suspects.Suspect.{Suspect}
 use Rattle.pv_audit.specs.Findings.{note_of, suspect}
-use Rattle.pv_audit.proofs.FoundOnes.{live-at, undone}
+use Rattle.pv_audit.proofs.NameAccess.{live-at, undone}
 use Rattle.pv_audit.proofs.suspects.note_name.Goals as goal
 
 pub note-requires-clause-live : goal.note-requires-clause-live

@@ -1,6 +1,6 @@
 use Rattle.std.proofs.Common.{length}
 use Rattle.pv_model.specs.Machine.{names_of}
-use Rattle.pv_audit.proofs.FoundOnes.{IsNotedTo, IsOfNode}
+use Rattle.pv_audit.proofs.NameAccess.{IsNotedTo, IsOfNode}
 use Rattle.pv_calls_state.specs.OfTree.NodeNames.{names_from}
 use Rattle.pv_audit.proofs.suspects.note_names.Given as goal
 

@@ -3,9 +3,9 @@ use Rattle.std.proofs.lemmas.List.{nil_from_length}
 use Rattle.pv_model.specs.Machine.{live_processes, Tree, names_of}
 use Rattle.pv_laws_access.proofs.Verdicts.{verdicts-exact}
 use Rattle.pv_audit.specs.Findings.{are_live}
-use Rattle.pv_audit.proofs.AllVerdicts.{some-of, verdict-exposed, verdict-preserved}
-use Rattle.pv_audit.proofs.FoundOnes.{noted-live}
-use Rattle.pv_audit.proofs.LiveOnes.{start, suspects-live}
+use Rattle.pv_audit.proofs.FileVerdicts.{some-of, verdict-exposed, verdict-preserved}
+use Rattle.pv_audit.proofs.NameAccess.{with_name_noted-live}
+use Rattle.pv_audit.proofs.LiveProcesses.{start, suspects-live}
 use Rattle.pv_audit.proofs.verdicts.verdict_of.Goals as goal
 
 pub returns-then-names-eq0 : goal.returns-then-names-eq0
@@ -19,13 +19,13 @@ pub first_leak-requires : goal.first_leak-requires
 first_leak-requires c =
     let s = c.args.parts.now in
     ap (are_live s) (c.as_slice-suspects.ensures.value ∙ c.found_suspects-table_access.ensures.items)
-    ∙ noted-live s (names_of s.tree c.args.node) (map start (live_processes s.processes)) ∙ suspects-live s c.found_suspects-table_access.ensures.ordered
+    ∙ with_name_noted-live s (names_of s.tree c.args.node) (map start (live_processes s.processes)) ∙ suspects-live s c.found_suspects-table_access.ensures.ordered
 
 pub are_all_preserved-requires : goal.are_all_preserved-requires
 are_all_preserved-requires c =
     let s = c.args.parts.now in
     ap (are_live s) (c.as_slice-suspects.ensures.value ∙ c.found_suspects-table_access.ensures.items)
-    ∙ noted-live s (names_of s.tree c.args.node) (map start (live_processes s.processes)) ∙ suspects-live s c.found_suspects-table_access.ensures.ordered
+    ∙ with_name_noted-live s (names_of s.tree c.args.node) (map start (live_processes s.processes)) ∙ suspects-live s c.found_suspects-table_access.ensures.ordered
 
 pub returns-in-Some : goal.returns-in-Some
 returns-in-Some c =

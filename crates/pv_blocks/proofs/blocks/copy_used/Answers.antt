@@ -4,16 +4,16 @@ use Rattle.std.specs.Prelude.{not, slice_index_or}
 use Rattle.pv_model.specs.Machine.{Bytes}
 use Rattle.pv_blocks.specs.declared.block_set.BlockSet.{BlockSet}
 use Rattle.pv_blocks.specs.BlockSet.{is_member}
-use Rattle.pv_blocks.specs.BlockStore.{BlockStore, block_of, blocks_of, free_outside}
-use Rattle.pv_blocks.proofs.Copies.{copied_free, copied_used}
-use Rattle.pv_blocks.proofs.Stores.{get_or-free_outside, length-blocks_of}
+use Rattle.pv_blocks.specs.BlockStore.{BlockStore, block_of, blocks_in_bytes, free_outside}
+use Rattle.pv_blocks.proofs.BlockCopies.{copied_free, copied_used}
+use Rattle.pv_blocks.proofs.BlockStores.{get_or-free_outside, length-blocks_in_bytes}
 use Rattle.pv_blocks.proofs.blocks.copy_used.Goals as goal
 use Rattle.pv_blocks.proofs.blocks.copy_used.Goals.{then-contains, else-contains}
 
--- a store of bytes and a set has as many blocks as it counts
-module _ (bytes : Bytes) (taken : BlockSet) (first count : ℕ) (from : BlockStore) (is : record { blocks = blocks_of count bytes; free = free_outside taken count; first = first } ≡ from) where
+-- the number of blocks of a store of bytes and a set is its count
+module _ (bytes : Bytes) (taken : BlockSet) (first count : ℕ) (from : BlockStore) (is : record { blocks = blocks_in_bytes count bytes; free = free_outside taken count; first = first } ≡ from) where
   counted : count ≡ length from.blocks
-  counted = sym (length-blocks_of count bytes) ∙ ap (λ (s : BlockStore). length s.blocks) is
+  counted = sym (length-blocks_in_bytes count bytes) ∙ ap (λ (s : BlockStore). length s.blocks) is
 
   -- a block is free if it is not in the set
   flag_of : (k : ℕ) → k < count → (member : Bool) → is_member taken k ≡ member → slice_index_or from.free k true ≡ not member

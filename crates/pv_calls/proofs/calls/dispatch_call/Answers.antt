@@ -3,9 +3,9 @@ use Rattle.std.proofs.lemmas.Bool.{and_parts}
 use Rattle.pv_laws_states.specs.States.{is_call, is_word}
 use Rattle.pv_model.specs.Machine.{effect, Bytes, call_of, close, dup, dup2, fchdir, fstat, ftruncate, getdents, lseek, read, write, symlink, fork, wait, program_of, find_entry}
 use Rattle.pv_model.specs.declared.call.Call.TheVariants.{Exit}
-use Rattle.pv_calls.specs.Calls.{continues}
+use Rattle.pv_calls.specs.Calls.{DoesNotBlock}
 use Rattle.pv_calls_path.specs.OfCallsPlain.Performed.{IsAnswered, IsPerformed}
-use Rattle.pv_calls.proofs.Performing.{names-answered, names-performed, quiet, quiet-wait, still, stays-fork, stays-pledge, stays-close, stays-dup, stays-dup2, stays-read, stays-write, stays-lseek, stays-fstat, stays-ftruncate, stays-getdents, stays-fchdir, word-back}
+use Rattle.pv_calls.proofs.StatesAfterCalls.{names-answered, names-performed, quiet, quiet-wait, still, stays-fork, stays-pledge, stays-close, stays-dup, stays-dup2, stays-read, stays-write, stays-lseek, stays-fstat, stays-ftruncate, stays-getdents, stays-fchdir, word-back}
 use Rattle.pv_calls.proofs.calls.dispatch_call.Goals as goal
 
 -- ---- processes
@@ -17,7 +17,7 @@ returns-in-Exit-clause-replied g c = rw c.in-Exit.is
     (word-back c.in-Exit.code (subst (λ x. is_call (call_of x) ≡ true) c.in-Exit.is c.requires.call)) c.exit.ensures.performed)
 
 pub wait-requires-clause-continues : goal.wait-requires-clause-continues
-wait-requires-clause-continues g c = subst (λ x. continues c.args.system.now.parts c.args.pid (call_of x)) c.in-Wait.is c.requires.continues
+wait-requires-clause-continues g c = subst (λ x. DoesNotBlock c.args.system.now.parts c.args.pid (call_of x)) c.in-Wait.is c.requires.continues
 
 pub returns-in-Wait-clause-replied : goal.returns-in-Wait-clause-replied
 unfolding effect

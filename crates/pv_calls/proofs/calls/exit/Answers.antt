@@ -1,7 +1,7 @@
 use Rattle.std.proofs.Common.{◌∙◌, ap, w32}
 use Rattle.std.proofs.lemmas.Int.{to_z-of_z}
 use Rattle.pv_model.specs.Calls.Processes.{exit_status}
-use Rattle.pv_calls.proofs.Performing.{exited}
+use Rattle.pv_calls.proofs.StatesAfterCalls.{exited}
 use Rattle.pv_calls.proofs.calls.exit.Goals as goal
 
 pub returns : goal.returns

@@ -1,5 +1,5 @@
 use Rattle.pv_model.specs.Machine.{call_of}
-use Rattle.pv_calls.proofs.Carrying.{next-caller, carried-on, next-continues, blocked-carried}
+use Rattle.pv_calls.proofs.CallAnswers.{next-caller, carried-on, next-DoesNotBlock, blocked-carried}
 use Rattle.pv_calls.proofs.calls.make_allowed_call.Goals as goal
 
 pub make_other_call-requires-clause-caller : goal.make_other_call-requires-clause-caller
@@ -7,7 +7,7 @@ make_other_call-requires-clause-caller g c = next-caller (g.L.Lookup.agrees c.ar
 
 pub make_other_call-requires-clause-continues : goal.make_other_call-requires-clause-continues
 make_other_call-requires-clause-continues g c =
-    next-continues c.args.system.now.parts c.advance.new.self c.args.pid (call_of c.args.call) c.advance.ensures c.requires.caller.live c.requires.caller.whole.processes.ascending (c.is_blocked.ensures.continues c.if-is_blocked.false)
+    next-DoesNotBlock c.args.system.now.parts c.advance.new.self c.args.pid (call_of c.args.call) c.advance.ensures c.requires.caller.live c.requires.caller.whole.processes.ascending (c.is_blocked.ensures.continues c.if-is_blocked.false)
 
 pub returns-then-is_blocked-clause-carried : goal.returns-then-is_blocked-clause-carried
 returns-then-is_blocked-clause-carried g c = blocked-carried c.args.system.now.parts c.args.pid (call_of c.args.call) c.requires.caller.whole.processes.ascending (c.is_blocked.ensures.blocked c.if-is_blocked.true)

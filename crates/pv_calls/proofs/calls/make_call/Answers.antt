@@ -4,7 +4,7 @@ use Rattle.pv_model.specs.Machine.{call_of, find_entry, at_next_line, refused, w
 use Rattle.pv_model.specs.declared.errno.Errno.TheVariants.{ENOSYS}
 use Rattle.pv_model.specs.declared.outcome.Cause.TheVariants.{Promise as ByPromise}
 use Rattle.pv_laws_states.proofs.Processes.{update-is}
-use Rattle.pv_calls.proofs.Carrying.{answer-gone, answer-allowed-if, answer-refused, killed-so, loads-if, next-live, decided, find-end, reported-tree, live-of, gone-of}
+use Rattle.pv_calls.proofs.CallAnswers.{answer-gone, answer-allowed-if, answer-refused, killed-so, loads-if, next-live, decided, find-end, reported-tree, live-of, gone-of}
 use Rattle.pv_calls.proofs.calls.make_call.Goals as goal
 
 pub returns-in_default-clause-answered : goal.returns-in_default-clause-answered

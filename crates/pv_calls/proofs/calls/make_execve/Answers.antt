@@ -3,13 +3,13 @@ use Rattle.std.specs.Prelude.{IsSome}
 use Rattle.pv_model.specs.declared.call.Call.TheVariants.{Execve}
 use Rattle.pv_model.specs.Machine.{at_next_line, effect, update, execve, program_of, process_at, with_process}
 use Rattle.pv_laws_states.proofs.Processes.{update-is}
-use Rattle.pv_audit.specs.OfCallsState.Attempts.{collected}
+use Rattle.pv_audit.specs.OfCallsState.Attempts.{collected_attempt}
 use Rattle.pv_calls_path.specs.Execve.{Executes}
-use Rattle.pv_audit.proofs.OfCallsState.Alone.{some-at}
-use Rattle.pv_calls.proofs.Carrying.{next-live}
-use Rattle.pv_calls.proofs.Executing.{execve-next}
-use Rattle.pv_calls.proofs.Living.{lives}
-use Rattle.pv_calls.proofs.Performing.{performed-live}
+use Rattle.pv_audit.proofs.OfCallsState.UncountedChanges.{some-at}
+use Rattle.pv_calls.proofs.CallAnswers.{next-live}
+use Rattle.pv_calls.proofs.ExecveSteps.{execve-next}
+use Rattle.pv_calls.proofs.LiveCallers.{lives}
+use Rattle.pv_calls.proofs.StatesAfterCalls.{performed-live}
 use Rattle.pv_calls.proofs.calls.make_execve.Goals as goal
 
 pub report-requires-clause-live : goal.report-requires-clause-live
@@ -30,7 +30,7 @@ returns-in-Ok-clause-carried g c = λ me at.
     let s = c.args.system.now.parts in
     let next = with_process s c.args.pid (at_next_line me) in
     c.report.ensures.reported s next (at_next_line me) (execve next c.args.pid (at_next_line me) program_of c.args.path.now)
-    (ap collected (execve-next s c.args.pid me c.args.path.now) ∙ c.in-Ok.ensures.performed me at) tt
+    (ap collected_attempt (execve-next s c.args.pid me c.args.path.now) ∙ c.in-Ok.ensures.performed me at) tt
 
 pub returns-in-Err-Refused-clause-carried : goal.returns-in-Err-Refused-clause-carried
 unfolding effect
@@ -38,7 +38,7 @@ returns-in-Err-Refused-clause-carried g c = λ me at.
     let s = c.args.system.now.parts in
     let next = with_process s c.args.pid (at_next_line me) in
     c.report-in-Err-Refused.ensures.reported s next (at_next_line me) (execve next c.args.pid (at_next_line me) program_of c.args.path.now)
-    (ap collected (execve-next s c.args.pid me c.args.path.now) ∙ subst (λ f. Executes s c.args.pid me c.args.path.now c.execve.new.system.parts (Err f)) c.in-Err-Refused.field-0-is (c.in-Err-Refused.ensures.performed me at))
+    (ap collected_attempt (execve-next s c.args.pid me c.args.path.now) ∙ subst (λ f. Executes s c.args.pid me c.args.path.now c.execve.new.system.parts (Err f)) c.in-Err-Refused.field-0-is (c.in-Err-Refused.ensures.performed me at))
     (c.advance.ensures ∙ ap (λ x. update x c.args.pid at_next_line) c.in-Err-Refused.ensures.unchanged ∙ update-is s c.args.pid at_next_line me at)
 
 pub returns-in-Err-Memory-clause-memory : goal.returns-in-Err-Memory-clause-memory

@@ -1,7 +1,7 @@
 use Rattle.std.proofs.Common.{sym, subst}
 use Rattle.pv_model.specs.Machine.{effect, call_of, program_of, find_entry}
-use Rattle.pv_calls.proofs.Living.{lives}
-use Rattle.pv_calls.proofs.Performing.{reported-live}
+use Rattle.pv_calls.proofs.LiveCallers.{lives}
+use Rattle.pv_calls.proofs.StatesAfterCalls.{reported-live}
 use Rattle.pv_calls.proofs.calls.make_other_call.Goals as goal
 
 pub report-requires : goal.report-requires

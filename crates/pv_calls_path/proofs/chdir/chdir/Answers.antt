@@ -1,11 +1,11 @@
 use Rattle.std.proofs.Common.{◌≡◌, ◌∙◌, ap, sym, true, false, arith, refl}
 use Rattle.std.proofs.lemmas.Result.{err_from_is_err_and}
-use Rattle.pv_calls_plain.specs.OfCallsState.Attempts.{collected}
+use Rattle.pv_calls_plain.specs.OfCallsState.Attempts.{collected_attempt}
 use Rattle.pv_calls_plain.specs.OfCallsState.Changes.{with_directory}
 use Rattle.pv_model.specs.Machine.{update_live, collect, with_process, find_entry, is_directory_at}
-use Rattle.pv_calls_path.proofs.Naming.{alike_update}
+use Rattle.pv_calls_path.proofs.DirectoryNames.{alike_update}
 use Rattle.pv_calls_path.proofs.NodeCalls.{chdir_refused, chdir_goes}
-use Rattle.pv_calls_path.proofs.Reaching.{found-as, missed-as}
+use Rattle.pv_calls_path.proofs.CheckedWalks.{found-as, missed-as}
 use Rattle.pv_calls_path.proofs.UnveilCalls.{leaves}
 use Rattle.pv_calls_path.proofs.chdir.chdir.Goals as goal
 
@@ -13,7 +13,7 @@ pub returns-in_err-node-clause-performed : goal.returns-in_err-node-clause-perfo
 returns-in_err-node-clause-performed g c =
     let p = err_from_is_err_and c.from_residual.result c.from_residual.ensures.1 in
     record {
-      as_defined = λ me at. rw (p.1, p.2) (ap collected (missed-as c.args.system.now.parts me me.directory c.chdir-walk.ensures _ (c.in_err-node.ensures.missed me at) _));
+      as_defined = λ me at. rw (p.1, p.2) (ap collected_attempt (missed-as c.args.system.now.parts me me.directory c.chdir-walk.ensures _ (c.in_err-node.ensures.missed me at) _));
       unchanged = rw p.1 refl;
       small = rw p.1 tt;
     }
@@ -24,7 +24,7 @@ returns-then-not-is_directory-clause-performed g c =
     let n = c.in_ok-node.node in
     let other : is_directory_at s.tree n ≡ false = ap (λ t. is_directory_at t n) (sym c.tree.ensures) ∙ sym c.is_directory.ensures ∙ c.if-not-is_directory.true in
     record {
-      as_defined = λ me at. rw c.refusal.ensures (ap collected (chdir_refused s c.args.pid me c.args.path.now n (found-as s me me.directory c.chdir-walk.ensures n (c.in_ok-node.ensures.finds.found me at)) other));
+      as_defined = λ me at. rw c.refusal.ensures (ap collected_attempt (chdir_refused s c.args.pid me c.args.path.now n (found-as s me me.directory c.chdir-walk.ensures n (c.in_ok-node.ensures.finds.found me at)) other));
       unchanged = refl;
       small = tt;
     }
@@ -37,7 +37,7 @@ returns-clause-performed g c =
     record {
       as_defined = λ me at. rw c.answer_of.ensures
           (leaves _ (collect (with_process s c.args.pid (with_directory n me))) c.set_directory.new.self
-          (ap collected (chdir_goes s c.args.pid me c.args.path.now n (found-as s me me.directory c.chdir-walk.ensures n (c.in_ok-node.ensures.finds.found me at)) directory))
+          (ap collected_attempt (chdir_goes s c.args.pid me c.args.path.now n (found-as s me me.directory c.chdir-walk.ensures n (c.in_ok-node.ensures.finds.found me at)) directory))
           (ap (λ o. collect (update_live s c.args.pid (with_directory n) o)) (sym at) ∙ sym c.set_directory.ensures));
       unchanged = rw c.answer_of.ensures tt;
       small = rw c.answer_of.ensures (omega arith);

@@ -1,5 +1,5 @@
 use Rattle.pv_model.specs.Machine.{program_of}
-use Rattle.pv_calls_path.proofs.Begun.{begun-ends}
+use Rattle.pv_calls_path.proofs.WalkEnds.{begun-ends}
 use Rattle.pv_calls_path.proofs.ends.begun_ends.Goals as goal
 
 pub returns : goal.returns

@@ -1,11 +1,11 @@
 use Rattle.std.proofs.Common.{◌≡◌, ◌∙◌, ◌≤◌, true, false, length, refl, ap, ap₂, sym, subst}
-use Rattle.pv_namei.specs.OfDirs.Trees.{bytes_at}
+use Rattle.pv_namei.specs.OfDirs.Trees.{node_bytes_at}
 use Rattle.pv_model.specs.declared.errno.Errno.TheVariants.{EINVAL}
 use Rattle.pv_model.specs.declared.outcome.Cause.TheVariants.{Plain}
 use Rattle.pv_model.specs.Machine.{answer_by_attempt, done, refused, is_link, returns_bytes, process_at, find_entry, node_at}
-use Rattle.pv_calls_plain.proofs.OfCallsState.Alone.{some-at}
-use Rattle.pv_calls_path.proofs.LookCalls.{link_rest, names-refused, names-reported, readlink-is, readlink-not, text-short, whole-text}
-use Rattle.pv_calls_path.proofs.Reaching.{found-as, missed-as}
+use Rattle.pv_calls_plain.proofs.OfCallsState.UncountedChanges.{some-at}
+use Rattle.pv_calls_path.proofs.StatusCalls.{link_rest, names-refused, names-reported, readlink-is, readlink-not, text-short, whole-text}
+use Rattle.pv_calls_path.proofs.CheckedWalks.{found-as, missed-as}
 use Rattle.pv_calls_path.proofs.looking.readlink.Goals as goal
 
 pub returns-in-Err-clause-performed : goal.returns-in-Err-clause-performed
@@ -47,9 +47,9 @@ returns-clause-performed g c = λ before me at.
     let s = c.args.system.now.parts in
     let n = c.in-Ok.node in
     let link : is_link (node_at s.tree n) ≡ true = ap (λ t. is_link (node_at t n)) (sym c.tree.ensures) ∙ sym c.is_link.ensures ∙ c.if-not-is_link.false in
-    let short = subst (λ t. length (bytes_at t n) ≤ 1023) (sym c.tree-2.ensures) (text-short s c.requires.caller.whole n link) in
-    let read = whole-text c.read_at-length.result (bytes_at c.tree-2.result.now.tree n) _ c.read_at-length.new.buffer short refl c.read_at-length.ensures.count c.read_at-length.ensures.bytes in
-    let same = ap (λ t. bytes_at t n) c.tree-2.ensures in
+    let short = subst (λ t. length (node_bytes_at t n) ≤ 1023) (sym c.tree-2.ensures) (text-short s c.requires.caller.whole n link) in
+    let read = whole-text c.read_at-length.result (node_bytes_at c.tree-2.result.now.tree n) _ c.read_at-length.new.buffer short refl c.read_at-length.ensures.count c.read_at-length.ensures.bytes in
+    let same = ap (λ t. node_bytes_at t n) c.tree-2.ensures in
     ap (answer_by_attempt before s c.args.pid me)
     (readlink-is s c.args.pid me c.args.path.now n (found-as s me me.directory c.readlink-walk.ensures n (c.in-Ok.ensures.finds.found me at)) link
     ∙ ap₂ (λ k bs. done 1 (s, returns_bytes k bs)) (ap length (sym same) ∙ sym read.0) (sym same ∙ sym read.1))

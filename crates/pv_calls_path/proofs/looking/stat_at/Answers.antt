@@ -1,7 +1,7 @@
 use Rattle.std.proofs.Common.{◌∙◌, refl, ap, sym}
 use Rattle.pv_model.specs.Machine.{answer_by_attempt, done, refused, answers_bytes, returns_bytes, status, process_at, find_entry, walk_of}
-use Rattle.pv_calls_plain.proofs.OfCallsState.Alone.{some-at}
-use Rattle.pv_calls_path.proofs.LookCalls.{names-refused, names-reported, stat-walks}
+use Rattle.pv_calls_plain.proofs.OfCallsState.UncountedChanges.{some-at}
+use Rattle.pv_calls_path.proofs.StatusCalls.{names-refused, names-reported, stat-walks}
 use Rattle.pv_calls_path.proofs.looking.stat_at.Goals as goal
 
 pub returns-in-Ok-clause-performed : goal.returns-in-Ok-clause-performed

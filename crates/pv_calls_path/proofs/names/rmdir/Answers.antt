@@ -1,9 +1,9 @@
 use Rattle.std.proofs.Common.{◌≡◌, ◌∙◌, ap, sym, true, false, refl}
 use Rattle.std.proofs.lemmas.Result.{err_from_is_err_and}
-use Rattle.pv_calls_plain.specs.OfCallsState.Attempts.{collected}
+use Rattle.pv_calls_plain.specs.OfCallsState.Attempts.{collected_attempt}
 use Rattle.pv_model.specs.Machine.{is_empty, ends_in_dot, find_entry, is_directory_at, entries_at}
 use Rattle.pv_calls_path.proofs.NameCalls.{names_left, some_left, rmdir_missed, rmdir_full}
-use Rattle.pv_calls_path.proofs.Reaching.{missed-as, reached-as}
+use Rattle.pv_calls_path.proofs.CheckedWalks.{missed-as, reached-as}
 use Rattle.pv_calls_path.proofs.names.rmdir.Goals as goal
 
 pub returns-in_err-found-clause-performed : goal.returns-in_err-found-clause-performed
@@ -11,7 +11,7 @@ returns-in_err-found-clause-performed g c =
     let p = err_from_is_err_and c.from_residual.result c.from_residual.ensures.1 in
     let fine : ends_in_dot c.args.path.now ≡ false = sym c.ends_in_dot.ensures ∙ c.if-ends_in_dot.false in
     record {
-      as_defined = λ me at. rw (p.1, p.2) (ap collected (rmdir_missed c.args.system.now.parts c.args.pid me c.args.path.now fine _ (missed-as c.args.system.now.parts me me.directory c.rmdir-walk.ensures _ (c.in_err-found.ensures.missed me at))));
+      as_defined = λ me at. rw (p.1, p.2) (ap collected_attempt (rmdir_missed c.args.system.now.parts c.args.pid me c.args.path.now fine _ (missed-as c.args.system.now.parts me me.directory c.rmdir-walk.ensures _ (c.in_err-found.ensures.missed me at))));
       unchanged = rw p.1 refl;
       small = rw p.1 tt;
     }
@@ -26,7 +26,7 @@ returns-then-not-is_empty-clause-performed g c =
     ap (λ t. is_empty (entries_at t n)) (sym c.tree-2.ensures) ∙ some_left (entries_at c.tree-2.result.now.tree n) c.is_empty.result c.is_empty.ensures.1 c.if-not-is_empty.true in
     record {
       as_defined = λ me at. rw c.refusal-then-not-is_empty.ensures
-          (ap collected (rmdir_full s c.args.pid me c.args.path.now fine c.in_ok-found.found.place (reached-as s me me.directory c.rmdir-walk.ensures c.in_ok-found.found.place (c.in_ok-found.ensures.reaches.reached me at)) n c.in_ok-found.ensures.reaches.there directory
+          (ap collected_attempt (rmdir_full s c.args.pid me c.args.path.now fine c.in_ok-found.found.place (reached-as s me me.directory c.rmdir-walk.ensures c.in_ok-found.found.place (c.in_ok-found.ensures.reaches.reached me at)) n c.in_ok-found.ensures.reaches.there directory
           c.in-Some.directory c.in-Some.name.now c.in-Some.ensures full));
       unchanged = refl;
       small = tt;

@@ -1,17 +1,17 @@
 use Rattle.std.proofs.Common.{◌≡◌, ◌∙◌, ap, sym, false, refl}
 use Rattle.std.proofs.lemmas.Result.{err_from_is_err_and}
-use Rattle.pv_calls_plain.specs.OfCallsState.Attempts.{collected}
+use Rattle.pv_calls_plain.specs.OfCallsState.Attempts.{collected_attempt}
 use Rattle.pv_model.specs.Machine.{find_entry, is_directory_at, node_at}
 use Rattle.pv_calls_path.proofs.NameCalls.{names_left}
-use Rattle.pv_calls_path.proofs.Reaching.{missed-as}
+use Rattle.pv_calls_path.proofs.CheckedWalks.{missed-as}
 use Rattle.pv_calls_path.proofs.names.unlink.Goals as goal
-use Rattle.pv_laws_states.proofs.ByTree.{plain_entries}
+use Rattle.pv_laws_states.proofs.ValidByTree.{plain_entries}
 
 pub returns-in_err-found-clause-performed : goal.returns-in_err-found-clause-performed
 returns-in_err-found-clause-performed g c =
     let p = err_from_is_err_and c.from_residual.result c.from_residual.ensures.1 in
     record {
-      as_defined = λ me at. rw (p.1, p.2) (ap collected (missed-as c.args.system.now.parts me me.directory c.unlink-walk.ensures _ (c.in_err-found.ensures.missed me at) _));
+      as_defined = λ me at. rw (p.1, p.2) (ap collected_attempt (missed-as c.args.system.now.parts me me.directory c.unlink-walk.ensures _ (c.in_err-found.ensures.missed me at) _));
       unchanged = rw p.1 refl;
       small = rw p.1 tt;
     }

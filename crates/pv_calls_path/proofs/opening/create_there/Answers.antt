@@ -1,7 +1,7 @@
 use Rattle.std.proofs.Common.{◌≡◌, ◌∙◌, ap, sym, true}
-use Rattle.pv_calls_plain.specs.OfCallsState.Attempts.{collected}
+use Rattle.pv_calls_plain.specs.OfCallsState.Attempts.{collected_attempt}
 use Rattle.pv_model.specs.Machine.{fits, process_at, find_entry}
-use Rattle.pv_calls_plain.proofs.OfCallsState.Alone.{some-at}
+use Rattle.pv_calls_plain.proofs.OfCallsState.UncountedChanges.{some-at}
 use Rattle.pv_calls_path.proofs.OpenCalls.{names_opened, create_crowded}
 use Rattle.pv_calls_path.proofs.opening.create_there.Goals as goal
 
@@ -19,7 +19,7 @@ returns-in-Err-clause-performed g c =
     let s = c.args.parts.now in
     record {
       as_defined = λ me at. rw (c.refusal-in-Err.ensures, c.space_errno.ensures)
-          (ap collected (create_crowded s c.args.pid me c.args.flags c.requires.flags c.if-not-flags.false c.args.place.now c.requires.absent
+          (ap collected_attempt (create_crowded s c.args.pid me c.args.flags c.requires.flags c.if-not-flags.false c.args.place.now c.requires.absent
           c.in-Some.directory c.in-Some.name.now c.in-Some.ensures c.in-Err.space (c.in-Err.ensures.lacks_room.refused me at)));
       unchanged = c.in-Err.ensures.lacks_room.unchanged;
       small = tt;

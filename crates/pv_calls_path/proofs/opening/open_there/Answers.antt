@@ -1,5 +1,5 @@
 use Rattle.pv_model.specs.Machine.{process_at}
-use Rattle.pv_calls_plain.proofs.OfCallsState.Alone.{some-at}
+use Rattle.pv_calls_plain.proofs.OfCallsState.UncountedChanges.{some-at}
 use Rattle.pv_calls_path.proofs.OpenCalls.{alike_opened}
 use Rattle.pv_calls_path.proofs.opening.open_there.Goals as goal
 

@@ -1,7 +1,7 @@
 use Rattle.std.proofs.Common.{◌∙◌}
 use Rattle.std.proofs.lemmas.Result.{err_from_is_err_and}
 use Rattle.pv_model.specs.Machine.{walk_of}
-use Rattle.pv_calls_path.proofs.Reaching.{reached_then}
+use Rattle.pv_calls_path.proofs.CheckedWalks.{reached_then}
 use Rattle.pv_calls_path.proofs.reach.reach_both.Goals as goal
 
 pub returns-in_err-place-clause-missed : goal.returns-in_err-place-clause-missed

@@ -5,7 +5,7 @@ use Rattle.pv_model.specs.declared.errno.Errno.TheVariants.{ENOENT, EACCES}
 use Rattle.pv_model.specs.declared.judgement.Judgement.TheVariants.{Allowed, Hidden, Denied}
 use Rattle.pv_model.specs.declared.outcome.Cause.TheVariants.{Unveil as ByUnveil}
 use Rattle.std.specs.Prelude.{None, Some}
-use Rattle.pv_calls_path.proofs.Reaching.{fine_directory, judged_stop, judged_as}
+use Rattle.pv_calls_path.proofs.CheckedWalks.{fine_directory, judged_stop, judged_as}
 use Rattle.pv_calls_path.proofs.reach.reach_from.Goals as goal
 
 pub returns-in_err-place-clause-stops : goal.returns-in_err-place-clause-stops

@@ -1,5 +1,5 @@
 use Rattle.std.proofs.lemmas.Result.{err_from_is_err_and}
-use Rattle.pv_laws_states.proofs.ByTree.{place-there}
+use Rattle.pv_laws_states.proofs.ValidByTree.{place-there}
 use Rattle.pv_model.specs.Machine.{walk_of}
 use Rattle.pv_calls_path.proofs.NodeCalls.{found_there}
 use Rattle.pv_calls_path.proofs.reach.reach_node.Goals as goal

@@ -1,6 +1,6 @@
 use Rattle.std.proofs.Common.{◌∙◌, sym, ap, rules}
 use Rattle.pv_model.specs.Machine.{resolve}
-use Rattle.pv_calls_path.proofs.Reaching.{found_fine, walk_found, walk_refused, walks-few}
+use Rattle.pv_calls_path.proofs.CheckedWalks.{found_fine, walk_found, walk_refused, walks-few}
 use Rattle.pv_calls_path.proofs.reach.walk_to.Goals as goal
 
 pub returns-in-Ok-clause-leads : goal.returns-in-Ok-clause-leads

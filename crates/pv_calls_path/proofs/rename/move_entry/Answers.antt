@@ -1,7 +1,7 @@
 use Rattle.std.proofs.Common.{◌≡◌, ◌∙◌, ap, sym, false, true, arith, refl}
-use Rattle.pv_calls_plain.specs.OfCallsState.Attempts.{collected}
+use Rattle.pv_calls_plain.specs.OfCallsState.Attempts.{collected_attempt}
 use Rattle.pv_calls_path.specs.Moving.{check_move}
-use Rattle.pv_calls_path.proofs.Renaming.{move_clear, move_empty, move_refused, move_crowded, move_made, names_moved}
+use Rattle.pv_calls_path.proofs.RenameChecks.{move_clear, move_empty, move_refused, move_crowded, move_made, names_moved}
 use Rattle.pv_model.specs.Machine.{after_walks, give, entries_there, fits, is_too_long, find_entry}
 use Rattle.pv_calls_path.proofs.rename.move_entry.Goals as goal
 
@@ -10,7 +10,7 @@ returns-in-Err-clause-performed g c = λ pid.
     let s = c.args.parts.now in
     record {
       as_defined = λ me at. rw c.refusal.ensures
-          (ap (λ a. collected (after_walks 2 a)) (move_refused s pid me c.args.node c.args.old_name.0 c.args.old_name.1.now c.args.new_name.0 c.args.new_name.1.now c.args.there c.in-Err.errno
+          (ap (λ a. collected_attempt (after_walks 2 a)) (move_refused s pid me c.args.node c.args.old_name.0 c.args.old_name.1.now c.args.new_name.0 c.args.new_name.1.now c.args.there c.in-Err.errno
           (ap (λ t. check_move t c.args.node c.args.new_name.0 c.args.there) (sym c.tree.ensures) ∙ c.in-Err.ensures)));
       unchanged = refl;
       small = tt;
@@ -37,7 +37,7 @@ returns-in-Err-rename-clause-performed g c = λ pid.
     ap (λ t. check_move t c.args.node c.args.new_name.0 c.args.there) (sym c.tree.ensures) ∙ c.in_default.ensures in
     record {
       as_defined = λ me at. rw (c.refusal-in-Err-rename.ensures, c.space_errno.ensures)
-          (ap (λ a. collected (after_walks 2 a)) (move_crowded s pid me c.args.node c.args.old_name.0 c.args.old_name.1.now c.args.new_name.0 c.args.new_name.1.now c.args.there c.in-Err-rename.space passes
+          (ap (λ a. collected_attempt (after_walks 2 a)) (move_crowded s pid me c.args.node c.args.old_name.0 c.args.old_name.1.now c.args.new_name.0 c.args.new_name.1.now c.args.there c.in-Err-rename.space passes
           c.requires.node c.in-Err-rename.ensures.refused));
       unchanged = c.in-Err-rename.ensures.err;
       small = tt;

@@ -1,10 +1,10 @@
 use Rattle.std.proofs.Common.{◌≡◌, ◌∙◌, ap, sym, false, refl, rules}
 use Rattle.std.proofs.lemmas.Result.{err_from_is_err_and}
-use Rattle.pv_calls_plain.specs.OfCallsState.Attempts.{collected}
-use Rattle.pv_calls_path.proofs.Renaming.{apart_from, rename_missed, rename_reached}
-use Rattle.pv_laws_states.proofs.ByTree.{named-place}
+use Rattle.pv_calls_plain.specs.OfCallsState.Attempts.{collected_attempt}
+use Rattle.pv_calls_path.proofs.RenameChecks.{apart_from, rename_missed, rename_reached}
+use Rattle.pv_laws_states.proofs.ValidByTree.{named-place}
 use Rattle.pv_model.specs.Machine.{ends_in_dot, same_node, node_of}
-use Rattle.pv_calls_path.proofs.Reaching.{both-missed-as, reached-as}
+use Rattle.pv_calls_path.proofs.CheckedWalks.{both-missed-as, reached-as}
 use Rattle.pv_calls_path.proofs.rename.rename.Goals as goal
 
 pub returns-in_err-both-clause-performed : goal.returns-in_err-both-clause-performed
@@ -13,7 +13,7 @@ returns-in_err-both-clause-performed g c =
     let fine : ends_in_dot c.args.path.now ≡ false = sym c.ends_in_dot.ensures ∙ c.if-ends_in_dot.false in
     let other : ends_in_dot c.args.new.now ≡ false = sym c.ends_in_dot-else-ends_in_dot.ensures ∙ c.if-ends_in_dot-2.false in
     record {
-      as_defined = λ me at. rw (p.1, p.2) (ap collected (rename_missed c.args.system.now.parts c.args.pid me c.args.path.now c.args.new.now fine other _ (both-missed-as c.args.system.now.parts me c.rename-first.ensures c.rename-second.ensures _ (c.in_err-both.ensures.missed me at))));
+      as_defined = λ me at. rw (p.1, p.2) (ap collected_attempt (rename_missed c.args.system.now.parts c.args.pid me c.args.path.now c.args.new.now fine other _ (both-missed-as c.args.system.now.parts me c.rename-first.ensures c.rename-second.ensures _ (c.in_err-both.ensures.missed me at))));
       unchanged = rw p.1 refl;
       small = rw p.1 tt;
     }
@@ -54,7 +54,7 @@ returns-clause-performed g c =
     let differs : same_node o n ≡ false = ap (λ x. same_node x n) (sym c.node-there.ensures) ∙ sym c.is_same_node.ensures ∙ c.if-is_same_node.false in
     let moved = c.move_entry.ensures.performed c.args.pid in
     record {
-      as_defined = λ me at. ap collected (rename_reached s c.args.pid me c.args.path.now c.args.new.now fine other c.in_ok-both.both.first c.in_ok-both.both.second
+      as_defined = λ me at. ap collected_attempt (rename_reached s c.args.pid me c.args.path.now c.args.new.now fine other c.in_ok-both.both.first c.in_ok-both.both.second
           (reached-as s me me.directory c.rename-first.ensures c.in_ok-both.both.first (c.in_ok-both.ensures.first.reached me at)) (reached-as s me me.directory c.rename-second.ensures c.in_ok-both.both.second (c.in_ok-both.ensures.second.reached me at))
           n c.in_ok-both.ensures.first.there c.in-Some-Some.old_name.0 c.in-Some-Some.old_name.1.now c.in-Some-Some.ensures c.in-Some-Some.new_name.0 c.in-Some-Some.new_name.1.now c.in-Some-Some.ensures' differs
           c.node-there.result c.node-there.ensures) ∙ moved.as_defined me at;

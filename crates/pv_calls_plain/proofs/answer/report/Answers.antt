@@ -2,7 +2,7 @@ use Rattle.std.proofs.Common.{◌∙◌, ◌≤◌, w32, ap, subst, arith}
 use Rattle.std.proofs.lemmas.Int.{to_z_pos}
 use Rattle.std.specs.Prelude.{IfOk}
 use Rattle.pv_calls_plain.specs.Performed.{attempt_of}
-use Rattle.pv_calls_plain.proofs.Reporting.{reported_value}
+use Rattle.pv_calls_plain.proofs.ReportedCollections.{reported_value}
 use Rattle.pv_calls_plain.proofs.answer.report.Goals as goal
 
 small : (c : goal.After-report) → c.in-Ok.field-0.value ≤ 2147483647

@@ -1,6 +1,6 @@
 use Rattle.std.proofs.Common.{◌∙◌, refl, sym}
 use Rattle.pv_model.specs.Machine.{with_front}
-use Rattle.pv_calls_plain.proofs.Reporting.{live-update, same-front, collect-update}
+use Rattle.pv_calls_plain.proofs.ReportedCollections.{live-update, same-front, collect-update}
 use Rattle.pv_calls_plain.proofs.answer.report_bytes.Goals as goal
 
 pub report_front-requires-clause-live : goal.report_front-requires-clause-live

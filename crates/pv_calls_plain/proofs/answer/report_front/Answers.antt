@@ -1,6 +1,6 @@
 use Rattle.std.proofs.Common.{w32, arith}
 use Rattle.std.proofs.lemmas.Int.{to_z_pos}
-use Rattle.pv_calls_plain.proofs.Reporting.{reported_front}
+use Rattle.pv_calls_plain.proofs.ReportedCollections.{reported_front}
 use Rattle.pv_calls_plain.proofs.answer.report_front.Goals as goal
 
 pub returns : goal.returns

@@ -8,8 +8,8 @@ use Rattle.pv_files.specs.Descriptors.{descriptor_under}
 use Rattle.pv_model.specs.declared.errno.Errno.TheVariants.{EBADF}
 use Rattle.pv_model.specs.Machine.{open_file, Descriptor, Process, process_at}
 use Rattle.pv_calls_state.specs.OfProcs.declared.record.ProcessRecord.{ProcessRecord}
-use Rattle.pv_calls_state.proofs.Alone.{some-at, lent-is}
-use Rattle.pv_calls_plain.proofs.Opened.{on-file, on-opened}
+use Rattle.pv_calls_state.proofs.UncountedChanges.{some-at, lent-is}
+use Rattle.pv_calls_plain.proofs.DescriptorFiles.{on-file, on-opened}
 use Rattle.pv_calls_plain.proofs.descriptors.open_file.Goals as goal
 
 found : (c : goal.After-ok) (me : Process) → process_at c.args.parts.now c.args.pid ≡ Some me

@@ -1,6 +1,6 @@
 use Rattle.std.proofs.Common.{◌∙◌, ap, arith, rules, sym}
 use Rattle.pv_model.specs.Machine.{at_number, is_file, OpenFile, writes, node_at}
-use Rattle.pv_calls_state.proofs.Alone.{some-at}
+use Rattle.pv_calls_state.proofs.UncountedChanges.{some-at}
 use Rattle.pv_calls_plain.proofs.FileCalls.{file-part, is-written}
 use Rattle.pv_calls_plain.proofs.files.ftruncate.Goals as goal
 

@@ -1,6 +1,6 @@
 use Rattle.std.proofs.Common.{◌≡◌, ◌∙◌, ℕ, pos, ◌+ℤ◌, Some, None, false, Option, ap, ap₂, refl, rules, sym, subst, w32}
 use Rattle.std.proofs.lemmas.Int.{to_z-of_z}
-use Rattle.pv_calls_state.specs.Attempts.{collected}
+use Rattle.pv_calls_state.specs.Attempts.{collected_attempt}
 use Rattle.pv_calls_plain.specs.Performed.{IsOn, attempt_of}
 use Rattle.pv_model.specs.declared.limits.TheConstants.{OFFSET}
 use Rattle.pv_model.specs.Machine.{done, within, returns as returns_number, with_file, collect, at_number, OpenFile, is_directory_at}
@@ -28,7 +28,7 @@ returns-in_default-offset_from c = record {
         let plain = ap₂ is_directory_at (sym c.tree.ensures) (sym node) ∙ sym c.is_directory.ensures ∙ c.if-is_directory.false in
         let out = ap₂ (λ n z. within OFFSET (pos n +ℤ z)) (sym (c.seek_base-base.ensures c.args.pid me on.file on.there)) (sym (to_z-of_z w32 c.args.by c.ranges.by))
         ∙ sym c.offset_from.ensures ∙ c.in_default-offset_from.is in
-        ap collected (lseek-out s c.args.pid me c.args.d k on.file on.opened c.args.by c.args.whence plain out) ∙ ap (λ r. attempt_of s (Rattle.std.proofs.Common.Err r)) (sym c.refusal-in_default-offset_from.ensures);
+        ap collected_attempt (lseek-out s c.args.pid me c.args.d k on.file on.opened c.args.by c.args.whence plain out) ∙ ap (λ r. attempt_of s (Rattle.std.proofs.Common.Err r)) (sym c.refusal-in_default-offset_from.ensures);
     unchanged = refl;
     small = tt;
   };
@@ -48,7 +48,7 @@ returns c = record {
         let found = ap₂ (λ n z. within OFFSET (pos n +ℤ z)) (sym (c.seek_base-base.ensures c.args.pid me on.file on.there)) (sym (to_z-of_z w32 c.args.by c.ranges.by))
         ∙ sym c.offset_from.ensures ∙ c.in-Some-offset_from.is in
         let preserved = part-is (λ (f : OpenFile). with_file s k (record f { offset = offset })) (at_number s.files k) on.file new c.set_offset.ensures on.there in
-        ap collected (lseek-to s c.args.pid me c.args.d k on.file on.opened c.args.by c.args.whence offset plain found)
+        ap collected_attempt (lseek-to s c.args.pid me c.args.d k on.file on.opened c.args.by c.args.whence offset plain found)
         ∙ ap (λ x. done 0 (x, returns_number offset)) (ap collect (sym preserved) ∙ c.invariant.ensures.collected) ∙ ap (attempt_of new) (sym c.answer_of.ensures);
     unchanged = rw c.answer_of.ensures tt;
     small = rw c.answer_of.ensures (search rules);

@@ -4,11 +4,11 @@ use Rattle.std.proofs.lemmas.List.{length-take}
 use Rattle.pv_calls_plain.specs.Performed.{IsOn}
 use Rattle.pv_model.specs.declared.limits.TheConstants.{BUFFER}
 use Rattle.pv_model.specs.Machine.{update, with_front, done, within, bytes_of, returns_bytes, with_file, at_number, is_file, OpenFile, process_at, reads, is_directory_at, node_at}
-use Rattle.pv_laws_states.proofs.ByProcess.{within-limit}
+use Rattle.pv_laws_states.proofs.ValidByProcess.{within-limit}
 use Rattle.pv_calls_state.specs.Changes.{bytes_read}
-use Rattle.pv_calls_state.proofs.Alone.{some-at}
+use Rattle.pv_calls_state.proofs.UncountedChanges.{some-at}
 use Rattle.pv_calls_plain.proofs.FileCalls.{file-part, is-plain, offset-moved, read-is}
-use Rattle.pv_calls_plain.proofs.Reporting.{live-update}
+use Rattle.pv_calls_plain.proofs.ReportedCollections.{live-update}
 use Rattle.pv_calls_plain.proofs.files.read_front.Goals as goal
 
 pub read_front-taken-requires-clause-file : goal.read_front-taken-requires-clause-file

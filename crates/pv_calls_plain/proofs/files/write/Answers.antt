@@ -1,7 +1,7 @@
 use Rattle.std.proofs.Common.{◌∙◌, ap, arith, rules, sym, subst, w32}
 use Rattle.std.proofs.lemmas.Int.{to_z-of_z}
 use Rattle.std.proofs.lemmas.Result.{IfOk-weaker}
-use Rattle.pv_calls_state.specs.Attempts.{collected}
+use Rattle.pv_calls_state.specs.Attempts.{collected_attempt}
 use Rattle.pv_calls_plain.specs.Performed.{IsOn}
 use Rattle.pv_model.specs.declared.limits.TheConstants.{BUFFER}
 use Rattle.pv_model.specs.Machine.{within, OpenFile, writes}
@@ -29,7 +29,7 @@ returns c = record {
         let mode = file-part (λ (f : OpenFile). f.mode) c.files.result.now.files s.files k on.file c.mode.result c.files.ensures c.mode.ensures on.there in
         let may = ap writes (sym mode) ∙ sym c.writes.ensures ∙ c.if-not-writes.false in
         let low = ap (λ z. within BUFFER z) (sym (to_z-of_z w32 c.args.n c.ranges.n)) ∙ sym c.within.ensures ∙ c.in-Some-within.is in
-        ap collected (write-is s c.args.pid me c.args.d k on.file on.opened c.args.n c.in-Some-within.count may low) ∙ c.write_bytes.ensures.performed me on.file at on.there;
+        ap collected_attempt (write-is s c.args.pid me c.args.d k on.file on.opened c.args.n c.in-Some-within.count may low) ∙ c.write_bytes.ensures.performed me on.file at on.there;
     unchanged = c.write_bytes.ensures.unchanged;
     small = IfOk-weaker c.write_bytes.result _ _ (λ d low. omega (arith, low)) c.write_bytes.ensures.small;
   };

@@ -1,6 +1,6 @@
 use Rattle.std.proofs.Common.{◌∙◌, ◌≤◌, if◌then◌else◌, length, ap, sym, subst}
 use Rattle.pv_model.specs.Machine.{bytes_of, at_number, OpenFile, node_at}
-use Rattle.pv_calls_state.proofs.Alone.{some-at}
+use Rattle.pv_calls_state.proofs.UncountedChanges.{some-at}
 use Rattle.pv_calls_plain.proofs.FileCalls.{file-part, node-used, size-is}
 use Rattle.pv_calls_plain.proofs.files.write_place.Goals as goal
 

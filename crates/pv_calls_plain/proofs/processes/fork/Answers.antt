@@ -1,6 +1,6 @@
-use Rattle.pv_laws_states.proofs.ByTable.{good-fork}
+use Rattle.pv_laws_states.proofs.ValidByTable.{good-fork}
 use Rattle.pv_model.specs.Machine.{fork}
-use Rattle.pv_calls_plain.proofs.Plain.{plainly-performed}
+use Rattle.pv_calls_plain.proofs.NumberAnswers.{plainly-performed}
 use Rattle.pv_calls_plain.proofs.processes.fork.Goals as goal
 
 pub returns : goal.returns

@@ -1,8 +1,8 @@
 use Rattle.std.proofs.Common.{◌∙◌, ◌≤◌, ap, sym, subst}
 use Rattle.std.specs.Prelude.{IfOk}
 use Rattle.pv_model.specs.Machine.{done, returns as returns_number, process_at}
-use Rattle.pv_laws_states.proofs.ByProcess.{good-getpid}
-use Rattle.pv_calls_state.proofs.Alone.{some-at}
+use Rattle.pv_laws_states.proofs.ValidByProcess.{good-getpid}
+use Rattle.pv_calls_state.proofs.UncountedChanges.{some-at}
 use Rattle.pv_calls_plain.specs.Performed.{attempt_of}
 use Rattle.pv_calls_plain.proofs.processes.getpid.Goals as goal
 

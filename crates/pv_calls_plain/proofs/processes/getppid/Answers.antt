@@ -4,10 +4,10 @@ use Rattle.std.specs.Ordering.{nat_cmp}
 use Rattle.std.specs.Prelude.{IfOk, option_map, unwrap_or}
 use Rattle.pv_model.specs.Machine.{done, parent_of, returns as returns_number, Process, process_at}
 use Rattle.pv_calls_state.specs.OfProcs.ProcessTable.{ProcessTable}
-use Rattle.pv_laws_states.proofs.ByProcess.{good-getppid}
-use Rattle.pv_laws_states.proofs.Members.{live-found}
+use Rattle.pv_laws_states.proofs.ValidByProcess.{good-getppid}
+use Rattle.pv_laws_states.proofs.ReferenceMembers.{live-found}
 use Rattle.pv_calls_plain.specs.Performed.{attempt_of}
-use Rattle.pv_calls_state.proofs.Alone.{some-at}
+use Rattle.pv_calls_state.proofs.UncountedChanges.{some-at}
 use Rattle.pv_calls_plain.proofs.processes.getppid.Goals as goal
 
 parent-is : (c : goal.After-answer_of) (me : Process) → process_at c.args.parts.now c.args.pid ≡ Some me → c.unwrap_or.result ≡ me.parent

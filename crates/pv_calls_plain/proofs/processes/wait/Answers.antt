@@ -2,8 +2,8 @@ use Rattle.std.proofs.Common.{◌∙◌, ap, sym}
 use Rattle.pv_calls_plain.specs.Performed.{answered}
 use Rattle.pv_model.specs.Machine.{done, wait, returns_bytes, process_at}
 use Rattle.pv_calls_state.specs.OfProcs.Reaping.{waited}
-use Rattle.pv_calls_state.proofs.Alone.{some-at}
-use Rattle.pv_calls_plain.proofs.Waits.{low-child, reported-alike, waiter-lives}
+use Rattle.pv_calls_state.proofs.UncountedChanges.{some-at}
+use Rattle.pv_calls_plain.proofs.WaitAnswers.{low-child, reported-alike, waiter-lives}
 use Rattle.pv_calls_plain.proofs.processes.wait.Goals as goal
 
 pub report_bytes-requires-clause-live : goal.report_bytes-requires-clause-live

@@ -1,11 +1,11 @@
-use Rattle.std.proofs.Common.{◌≡◌, ◌∙◌, ap, map, refl, true, subst, inl, List}
+use Rattle.std.proofs.Common.{◌≡◌, ◌∙◌, ap, map, refl, true, subst, inl, inr, List}
 use Rattle.clap.specs.Words.{App, HasKind, HasMatchesOf, Text, app_of, fault_of, found_of, is_simple_and_free, kind_of, matches_of, rows_of, subcommand_of, subcommand_rows_of, takes}
 use Rattle.clap.specs.declared.builder.command.Command.{Command as Parser}
 use Rattle.clap.specs.declared.parser.matches.ArgMatches.{ArgMatches}
 use Rattle.clap.specs.declared.error.kind.ErrorKind.TheVariants.{OutOfMemory}
-use Rattle.pv_cli_line.specs.Line.{LacksNumber, RefusesWords, is_verbose_in, of_parser}
+use Rattle.pv_cli_line.specs.Line.{HasManyFiles, LacksNumber, RefusesWords, is_verbose_in, of_parser}
 use Rattle.pv_cli_line.specs.Parser.{pvsim_app}
-use Rattle.pv_cli_line.proofs.LineLemmas.{asked_by, nothing-asked, refused_by_turns, verbose_by, refused_by_parser, refused_result, pvsim_has_matches, pvsim_is_simple}
+use Rattle.pv_cli_line.proofs.LineMatches.{asked_by, nothing-asked, refused_by_turns, verbose_by, refused_by_parser, refused_result, pvsim_has_matches, pvsim_is_simple}
 use Rattle.pv_cli_line.proofs.command.parsed.Goals as goal
 
 pub returns-in_err-matches-clause-refused : goal.returns-in_err-matches-clause-refused
@@ -23,7 +23,7 @@ returns-in_err-matches-clause-refused g c =
 appears : (parser : Parser) (words : List Text) (m : ArgMatches) → app_of parser ≡ pvsim_app → HasMatchesOf (app_of parser) words m → subcommand_rows_of m ≡ subcommand_of pvsim_app words
 appears parser words m app_is has = (subst (λ (app : App). HasMatchesOf app words m) app_is has pvsim_has_matches).1
 
--- so are the arguments before its name
+-- the same holds for the arguments before its name
 above : (parser : Parser) (words : List Text) (m : ArgMatches) → app_of parser ≡ pvsim_app → HasMatchesOf (app_of parser) words m → rows_of (found_of m) ≡ matches_of pvsim_app words
 above parser words m app_is has = (subst (λ (app : App). HasMatchesOf app words m) app_is has pvsim_has_matches).0
 
@@ -32,7 +32,7 @@ returns-in-Some-Command-clause-asked g c =
     let words = map g.S.AsStr.text c.args.words.now in
     let e = appears c.in_ok-parser.parser words c.in_ok-matches.matches c.in_ok-parser.ensures c.in_ok-matches.ensures.ok.2 in
     asked_by words (subcommand_rows_of c.in_ok-matches.matches) e c.in-Some-Command.command (rw c.in-Some-Command.field-0-is at c.in-Some-Command.ensures.found)
-    c.checked.result c.is_verbose.result c.checked.ensures.value c.checked.ensures.turns
+    c.checked.result c.is_verbose.result c.checked.ensures.value c.checked.ensures.turns c.checked.ensures.files
 
 pub returns-in-Some-Command-clause-verbose : goal.returns-in-Some-Command-clause-verbose
 returns-in-Some-Command-clause-verbose g c =
@@ -54,6 +54,14 @@ pub returns-in-Some-Number-clause-refused : goal.returns-in-Some-Number-clause-r
 returns-in-Some-Number-clause-refused g c =
     let e = appears c.in_ok-parser.parser (map g.S.AsStr.text c.args.words.now) c.in_ok-matches.matches c.in_ok-parser.ensures c.in_ok-matches.ensures.ok.2 in
     subst LacksNumber e (rw c.in-Some-Number.field-0-is at c.in-Some-Number.ensures.found)
+
+pub returns-in-Some-ManyFiles-clause-refused : goal.returns-in-Some-ManyFiles-clause-refused
+returns-in-Some-ManyFiles-clause-refused g c =
+    let e = appears c.in_ok-parser.parser (map g.S.AsStr.text c.args.words.now) c.in_ok-matches.matches c.in_ok-parser.ensures c.in_ok-matches.ensures.ok.2 in
+    inr (inr (inr (record {
+      kind = c.in_ok-many_files-in-Some-ManyFiles.ensures;
+      are_many = subst HasManyFiles e (rw c.in-Some-ManyFiles.field-0-is at c.in-Some-ManyFiles.ensures.found);
+    })))
 
 pub returns-clause-refused : goal.returns-clause-refused
 returns-clause-refused g c =

@@ -1,5 +1,5 @@
 use Rattle.clap.specs.Words.{subcommand_rows_of}
-use Rattle.pv_cli_line.proofs.LineLemmas.{no_command_at_all, none_by}
+use Rattle.pv_cli_line.proofs.LineMatches.{no_command_at_all, none_by}
 use Rattle.pv_cli_line.proofs.matches.found_in.Goals as goal
 
 pub returns-clause-none : goal.returns-clause-none

@@ -1,6 +1,6 @@
 use Rattle.clap.specs.Words.{subcommand_rows_of}
-use Rattle.pv_cli_line.proofs.LineLemmas.{none_by}
-use Rattle.pv_cli_line.proofs.QuestionLemmas.{no_question}
+use Rattle.pv_cli_line.proofs.LineMatches.{none_by}
+use Rattle.pv_cli_line.proofs.QuestionMatches.{no_question}
 use Rattle.pv_cli_line.proofs.matches.question_in.Goals as goal
 
 pub returns-clause-none : goal.returns-clause-none

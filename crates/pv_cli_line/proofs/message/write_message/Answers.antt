@@ -1,5 +1,5 @@
 use Rattle.std.proofs.Common.{rules}
-use Rattle.pv_cli_line.proofs.Messages.{message_refused, newline_refused}
+use Rattle.pv_cli_line.proofs.MessageParts.{message_refused, newline_refused}
 use Rattle.pv_cli_line.proofs.message.write_message.Goals as goal
 
 pub returns-in_err-is_ended : goal.returns-in_err-is_ended

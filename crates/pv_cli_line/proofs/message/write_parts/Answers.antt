@@ -1,6 +1,6 @@
 use Rattle.std.proofs.Common.{arith, rules}
 use Rattle.std.proofs.lemmas.Bool.Decides.{nat_tests}
-use Rattle.pv_cli_line.proofs.Messages.{text_begun, text_grown, text_refused}
+use Rattle.pv_cli_line.proofs.MessageParts.{text_begun, text_grown, text_refused}
 use Rattle.pv_cli_line.proofs.message.write_parts.Goals as goal
 
 pub loop-number-init : goal.loop-number-init

@@ -1,4 +1,4 @@
-use Rattle.pv_cli_line.proofs.Arguments.{renamed_option}
+use Rattle.pv_cli_line.proofs.OptionNames.{renamed_option}
 use Rattle.pv_cli_line.proofs.parser.argument_of.Goals as goal
 
 pub returns-in-Renamed-clause-rule : goal.returns-in-Renamed-clause-rule

@@ -1,5 +1,5 @@
 use Rattle.std.proofs.Common.{◌∙◌, refl, sym}
-use Rattle.pv_cli_line.proofs.Reported.{reports_cut, reports_error, reports_shown}
+use Rattle.pv_cli_line.proofs.ReportedErrors.{reports_cut, reports_error, reports_shown}
 use Rattle.pv_cli_line.proofs.program.report.Goals as goal
 
 pub returns-then-status-ne0-clause-reports : goal.returns-then-status-ne0-clause-reports

@@ -1,6 +1,6 @@
 use Rattle.std.proofs.Common.{◌∙◌, refl, sym}
 use Rattle.std.proofs.lemmas.Bool.{and_from}
-use Rattle.pv_cli_line.proofs.Reported.{reported_alone, reported_more}
+use Rattle.pv_cli_line.proofs.ReportedErrors.{reported_alone, reported_more}
 use Rattle.pv_cli_line.proofs.program.report_all.Goals as goal
 
 pub returns-then-is_explained-clause-reports : goal.returns-then-is_explained-clause-reports

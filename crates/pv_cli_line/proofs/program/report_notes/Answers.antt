@@ -1,7 +1,7 @@
 use Rattle.std.proofs.Common.{◌≡◌, ◌<◌, length, ap, refl, arith}
 use Rattle.std.proofs.lemmas.Bool.Decides.{nat_tests}
 use Rattle.std.proofs.lemmas.List.{nil_from_length}
-use Rattle.pv_cli_line.proofs.Reported.{notes_absent, notes_written}
+use Rattle.pv_cli_line.proofs.ReportedErrors.{notes_absent, notes_written}
 use Rattle.pv_cli_line.proofs.program.report_notes.Goals as goal
 
 pub returns-then-is_empty-clause-notes : goal.returns-then-is_empty-clause-notes

@@ -1,5 +1,5 @@
 use Rattle.std.proofs.Common.{◌∙◌, refl, sym}
-use Rattle.pv_cli_line.proofs.Reported.{reported_alone, reported_more}
+use Rattle.pv_cli_line.proofs.ReportedErrors.{reported_alone, reported_more}
 use Rattle.pv_cli_line.proofs.program.report_words.Goals as goal
 
 pub returns-then-is_number-clause-reports : goal.returns-then-is_number-clause-reports

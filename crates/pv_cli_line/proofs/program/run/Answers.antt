@@ -1,6 +1,6 @@
 use Rattle.std.proofs.Common.{◌∙◌, Ok, Err, Bool, ap, refl, subst, rules}
 use Rattle.std.specs.Prelude.{◌&&◌}
-use Rattle.pv_cli_commands.proofs.Outcomes.{flushed_by_status}
+use Rattle.pv_cli_commands.proofs.CommandStatus.{flushed_by_status}
 use Rattle.pv_cli_line.specs.declared.fault.Fault.TheVariants.{Command as OfCommand, Line as OfLine}
 use Rattle.pv_cli_line.specs.Program.{ReportsAll, is_explained}
 use Rattle.pv_cli_line.proofs.program.run.Goals as goal

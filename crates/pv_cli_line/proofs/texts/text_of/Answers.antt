@@ -1,7 +1,7 @@
 use Rattle.std.proofs.Common.{◌∙◌, sym, refl}
 use Rattle.clap.specs.Words.{found_of}
 use Rattle.clap.proofs.WalkLemmas.{first_value-rows}
-use Rattle.pv_cli_line.proofs.LineLemmas.{text-entered, text-other}
+use Rattle.pv_cli_line.proofs.LineMatches.{text-entered, text-other}
 use Rattle.pv_cli_line.proofs.texts.text_of.Goals as goal
 
 pub returns-in_err-inner : goal.returns-in_err-inner

@@ -1,4 +1,4 @@
-use Rattle.pv_compare.proofs.Fetching.{no-call}
+use Rattle.pv_compare.proofs.NextSteps.{no-call}
 use Rattle.pv_model.specs.Machine.{process_at}
 use Rattle.pv_compare.proofs.observer.is_restraint.Goals as goal
 

@@ -1,7 +1,7 @@
 use Rattle.std.proofs.Common.{Option, Bor, sym, ap, ◌∙◌}
 use Rattle.std.specs.Option.{option_copied}
 use Rattle.pv_model.specs.Machine.{Bytes, is_past}
-use Rattle.pv_dirs.proofs.Next.{bytes_less}
+use Rattle.pv_dirs.proofs.NextNames.{bytes_less}
 use Rattle.pv_dirs.proofs.best.is_past.Goals as goal
 
 pub returns-in-Some : goal.returns-in-Some

@@ -1,9 +1,9 @@
 use Rattle.std.proofs.Common.{◌≡◌, ◌-◌, suc, Option, Bor, take, is_lt, true, subst, arith}
 use Rattle.std.specs.Option.{option_copied}
 use Rattle.pv_model.specs.Machine.{Bytes, is_past}
-use Rattle.pv_dirs.proofs.Between.{between}
-use Rattle.pv_dirs.proofs.Entries.{by_name}
-use Rattle.pv_dirs.proofs.Next.{less_from}
+use Rattle.pv_dirs.proofs.CommonPrefixes.{between}
+use Rattle.pv_dirs.proofs.SortedEntries.{by_name}
+use Rattle.pv_dirs.proofs.NextNames.{less_from}
 use Rattle.pv_dirs.proofs.best.mark_of.Goals as goal
 
 pub returns : goal.returns

@@ -1,6 +1,6 @@
 use Rattle.std.proofs.Common.{Some, sym, ap, ◌∙◌}
 use Rattle.std.proofs.lemmas.Bool.{false≢true}
-use Rattle.pv_dirs.proofs.Contents.{is_directory_by_sort, no_directory_by_sort, no_directory_unused}
+use Rattle.pv_dirs.proofs.FileContents.{is_directory_by_sort, no_directory_by_sort, no_directory_unused}
 use Rattle.pv_dirs.proofs.dir.is_directory.Goals as goal
 
 pub returns-in-Directory : goal.returns-in-Directory

@@ -1,7 +1,7 @@
 use Rattle.std.proofs.Common.{◌≡◌, ◌+◌, ◌*◌, ◌%◌, drop, get_or, refl, sym, ap, ◌∙◌, arith}
 use Rattle.std.specs.Prelude.{bit_and}
 use Rattle.std.proofs.lemmas.List.{drop_more, drop_all}
-use Rattle.pv_dirs.specs.Index.{sum_after, place_of}
+use Rattle.pv_dirs.specs.Index.{sum_after, bucket_of}
 use Rattle.pv_dirs.proofs.index.place_of.Goals as goal
 
 pub loop-byte-init : goal.loop-byte-init
@@ -18,7 +18,7 @@ loop-byte-preserved c =
     ∙ c.loop-byte.invariant
 
 pub returns-clause-value : goal.returns-clause-value
-unfolding sum_after place_of
+unfolding sum_after bucket_of
 returns-clause-value c =
     let name = c.args.name.now in
     ap (λ n. bit_and n c.args.mask % 8192) (sym (ap (sum_after c.loop-byte.sum) (drop_all c.loop-byte.byte-index name c.loop-byte-test.false)) ∙ c.loop-byte.invariant)

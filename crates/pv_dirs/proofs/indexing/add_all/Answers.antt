@@ -1,12 +1,12 @@
 use Rattle.std.proofs.Common.{◌≡◌, ◌<◌, Some, sym, ap, subst, ◌∙◌, arith, inl, inr}
 use Rattle.std.specs.Prelude.{option_map}
 use Rattle.std.proofs.lemmas.Bool.{cases_eq, false≢true}
-use Rattle.pv_inodes.proofs.Numbers.{at_number-within}
-use Rattle.pv_inodes.specs.Files.{Contained, held, bytes_of}
+use Rattle.pv_inodes.proofs.NumberMaps.{at_number-within}
+use Rattle.pv_inodes.specs.Files.{Contained, held, contained_bytes}
 use Rattle.pv_dirs.specs.Index.{AreLed}
-use Rattle.pv_dirs.proofs.Contents.{is_directory_by_sort}
-use Rattle.pv_dirs.proofs.Indexed.{led_like}
-use Rattle.pv_dirs.proofs.TreeOf.{directory_used}
+use Rattle.pv_dirs.proofs.FileContents.{is_directory_by_sort}
+use Rattle.pv_dirs.proofs.ChangedIndex.{led_like}
+use Rattle.pv_dirs.proofs.FileTrees.{directory_used}
 use Rattle.pv_dirs.proofs.indexing.add_all.Goals as goal
 use Rattle.pv_dirs.proofs.indexing.add_all.Goals.{then-is_directory, else-is_directory}
 
@@ -20,7 +20,7 @@ loop-inode-preserved c = λ n held_there below there sort.
     elim c.if-is_directory.branch [
       | then-is_directory w ↦ rw w.index-is (elim (cases_eq n c.loop-inode.inode) [
         | inl here ↦
-            let bytes : bytes_of (held f c.loop-inode.inode) ≡ held_there.bytes = ap (λ i. bytes_of (held f i)) (sym here) ∙ ap bytes_of there in
+            let bytes : contained_bytes (held f c.loop-inode.inode) ≡ held_there.bytes = ap (λ i. contained_bytes (held f i)) (sym here) ∙ ap contained_bytes there in
             rw here (subst (AreLed w.add_slots.new.index f.version c.loop-inode.inode) bytes w.add_slots.ensures.led)
         | inr other ↦
             led_like c.loop-inode.inode n c.loop-inode.index w.add_slots.new.index f.version held_there.bytes record {

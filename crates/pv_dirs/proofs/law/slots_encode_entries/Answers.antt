@@ -1,4 +1,4 @@
-use Rattle.pv_dirs.proofs.Stored.{entries_encoded, encoded_are}
+use Rattle.pv_dirs.proofs.ImageSlots.{entries_encoded, encoded_are}
 use Rattle.pv_dirs.proofs.law.slots_encode_entries.Goals as goal
 
 pub returns-clause-entries : goal.returns-clause-entries

@@ -1,17 +1,17 @@
 use Rattle.std.proofs.Common.{◌∙◌, List, ap, refl}
 use Rattle.std.proofs.lemmas.Result.{err_from_is_err_and}
 use Rattle.pv_model.specs.Machine.{Setting, call_of, program_of, settings_of, process_at}
-use Rattle.pv_step_lines.proofs.OfAnswers.Writing.{or_ok, writes_as, writes_both, writes_longer}
+use Rattle.pv_step_lines.proofs.OfAnswers.WriterContracts.{or_ok, writes_as, writes_both, writes_longer}
 use Rattle.pv_step_lines.specs.declared.making.MadeStep.TheVariants.{Call as CallMade}
 use Rattle.pv_step_lines.specs.Origin.{settings_in}
 use Rattle.pv_explain.specs.Made.{settings_made}
-use Rattle.pv_step_lines.proofs.Made.{left-by}
+use Rattle.pv_step_lines.proofs.StepStates.{left-by}
 use Rattle.pv_model.specs.Answers.Explain.{set_text}
 use Rattle.pv_explain.specs.Errors.{added_by}
-use Rattle.pv_explain.proofs.Added.{call-adds-by}
-use Rattle.pv_explain.proofs.Made.{settings-made, step-text}
-use Rattle.pv_explain.proofs.Steps.{stops-here}
-use Rattle.pv_step_lines.proofs.Stops.{no_memory, unwritten}
+use Rattle.pv_explain.proofs.AddedLines.{call-adds-by}
+use Rattle.pv_explain.proofs.StepRecords.{settings-made, step-text}
+use Rattle.pv_explain.proofs.StepSequences.{stops-here}
+use Rattle.pv_step_lines.proofs.StoppedWriters.{no_memory, unwritten}
 use Rattle.pv_explain.proofs.explain.explain_call.Goals as goal
 
 pub returns-in_err-made-clause-written : goal.returns-in_err-made-clause-written

@@ -1,9 +1,9 @@
 use Rattle.std.proofs.Common.{◌∙◌, ap}
 use Rattle.pv_model.specs.Machine.{answer_bytes, locations, Settings, State, steps_of}
-use Rattle.pv_step_lines.proofs.OfAnswers.Writing.{or_as, or_longer, or_ok, writes_as}
+use Rattle.pv_step_lines.proofs.OfAnswers.WriterContracts.{or_as, or_longer, or_ok, writes_as}
 use Rattle.pv_explain.specs.Steps.{steps_lines}
-use Rattle.pv_explain.proofs.Steps.{lines-text}
-use Rattle.pv_step_lines.proofs.Stops.{stopped, then_writes, unwritten}
+use Rattle.pv_explain.proofs.StepSequences.{lines-text}
+use Rattle.pv_step_lines.proofs.StoppedWriters.{stopped, then_writes, unwritten}
 use Rattle.pv_explain.proofs.explain.explain_schedule.Goals as goal
 
 pub returns-in_err-explain_steps-clause-written : goal.returns-in_err-explain_steps-clause-written

@@ -4,10 +4,10 @@ use Rattle.std.proofs.lemmas.List.{take_all}
 use Rattle.std.proofs.lemmas.Result.{err_from_is_err_and}
 use Rattle.pv_model.specs.Machine.{answer_bytes, steps_of}
 use Rattle.pv_step_lines.specs.OfSession.declared.session.Stop.{Stop}
-use Rattle.pv_step_lines.proofs.OfAnswers.Writing.{or_as, or_ok, writes_as}
+use Rattle.pv_step_lines.proofs.OfAnswers.WriterContracts.{or_as, or_ok, writes_as}
 use Rattle.pv_explain.specs.Steps.{StopsExplained, steps_lines}
-use Rattle.pv_explain.proofs.Steps.{none-made, schedule-on, schedule-begun, schedule-stopped, schedule-number}
-use Rattle.pv_step_lines.proofs.Stops.{stopped}
+use Rattle.pv_explain.proofs.StepSequences.{none-made, schedule-on, schedule-begun, schedule-stopped, schedule-number}
+use Rattle.pv_step_lines.proofs.StoppedWriters.{stopped}
 use Rattle.pv_explain.proofs.explain.explain_steps.Goals as goal
 
 pub loop-turn-init : goal.loop-turn-init

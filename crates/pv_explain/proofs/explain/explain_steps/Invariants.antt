@@ -1,6 +1,6 @@
 use Rattle.std.proofs.Common.{◌≡◌, ◌≤◌, ◌+◌, ◌*◌, ◌^◌, length, take}
 use Rattle.pv_model.specs.Machine.{steps_of}
-use Rattle.pv_explain.proofs.Steps.{IsMadeUpTo}
+use Rattle.pv_explain.proofs.StepSequences.{IsMadeUpTo}
 use Rattle.pv_explain.proofs.explain.explain_steps.Given as goal
 
 abbrev pub invariant-loop-turn : goal.invariant-loop-turn

@@ -2,10 +2,10 @@ use Rattle.std.proofs.Common.{◌+◌, ℕ, ap, sym, subst, refl, rules, [], ◌
 use Rattle.std.proofs.lemmas.Result.{err_from_is_err_and}
 use Rattle.pv_model.specs.Machine.{answer_bytes}
 use Rattle.pv_step_lines.specs.OfSession.declared.session.Stop.{Stop}
-use Rattle.pv_step_lines.proofs.OfAnswers.Writing.{or_as}
-use Rattle.pv_explain.specs.Steps.{StopsExplained, step_lines}
-use Rattle.pv_explain.proofs.Steps.{none-made, turn-on, turn-begun, turn-stopped}
-use Rattle.pv_step_lines.proofs.Stops.{stopped}
+use Rattle.pv_step_lines.proofs.OfAnswers.WriterContracts.{or_as}
+use Rattle.pv_explain.specs.Steps.{StopsExplained, explained_step_lines}
+use Rattle.pv_explain.proofs.StepSequences.{none-made, turn-on, turn-begun, turn-stopped}
+use Rattle.pv_step_lines.proofs.StoppedWriters.{stopped}
 use Rattle.pv_explain.proofs.explain.explain_turn.Goals as goal
 
 pub loop-step-init : goal.loop-step-init
@@ -17,7 +17,7 @@ loop-step-preserved g c =
     let ok = c.in_ok-explain_step.ensures in
     turn-on c.args.extra g.W.Sink c.args.number c.args.explainer.now c.args.pid i.step c.args.session.now i.session i.explainer _ _ i.invariant c.parts.ensures.whole
     c.explain_step.new.session c.explain_step.new.self _ ok.after
-    (or_as (ap (λ n. answer_bytes (step_lines c.args.extra (c.args.number + n) i.explainer i.session c.args.pid)) c.from.ensures) ok.written) ok.keeps
+    (or_as (ap (λ n. answer_bytes (explained_step_lines c.args.extra (c.args.number + n) i.explainer i.session c.args.pid)) c.from.ensures) ok.written) ok.keeps
 
 pub returns-in_err-explain_step-clause-written : goal.returns-in_err-explain_step-clause-written
 returns-in_err-explain_step-clause-written g c =
@@ -25,7 +25,7 @@ returns-in_err-explain_step-clause-written g c =
     stopped c.from_residual.ensures.1
     (turn-begun c.args.extra g.W.Sink c.args.number c.args.explainer.now c.args.pid i.step c.args.session.now i.session i.explainer _ _ i.invariant c.parts.ensures.whole
     c.args.count c.loop-step-test.true _ _
-    (or_as (ap (λ n. answer_bytes (step_lines c.args.extra (c.args.number + n) i.explainer i.session c.args.pid)) c.from.ensures) c.in_err-explain_step.ensures.written))
+    (or_as (ap (λ n. answer_bytes (explained_step_lines c.args.extra (c.args.number + n) i.explainer i.session c.args.pid)) c.from.ensures) c.in_err-explain_step.ensures.written))
 
 pub returns-in_err-explain_step-clause-stopped : goal.returns-in_err-explain_step-clause-stopped
 returns-in_err-explain_step-clause-stopped g c =

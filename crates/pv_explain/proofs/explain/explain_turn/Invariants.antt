@@ -1,5 +1,5 @@
 use Rattle.std.specs.Prelude.{replicate}
-use Rattle.pv_explain.proofs.Steps.{IsMadeUpTo}
+use Rattle.pv_explain.proofs.StepSequences.{IsMadeUpTo}
 use Rattle.pv_explain.proofs.explain.explain_turn.Given as goal
 
 abbrev pub invariant-loop-step : goal.invariant-loop-step

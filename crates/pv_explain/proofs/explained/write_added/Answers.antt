@@ -4,9 +4,9 @@ use Rattle.std.proofs.lemmas.List.{append-nil}
 use Rattle.pv_model.specs.Answers.Explain.{set_text}
 use Rattle.pv_model.specs.Machine.{AnswerLine, answer_bytes, answer_line_bytes, program_of, Tree}
 use Rattle.pv_model_questions.specs.ExplainMore.{allowed_line}
-use Rattle.pv_step_lines.proofs.OfAnswers.Writing.{writes_as, writes_both, writes_failed, writes_longer, writes_ok}
+use Rattle.pv_step_lines.proofs.OfAnswers.WriterContracts.{writes_as, writes_both, writes_failed, writes_longer, writes_ok}
 use Rattle.pv_step_lines.specs.Origin.{settings_in}
-use Rattle.pv_explain.specs.Added.{allowed_made, first_ones, pair_in, reasons_made}
+use Rattle.pv_explain.specs.Added.{allowed_made, first_allowed, allowed_pair_in, reasons_made}
 use Rattle.pv_explain.proofs.explained.write_added.Goals as goal
 
 appended : (xs ys : List AnswerLine) → answer_bytes xs ++ answer_bytes ys ≡ answer_bytes (xs ++ ys)
@@ -22,7 +22,7 @@ returns-in_err-write_allowed g c =
     let allowed : List AnswerLine = allowed_made c.args.pid mine prior made s in
     writes_failed c.from_residual.ensures.0
     (writes_as
-    (ap (λ (t : Tree). answer_bytes (map (allowed_line c.args.pid t (set_text program_of mine)) (first_ones (pair_in prior.walks) made.answer.walks)) ++ answer_bytes reasons) c.tree.ensures
+    (ap (λ (t : Tree). answer_bytes (map (allowed_line c.args.pid t (set_text program_of mine)) (first_allowed (allowed_pair_in prior.walks) made.answer.walks)) ++ answer_bytes reasons) c.tree.ensures
     ∙ appended allowed reasons)
     (writes_longer _ c.in_err-write_allowed.ensures))
 
@@ -35,7 +35,7 @@ returns-then-errors g c =
     let reasons : List AnswerLine = reasons_made c.args.pid prior made s in
     let allowed : List AnswerLine = allowed_made c.args.pid mine prior made s in
     writes_as
-    (ap (λ (t : Tree). answer_bytes (map (allowed_line c.args.pid t (set_text program_of mine)) (first_ones (pair_in prior.walks) made.answer.walks)) ++ answer_bytes reasons) c.tree.ensures
+    (ap (λ (t : Tree). answer_bytes (map (allowed_line c.args.pid t (set_text program_of mine)) (first_allowed (allowed_pair_in prior.walks) made.answer.walks)) ++ answer_bytes reasons) c.tree.ensures
     ∙ ap (λ (b : Bool). answer_bytes allowed ++ answer_bytes (cond b reasons [])) (sym c.if-errors.true)
     ∙ appended allowed (cond c.args.errors reasons []))
     (writes_both c.in_ok-write_allowed.ensures c.write_reasons.ensures)
@@ -49,7 +49,7 @@ returns-else-errors g c =
     let reasons : List AnswerLine = reasons_made c.args.pid prior made s in
     let allowed : List AnswerLine = allowed_made c.args.pid mine prior made s in
     writes_as
-    (ap (λ (t : Tree). answer_bytes (map (allowed_line c.args.pid t (set_text program_of mine)) (first_ones (pair_in prior.walks) made.answer.walks))) c.tree.ensures
+    (ap (λ (t : Tree). answer_bytes (map (allowed_line c.args.pid t (set_text program_of mine)) (first_allowed (allowed_pair_in prior.walks) made.answer.walks))) c.tree.ensures
     ∙ sym (append-nil (answer_bytes allowed))
     ∙ ap (λ (b : Bool). answer_bytes allowed ++ answer_bytes (cond b reasons [])) (sym c.if-errors.false)
     ∙ appended allowed (cond c.args.errors reasons []))

@@ -1,4 +1,4 @@
-use Rattle.pv_explain.proofs.Steps.{adds-nothing-else}
+use Rattle.pv_explain.proofs.StepSequences.{adds-nothing-else}
 use Rattle.pv_explain.proofs.laws.adds_nothing_else.Goals as goal
 
 pub returns : goal.returns

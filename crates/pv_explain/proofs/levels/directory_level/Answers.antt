@@ -1,6 +1,6 @@
 use Rattle.std.proofs.Common.{◌∙◌, ◌<◌, sym, suc, length, arith}
 use Rattle.pv_model.specs.Machine.{entries_of_table}
-use Rattle.pv_explain.proofs.FirstLevels.{climbing-found, climbing-init, climbing-on}
+use Rattle.pv_explain.proofs.EntryLevels.{climbing-found, climbing-init, climbing-on}
 use Rattle.pv_explain.proofs.levels.directory_level.Goals as goal
 
 pub loop-level-init : goal.loop-level-init

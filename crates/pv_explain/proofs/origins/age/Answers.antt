@@ -2,7 +2,7 @@ use Rattle.std.proofs.Common.{◌<◌, ◌∙◌, ap, length, get_or, false, ari
 use Rattle.pv_step_lines.specs.declared.origin.Origin.{Origin}
 use Rattle.pv_explain.specs.Keeping.{aged}
 use Rattle.pv_explain.proofs.ProcessOrigins.{got-own}
-use Rattle.pv_procs.proofs.Steps.{mapped_further}
+use Rattle.pv_procs.proofs.ElementSteps.{mapped_further}
 use Rattle.pv_explain.proofs.origins.age.Goals as goal
 
 pub loop-k-preserved : goal.loop-k-preserved

@@ -1,7 +1,7 @@
 use Rattle.std.proofs.Common.{sym, subst, List}
-use Rattle.pv_step_lines.proofs.OfAnswers.Following.{fewer-after, next-record}
-use Rattle.pv_explore.proofs.Afters.{LeavesCells, cells-end, cells-more-record, cells-start, lead-grew}
-use Rattle.pv_explore.proofs.Rows.{grew-none, grew-then}
+use Rattle.pv_step_lines.proofs.OfAnswers.ProcessSequence.{fewer-after, next-record}
+use Rattle.pv_explore.proofs.CellsAfterSteps.{LeavesCells, cells-end, cells-more-record, cells-start, lead-grew}
+use Rattle.pv_explore.proofs.StateRows.{grew-none, grew-then}
 use Rattle.pv_step_cache.specs.declared.cells.Cell.{Cell}
 use Rattle.pv_explore.proofs.after.process_cells.Goals as goal
 

@@ -1,8 +1,8 @@
 use Rattle.std.proofs.Common.{length}
-use Rattle.pv_step_lines.proofs.OfAnswers.Following.{records_after}
+use Rattle.pv_step_lines.proofs.OfAnswers.ProcessSequence.{records_after}
 use Rattle.pv_explore.specs.Afters.{LeadTo}
 use Rattle.pv_explore.specs.Rows.{Grew}
-use Rattle.pv_explore.proofs.Afters.{LeavesCells}
+use Rattle.pv_explore.proofs.CellsAfterSteps.{LeavesCells}
 use Rattle.pv_explore.proofs.after.process_cells.Given as goal
 
 abbrev pub invariant-loop-other : goal.invariant-loop-other

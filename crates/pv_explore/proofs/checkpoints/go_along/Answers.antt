@@ -1,7 +1,7 @@
 use Rattle.std.proofs.Common.{◌∙◌, ◌+◌, ◌-◌, ◌*◌, arith, ap, drop, length, take}
 use Rattle.std.proofs.lemmas.List.{length-drop, take_all}
 use Rattle.pv_explore.specs.Checkpoints.{last_or}
-use Rattle.pv_explore.proofs.Along.{along-last, further-along, sizes-at, state-end, state-further}
+use Rattle.pv_explore.proofs.ScheduleStates.{along-last, further-along, sizes-at, state-end, state-further}
 use Rattle.pv_explore.proofs.checkpoints.go_along.Goals as goal
 
 pub copy_of_last-requires : goal.copy_of_last-requires

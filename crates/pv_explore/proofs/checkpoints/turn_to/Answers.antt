@@ -1,4 +1,4 @@
-use Rattle.pv_explore.proofs.Along.{along-retained}
+use Rattle.pv_explore.proofs.ScheduleStates.{along-retained}
 use Rattle.pv_explore.proofs.checkpoints.turn_to.Goals as goal
 
 pub returns-clause-along : goal.returns-clause-along

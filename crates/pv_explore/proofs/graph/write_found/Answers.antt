@@ -1,7 +1,7 @@
 use Rattle.std.proofs.Common.{◌≡◌, ◌∷◌, ◌++◌, [], List, length, append-nil, sym}
 use Rattle.std.proofs.lemmas.Grind.{flat_map-append}
-use Rattle.pv_step_lines.proofs.OfAnswers.Writing.{or_as, or_longer, or_ok, writes_as}
-use Rattle.pv_step_lines.proofs.Stops.{stopped, then_writes, unwritten}
+use Rattle.pv_step_lines.proofs.OfAnswers.WriterContracts.{or_as, or_longer, or_ok, writes_as}
+use Rattle.pv_step_lines.proofs.StoppedWriters.{stopped, then_writes, unwritten}
 use Rattle.pv_explore.specs.Searches.{visited_of}
 use Rattle.pv_explore.specs.Vertices.{vertices_from}
 use Rattle.pv_model.specs.Answers.Explore.{states_line}

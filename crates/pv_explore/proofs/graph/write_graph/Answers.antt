@@ -1,8 +1,8 @@
-use Rattle.pv_step_lines.proofs.OfAnswers.Writing.{or_as}
-use Rattle.pv_step_lines.proofs.Stops.{no_memory, still_ok, stopped}
+use Rattle.pv_step_lines.proofs.OfAnswers.WriterContracts.{or_as}
+use Rattle.pv_step_lines.proofs.StoppedWriters.{no_memory, still_ok, stopped}
 use Rattle.pv_explore.specs.Observing.{no_text}
 use Rattle.pv_explore.specs.Searches.{visited_of}
-use Rattle.pv_explore.proofs.Graphed.{graph-bytes, graph-complete, graph-many}
+use Rattle.pv_explore.proofs.GraphLines.{graph-bytes, graph-complete, graph-many}
 use Rattle.pv_explore.proofs.graph.write_graph.Goals as goal
 
 pub returns-in_err-search-clause-written : goal.returns-in_err-search-clause-written

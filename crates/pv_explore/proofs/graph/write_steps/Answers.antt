@@ -1,8 +1,8 @@
 use Rattle.std.proofs.Common.{◌∙◌, ap, map, refl}
 use Rattle.std.proofs.lemmas.List.{drop_all}
-use Rattle.pv_step_lines.proofs.OfAnswers.Writing.{but_from, or_as}
-use Rattle.pv_step_lines.proofs.Stops.{but_ends, but_no_memory, but_stopped, but_then, no_memory}
-use Rattle.pv_explore.proofs.Graphed.{graph-step, steps_left_at}
+use Rattle.pv_step_lines.proofs.OfAnswers.WriterContracts.{but_from, or_as}
+use Rattle.pv_step_lines.proofs.StoppedWriters.{but_ends, but_no_memory, but_stopped, but_then, no_memory}
+use Rattle.pv_explore.proofs.GraphLines.{graph-step, steps_left_at}
 use Rattle.pv_explore.specs.Plan.{state_at}
 use Rattle.pv_model.specs.Machine.{program_of, live_processes, State}
 use Rattle.pv_explore.proofs.graph.write_steps.Goals as goal

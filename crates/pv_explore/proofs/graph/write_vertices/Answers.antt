@@ -1,9 +1,9 @@
 use Rattle.std.proofs.Common.{◌≤◌, ◌∙◌, Some, ap, arith, length, refl, sym}
-use Rattle.pv_step_lines.proofs.OfAnswers.Writing.{but_from}
-use Rattle.pv_step_lines.proofs.Stops.{but_ends, but_no_memory, but_stopped, but_then, no_memory}
+use Rattle.pv_step_lines.proofs.OfAnswers.WriterContracts.{but_from}
+use Rattle.pv_step_lines.proofs.StoppedWriters.{but_ends, but_no_memory, but_stopped, but_then, no_memory}
 use Rattle.pv_explore.specs.Searches.{visited_of}
 use Rattle.pv_explore.specs.Witnesses.{witness_of}
-use Rattle.pv_explore.proofs.Graphed.{vertices-next, vertices-none, vertices-past}
+use Rattle.pv_explore.proofs.GraphLines.{vertices-next, vertices-none, vertices-past}
 use Rattle.pv_explore.proofs.graph.write_vertices.Goals as goal
 
 pub returns-in_err-line_buffer : goal.returns-in_err-line_buffer

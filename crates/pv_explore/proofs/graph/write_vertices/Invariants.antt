@@ -1,7 +1,7 @@
 use Rattle.std.proofs.Common.{◌≡◌}
-use Rattle.pv_step_lines.proofs.OfAnswers.Writing.{WritesBut}
+use Rattle.pv_step_lines.proofs.OfAnswers.WriterContracts.{WritesBut}
 use Rattle.pv_explore.specs.Searches.{visited_of}
-use Rattle.pv_explore.proofs.Graphed.{vertices_left}
+use Rattle.pv_explore.proofs.GraphLines.{vertices_left}
 use Rattle.pv_explore.proofs.graph.write_vertices.Given as goal
 
 abbrev pub invariant-loop-number : goal.invariant-loop-number

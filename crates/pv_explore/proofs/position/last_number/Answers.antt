@@ -1,5 +1,5 @@
 use Rattle.std.proofs.Common.{◌∙◌, ◌+◌, ap, is_some, sym}
-use Rattle.pv_explore.proofs.LastNumbers.{number-next}
+use Rattle.pv_explore.proofs.LastProcessNumbers.{number-next}
 use Rattle.pv_step_lines.specs.OfProcs.ProcessTable.{ProcessTable, process_in}
 use Rattle.pv_explore.proofs.position.last_number.Goals as goal
 

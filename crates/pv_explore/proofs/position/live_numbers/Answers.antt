@@ -1,6 +1,6 @@
 use Rattle.std.proofs.Common.{ℕ, List, subst, sym}
-use Rattle.pv_step_lines.proofs.OfAnswers.Following.{fewer-after, next-record}
-use Rattle.pv_explore.proofs.LiveOnes.{LeavesLive, live-end, live-next, live-start}
+use Rattle.pv_step_lines.proofs.OfAnswers.ProcessSequence.{fewer-after, next-record}
+use Rattle.pv_explore.proofs.LiveNumbers.{LeavesLive, live-end, live-next, live-start}
 use Rattle.pv_explore.proofs.position.live_numbers.Goals as goal
 
 pub loop-pid-init : goal.loop-pid-init

@@ -1,6 +1,6 @@
 use Rattle.std.proofs.Common.{length}
-use Rattle.pv_step_lines.proofs.OfAnswers.Following.{records_after}
-use Rattle.pv_explore.proofs.LiveOnes.{LeavesLive}
+use Rattle.pv_step_lines.proofs.OfAnswers.ProcessSequence.{records_after}
+use Rattle.pv_explore.proofs.LiveNumbers.{LeavesLive}
 use Rattle.pv_explore.proofs.position.live_numbers.Given as goal
 
 abbrev pub invariant-loop-pid : goal.invariant-loop-pid

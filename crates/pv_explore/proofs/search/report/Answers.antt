@@ -1,10 +1,10 @@
 use Rattle.std.proofs.Common.{◌∙◌, ap, get_or, refl, ℕ}
 use Rattle.std.specs.Global.{Vec}
-use Rattle.pv_step_lines.proofs.OfAnswers.Writing.{but_from, or_as}
-use Rattle.pv_step_lines.proofs.Stops.{but_ends, but_stopped, but_then}
+use Rattle.pv_step_lines.proofs.OfAnswers.WriterContracts.{but_from, or_as}
+use Rattle.pv_step_lines.proofs.StoppedWriters.{but_ends, but_stopped, but_then}
 use Rattle.pv_explore.specs.Plan.{added_to, new_bytes}
 use Rattle.pv_explore.specs.Witnesses.{longer}
-use Rattle.pv_explore.proofs.Finding.{after-next, texts-end, texts-next}
+use Rattle.pv_explore.proofs.SearchSteps.{after-next, texts-end, texts-next}
 use Rattle.pv_explore.proofs.search.report.Goals as goal
 
 pub loop-text-init : goal.loop-text-init

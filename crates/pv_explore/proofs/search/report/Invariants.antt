@@ -1,8 +1,8 @@
 use Rattle.std.proofs.Common.{◌≡◌, drop}
-use Rattle.pv_step_lines.proofs.OfAnswers.Writing.{WritesBut}
+use Rattle.pv_step_lines.proofs.OfAnswers.WriterContracts.{WritesBut}
 use Rattle.pv_explore.specs.Plan.{reported_after}
 use Rattle.pv_explore.specs.Witnesses.{longer}
-use Rattle.pv_explore.proofs.Finding.{texts_left}
+use Rattle.pv_explore.proofs.SearchSteps.{texts_left}
 use Rattle.pv_step_cache.specs.Steps.{texts_in}
 use Rattle.pv_explore.proofs.search.report.Given as goal
 

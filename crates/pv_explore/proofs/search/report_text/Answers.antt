@@ -1,8 +1,8 @@
 use Rattle.std.proofs.Common.{◌∙◌, sym}
-use Rattle.pv_step_lines.proofs.OfAnswers.Writing.{or_as}
-use Rattle.pv_step_lines.proofs.Stops.{no_memory_after, nothing_written, still_ok, stopped}
+use Rattle.pv_step_lines.proofs.OfAnswers.WriterContracts.{or_as}
+use Rattle.pv_step_lines.proofs.StoppedWriters.{no_memory_after, nothing_written, still_ok, stopped}
 use Rattle.pv_explore.specs.Witnesses.{longer}
-use Rattle.pv_explore.proofs.Finding.{added-known, reported-known, reported-new}
+use Rattle.pv_explore.proofs.SearchSteps.{added-known, reported-known, reported-new}
 use Rattle.pv_explore.proofs.search.report_text.Goals as goal
 
 pub returns-then-contains-clause-written : goal.returns-then-contains-clause-written

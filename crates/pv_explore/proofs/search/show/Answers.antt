@@ -1,10 +1,10 @@
 use Rattle.std.proofs.Common.{◌≡◌, ◌∙◌, ap, List, ℕ, rules, true}
-use Rattle.pv_step_lines.proofs.OfAnswers.Writing.{or_ok, writes_as}
-use Rattle.pv_step_lines.proofs.Stops.{no_memory, unwritten}
+use Rattle.pv_step_lines.proofs.OfAnswers.WriterContracts.{or_ok, writes_as}
+use Rattle.pv_step_lines.proofs.StoppedWriters.{no_memory, unwritten}
 use Rattle.pv_explore.specs.Observing.{is_shown}
 use Rattle.pv_explore.specs.Plan.{move_bytes}
 use Rattle.pv_explore.specs.Witnesses.{longer}
-use Rattle.pv_explore.proofs.Finding.{shown-some}
+use Rattle.pv_explore.proofs.SearchSteps.{shown-some}
 use Rattle.pv_explore.proofs.search.show.Goals as goal
 
 pub returns-in_err-witness : goal.returns-in_err-witness

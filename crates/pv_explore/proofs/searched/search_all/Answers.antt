@@ -1,6 +1,6 @@
 use Rattle.std.proofs.Common.{subst, sym}
 use Rattle.pv_explore.specs.Searches.{AreAt}
-use Rattle.pv_explore.proofs.Followed.{first-at}
+use Rattle.pv_explore.proofs.CachedFollowing.{first-at}
 use Rattle.pv_explore.proofs.searched.search_all.Goals as goal
 
 pub search-end-requires : goal.search-end-requires

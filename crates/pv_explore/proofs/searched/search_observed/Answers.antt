@@ -1,10 +1,10 @@
 use Rattle.std.proofs.Common.{◌∙◌}
-use Rattle.pv_step_lines.proofs.OfAnswers.Writing.{or_as}
-use Rattle.pv_step_lines.proofs.Stops.{no_memory, still_ok, stopped}
+use Rattle.pv_step_lines.proofs.OfAnswers.WriterContracts.{or_as}
+use Rattle.pv_step_lines.proofs.StoppedWriters.{no_memory, still_ok, stopped}
 use Rattle.pv_explore.specs.Plan.{first_visited, reported_from}
 use Rattle.pv_explore.specs.Searches.{visited_of}
-use Rattle.pv_explore.proofs.Planned.{plan-found, plan-finds}
-use Rattle.pv_explore.proofs.Reported.{bytes-observed, is-searched}
+use Rattle.pv_explore.proofs.PlannedSearch.{plan-found, plan-finds}
+use Rattle.pv_explore.proofs.ReportedBytes.{bytes-observed, is-searched}
 use Rattle.pv_model.specs.Machine.{program_of}
 use Rattle.pv_explore.proofs.searched.search_observed.Goals as goal
 

@@ -1,7 +1,7 @@
 use Rattle.std.proofs.Common.{◌∙◌, [], ◌∷◌, ◌++◌, ap, ap₂, sym, List, ℕ}
 use Rattle.std.specs.Global.{Vec}
 use Rattle.std.proofs.lemmas.List.{map-append}
-use Rattle.pv_explore.proofs.Rows.{taken-more}
+use Rattle.pv_explore.proofs.StateRows.{taken-more}
 use Rattle.pv_model.specs.Machine.{Bytes}
 use Rattle.pv_step_cache.specs.Steps.{texts_in}
 use Rattle.pv_explore.proofs.side.copy_of_texts.Goals as goal

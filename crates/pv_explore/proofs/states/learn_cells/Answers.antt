@@ -1,7 +1,7 @@
 use Rattle.std.proofs.Common.{[], ◌∷◌, subst}
 use Rattle.pv_explore.specs.VisitedStates.{AreCellsIn}
 use Rattle.pv_explore.proofs.VisitedStates.{cells-next}
-use Rattle.pv_explore.proofs.Rows.{grew-then}
+use Rattle.pv_explore.proofs.StateRows.{grew-then}
 use Rattle.pv_step_cache.specs.OfStateEncoding.declared.encoded.EncodedGroup.{EncodedGroup}
 use Rattle.pv_step_cache.specs.OfStateEncoding.Encoded.{encoded_of}
 use Rattle.pv_explore.proofs.states.learn_cells.Goals as goal

@@ -1,7 +1,7 @@
 use Rattle.std.proofs.Common.{◌∙◌, subst}
 use Rattle.std.proofs.lemmas.Result.{on_ok_weaker}
 use Rattle.pv_explore.specs.Rows.{IsAmong}
-use Rattle.pv_explore.proofs.Rows.{learnt-among}
+use Rattle.pv_explore.proofs.StateRows.{learnt-among}
 use Rattle.pv_explore.proofs.states.learn_group.Goals as goal
 
 pub returns-clause-visited : goal.returns-clause-visited

@@ -1,7 +1,7 @@
 use Rattle.std.proofs.Common.{◌∙◌, ap, subst, take, ℕ}
 use Rattle.std.specs.Global.{Vec}
 use Rattle.pv_explore.specs.Rows.{IsAmong, number_in, parts_in}
-use Rattle.pv_explore.proofs.Rows.{all-grew, all-next, grew-then, learnt-among, learnt-grew, row-learnt}
+use Rattle.pv_explore.proofs.StateRows.{all-grew, all-next, grew-then, learnt-among, learnt-grew, row-learnt}
 use Rattle.pv_explore.proofs.states.learn_row.Goals as goal
 
 pub loop-part-preserved : goal.loop-part-preserved

@@ -1,7 +1,7 @@
 use Rattle.std.proofs.Common.{◌∙◌, ap, ℕ}
 use Rattle.std.specs.Global.{Vec}
 use Rattle.pv_explore.specs.Rows.{number_in}
-use Rattle.pv_explore.proofs.Rows.{row-next}
+use Rattle.pv_explore.proofs.StateRows.{row-next}
 use Rattle.pv_explore.proofs.states.row_of_group.Goals as goal
 
 pub loop-part-preserved : goal.loop-part-preserved

@@ -1,6 +1,6 @@
 use Rattle.std.proofs.Common.{◌∙◌, ap, List}
 use Rattle.pv_explore.specs.Rows.{group_row, number_in, parts_in}
-use Rattle.pv_explore.proofs.Rows.{row-next}
+use Rattle.pv_explore.proofs.StateRows.{row-next}
 use Rattle.pv_model.specs.Machine.{Bytes}
 use Rattle.pv_step_cache.specs.OfStateEncoding.Groups.{parts_of}
 use Rattle.pv_explore.proofs.states.row_of_state.Goals as goal

@@ -1,7 +1,7 @@
 use Rattle.std.proofs.Common.{arith, refl, sym}
-use Rattle.pv_step_lines.proofs.OfAnswers.Writing.{but_after, but_failed, but_from, writes_as, writes_failed}
-use Rattle.pv_step_lines.proofs.Stops.{but_as, but_last}
-use Rattle.pv_explore.proofs.Turns.{text-end, text-other, text-same}
+use Rattle.pv_step_lines.proofs.OfAnswers.WriterContracts.{but_after, but_failed, but_from, writes_as, writes_failed}
+use Rattle.pv_step_lines.proofs.StoppedWriters.{but_as, but_last}
+use Rattle.pv_explore.proofs.WitnessTurns.{text-end, text-other, text-same}
 use Rattle.pv_explore.proofs.witness.write_from.Goals as goal
 
 pub loop-next-init : goal.loop-next-init

@@ -1,7 +1,7 @@
 use Rattle.std.proofs.Common.{◌+◌, ◌≤◌, ◌∷◌, drop}
-use Rattle.pv_step_lines.proofs.OfAnswers.Writing.{WritesBut}
+use Rattle.pv_step_lines.proofs.OfAnswers.WriterContracts.{WritesBut}
 use Rattle.pv_model.specs.Machine.{witness_text}
-use Rattle.pv_explore.proofs.Turns.{witness_from}
+use Rattle.pv_explore.proofs.WitnessTurns.{witness_from}
 use Rattle.pv_explore.proofs.witness.write_from.Given as goal
 
 abbrev pub invariant-loop-next : goal.invariant-loop-next

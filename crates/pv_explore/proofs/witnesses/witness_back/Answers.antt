@@ -1,6 +1,6 @@
 use Rattle.std.proofs.Common.{arith}
 use Rattle.pv_explore.specs.declared.witnesses.LastStep.{LastStep}
-use Rattle.pv_explore.proofs.LastSteps.{back-end, back-falls, back-next}
+use Rattle.pv_explore.proofs.StoredWitnesses.{back-end, back-falls, back-next}
 use Rattle.pv_explore.proofs.witnesses.witness_back.Goals as goal
 
 pub loop-at-smaller : goal.loop-at-smaller

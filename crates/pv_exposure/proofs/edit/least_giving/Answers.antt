@@ -1,10 +1,10 @@
 use Rattle.std.proofs.Common.{◌≡◌, ◌∙◌, ◌<◌, Option, None, Some, length, sym, subst, arith, ap}
 use Rattle.pv_model.specs.Machine.{Bytes, entries_of_table, names_of}
-use Rattle.pv_audit.proofs.FoundOnes.{Named, IsOfNode, of-next, of-directory}
+use Rattle.pv_audit.proofs.NameAccess.{Named, IsOfNode, of-next, of-directory}
 use Rattle.pv_audit.specs.Findings.{governing, passing}
 use Rattle.pv_model_questions.specs.Fixed.{lets_edit}
 use Rattle.pv_tree.specs.NodeNames.{names_after, names_from}
-use Rattle.pv_exposure.proofs.GivingNames.{IsGiving, giving-first, giving-more, giving-all}
+use Rattle.pv_exposure.proofs.EditingEntries.{IsGiving, giving-first, giving-more, giving-all}
 use Rattle.pv_exposure.proofs.edit.least_giving.Goals as goal
 
 pub loop-next-init : goal.loop-next-init

@@ -1,8 +1,8 @@
 use Rattle.std.proofs.Common.{length}
 use Rattle.pv_model.specs.Machine.{entries_of_table, names_of}
-use Rattle.pv_audit.proofs.FoundOnes.{IsOfNode}
+use Rattle.pv_audit.proofs.NameAccess.{IsOfNode}
 use Rattle.pv_tree.specs.NodeNames.{names_from}
-use Rattle.pv_exposure.proofs.GivingNames.{IsGiving}
+use Rattle.pv_exposure.proofs.EditingEntries.{IsGiving}
 use Rattle.pv_exposure.proofs.edit.least_giving.Given as goal
 
 abbrev pub invariant-loop-next : goal.invariant-loop-next

@@ -1,7 +1,7 @@
 use Rattle.std.proofs.Common.{sym, ◌∙◌, arith}
 use Rattle.pv_model.specs.Machine.{at_number}
 use Rattle.pv_model.specs.Perms.{permission_w}
-use Rattle.pv_audit.proofs.DescriptorOnes.{quiet-none, quiet-more, quiet-least, quiet-all, hit-file, hit-none}
+use Rattle.pv_audit.proofs.NodeDescriptors.{quiet-none, quiet-more, quiet-least, quiet-all, hit-file, hit-none}
 use Rattle.pv_exposure.proofs.edit.least_writing.Goals as goal
 use Rattle.pv_exposure.proofs.edit.least_writing.Goals.{in-Some+else-is_written, in_default}
 

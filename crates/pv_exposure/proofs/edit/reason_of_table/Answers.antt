@@ -1,7 +1,7 @@
 use Rattle.std.proofs.Common.{◌≡◌, ◌∙◌, [], ◌∷◌, ℕ, Bool, None, Some, Option, true, false, option_map, ap, sym, rules}
 use Rattle.std.proofs.lemmas.Option.{same_Some}
 use Rattle.pv_audit.specs.Findings.{least}
-use Rattle.pv_audit.specs.Reasons.{is_held}
+use Rattle.pv_audit.specs.Reasons.{restrains_execve}
 use Rattle.pv_model.specs.declared.promise.Promise.TheVariants.{Cpath, Exec as ExecPromise}
 use Rattle.pv_model.specs.Machine.{entries_of_table, names_of, Process, Table}
 use Rattle.pv_model.specs.Sealed.{has_none_of}
@@ -63,7 +63,7 @@ returns-then-is_held_over_exec c = λ p at.
     c.is_pledged_without-in_place.ensures ∙ ap (λ (r : ProcessRecord). has_none_of (Cpath ∷ ExecPromise ∷ []) r.pledge.promises) owned in
     let giving : c.least_giving.result ≡ least (Sealed.giving s p f (lets_edit (is_held_in_place p)) table) =
     c.least_giving.ensures ∙ (λ i. least_giving (c.tree.ensures i) (entries_of_table (has.1 i)) (in_place i) (names_of (c.tree.ensures i) f)) in
-    let held : Sealed.is_held_over_exec s p f ≡ true = sym (c.is_held_over_exec.ensures ∙ ap (λ (r : ProcessRecord). is_held r.pledge) owned) ∙ c.if-is_held_over_exec.true in
+    let held : Sealed.is_held_over_exec s p f ≡ true = sym (c.is_held_over_exec.ensures ∙ ap (λ (r : ProcessRecord). restrains_execve r.pledge) owned) ∙ c.if-is_held_over_exec.true in
     let above : above_unless s p f (is_held_in_place p) table ≡ None =
     elim c.if-not-in_place.branch [
       | then-not-in_place+in_default-least_above w ↦
@@ -89,7 +89,7 @@ returns c = λ p at.
     c.is_pledged_without-in_place.ensures ∙ ap (λ (r : ProcessRecord). has_none_of (Cpath ∷ ExecPromise ∷ []) r.pledge.promises) owned in
     let giving : c.least_giving.result ≡ least (Sealed.giving s p f (lets_edit (is_held_in_place p)) table) =
     c.least_giving.ensures ∙ (λ i. least_giving (c.tree.ensures i) (entries_of_table (has.1 i)) (in_place i) (names_of (c.tree.ensures i) f)) in
-    let held : Sealed.is_held_over_exec s p f ≡ false = sym (c.is_held_over_exec.ensures ∙ ap (λ (r : ProcessRecord). is_held r.pledge) owned) ∙ c.if-is_held_over_exec.false in
+    let held : Sealed.is_held_over_exec s p f ≡ false = sym (c.is_held_over_exec.ensures ∙ ap (λ (r : ProcessRecord). restrains_execve r.pledge) owned) ∙ c.if-is_held_over_exec.false in
     let above : above_unless s p f (is_held_in_place p) table ≡ None =
     elim c.if-not-in_place.branch [
       | then-not-in_place+in_default-least_above w ↦

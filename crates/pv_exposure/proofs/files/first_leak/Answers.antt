@@ -3,7 +3,7 @@ use Rattle.std.specs.Prelude.{option_and_then}
 use Rattle.pv_model.specs.declared.verdict.Why.{Why}
 use Rattle.pv_model.specs.Machine.{first_of, leaks, ProcessRecord, live_process}
 use Rattle.pv_programs.specs.OfProcs.ProcessTable.{ProcessTable, number_after}
-use Rattle.pv_programs.proofs.OfAnswers.Following.{Recorded, all-after, fewer-after, next-record, none-after, records_after}
+use Rattle.pv_programs.proofs.OfAnswers.ProcessSequence.{Recorded, all-after, fewer-after, next-record, none-after, records_after}
 use Rattle.pv_exposure.proofs.FirstLeaks.{first_among, leak-next, leak_else}
 use Rattle.pv_exposure.proofs.files.first_leak.Goals as goal
 

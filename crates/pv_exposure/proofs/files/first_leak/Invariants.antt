@@ -1,5 +1,5 @@
 use Rattle.std.proofs.Common.{◌≡◌, length}
-use Rattle.pv_programs.proofs.OfAnswers.Following.{records_after}
+use Rattle.pv_programs.proofs.OfAnswers.ProcessSequence.{records_after}
 use Rattle.pv_exposure.proofs.FirstLeaks.{first_among}
 use Rattle.pv_exposure.proofs.files.first_leak.Given as goal
 

@@ -4,7 +4,7 @@ use Rattle.std.proofs.lemmas.List.{map-append}
 use Rattle.pv_model.specs.declared.verdict.Why.{Why}
 use Rattle.pv_model.specs.Machine.{Tree}
 use Rattle.pv_exposure.specs.StateFiles.{first_leak_at}
-use Rattle.pv_exposure.proofs.Listing.{range-next}
+use Rattle.pv_exposure.proofs.UnnamedFiles.{range-next}
 use Rattle.pv_exposure.proofs.files.leaks_of.Goals as goal
 
 pub loop-node-preserved : goal.loop-node-preserved

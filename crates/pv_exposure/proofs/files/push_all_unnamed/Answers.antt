@@ -2,7 +2,7 @@ use Rattle.std.proofs.Common.{◌≡◌, ◌∙◌, ◌++◌, ◌∷◌, [], ℕ
 use Rattle.std.specs.List.{range_with_len}
 use Rattle.std.proofs.lemmas.List.Elements.{filter-append}
 use Rattle.pv_exposure.specs.Unnamed.{is_unnamed}
-use Rattle.pv_exposure.proofs.Listing.{range-next, unnamed-are}
+use Rattle.pv_exposure.proofs.UnnamedFiles.{range-next, unnamed-are}
 use Rattle.pv_exposure.proofs.files.push_all_unnamed.Goals as goal
 
 pub loop-node-preserved : goal.loop-node-preserved

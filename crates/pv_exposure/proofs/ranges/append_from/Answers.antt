@@ -2,7 +2,7 @@ use Rattle.std.proofs.Common.{◌∙◌, ◌++◌, ◌∷◌, ℕ, List, ap, sym
 use Rattle.std.proofs.lemmas.List.{drop_all}
 use Rattle.std.proofs.lemmas.Result.{on_ok_weaker}
 use Rattle.pv_model.specs.Machine.{in_ranges, Bytes}
-use Rattle.pv_exposure.proofs.Runs.{Ranges, run-starts, text-last, text_of_ranges, with_start}
+use Rattle.pv_exposure.proofs.RangeTexts.{Ranges, run-starts, text-last, text_of_ranges, with_start}
 use Rattle.pv_exposure.proofs.ranges.append_from.Goals as goal
 
 pub loop-next-init : goal.loop-next-init

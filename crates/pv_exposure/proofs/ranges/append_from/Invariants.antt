@@ -1,6 +1,6 @@
 use Rattle.std.proofs.Common.{◌≡◌, ◌∷◌, ◌++◌, drop}
 use Rattle.pv_model.specs.Machine.{in_ranges}
-use Rattle.pv_exposure.proofs.Runs.{text_of_ranges, with_start}
+use Rattle.pv_exposure.proofs.RangeTexts.{text_of_ranges, with_start}
 use Rattle.pv_exposure.proofs.ranges.append_from.Given as goal
 
 abbrev pub invariant-loop-next : goal.invariant-loop-next

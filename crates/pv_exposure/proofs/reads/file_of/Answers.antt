@@ -4,7 +4,7 @@ use Rattle.pv_model.specs.declared.call.Call.TheVariants.{Read as ReadCall}
 use Rattle.pv_model.specs.Machine.{call_of, node_of, node_of_descriptor}
 use Rattle.pv_reduced.specs.OfCallsPath.Ends.{end_begun}
 use Rattle.pv_exposure.specs.Reading.{file_to_read}
-use Rattle.pv_exposure.proofs.ReadFiles.{one-node}
+use Rattle.pv_exposure.proofs.FilesOfReads.{one-node}
 use Rattle.pv_exposure.proofs.reads.file_of.Goals as goal
 
 pub returns-in-Read : goal.returns-in-Read

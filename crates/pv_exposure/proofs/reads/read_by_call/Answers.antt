@@ -2,9 +2,9 @@ use Rattle.std.proofs.Common.{◌≡◌, ◌∙◌, [], ℕ, List, Bool, if◌th
 use Rattle.pv_model.specs.Answers.Access.{nodes_read}
 use Rattle.pv_model.specs.Machine.{Answered, call_of, State, process_at, Stepped}
 use Rattle.pv_reduced.specs.OfSession.Running.{stepped}
-use Rattle.pv_reduced.proofs.OfSession.Stepping.{step-called}
+use Rattle.pv_reduced.proofs.OfSession.MachineSteps.{step-called}
 use Rattle.pv_exposure.specs.Reading.{file_to_read}
-use Rattle.pv_exposure.proofs.ReadFiles.{read-called, reads-by}
+use Rattle.pv_exposure.proofs.FilesOfReads.{read-called, reads-by}
 use Rattle.pv_exposure.proofs.reads.read_by_call.Goals as goal
 
 pub returns-then-has_read : goal.returns-then-has_read

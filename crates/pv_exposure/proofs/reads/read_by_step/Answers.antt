@@ -1,6 +1,6 @@
 use Rattle.std.proofs.Common.{sym}
 use Rattle.pv_reduced.specs.OfSession.Running.{stepped}
-use Rattle.pv_exposure.proofs.ReadFiles.{read-inside}
+use Rattle.pv_exposure.proofs.FilesOfReads.{read-inside}
 use Rattle.pv_exposure.proofs.reads.read_by_step.Goals as goal
 
 pub returns-in-Register : goal.returns-in-Register

@@ -3,7 +3,7 @@ use Rattle.pv_model.specs.Machine.{call_of}
 use Rattle.pv_procs.specs.ProcessTable.{ProcessTable, process_in}
 use Rattle.pv_procs.specs.Turns.{CallsNext, IsFetched}
 use Rattle.pv_reduced.specs.OfSession.Running.{stepped}
-use Rattle.pv_exposure.proofs.ReadFiles.{none-read, read-called, read-none}
+use Rattle.pv_exposure.proofs.FilesOfReads.{none-read, read-called, read-none}
 use Rattle.pv_exposure.proofs.reads.read_of.Goals as goal
 
 pub returns-in-Register : goal.returns-in-Register

@@ -5,7 +5,7 @@ use Rattle.pv_model.specs.Machine.{Bytes}
 use Rattle.pv_exposure.specs.Collected.{Recorded}
 use Rattle.pv_exposure.specs.Stored.{all_recorded, recorded_in}
 use Rattle.pv_exposure.specs.declared.findings.StoredFinding.{StoredFinding}
-use Rattle.pv_exposure.proofs.Texts.{all-left, left-next, lines_left, lines_of_text}
+use Rattle.pv_exposure.proofs.ListTexts.{all-left, left-next, lines_left, lines_of_text}
 use Rattle.pv_exposure.proofs.text.append_findings.Goals as goal
 
 pub loop-finding-init : goal.loop-finding-init

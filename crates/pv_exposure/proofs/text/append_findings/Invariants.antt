@@ -2,7 +2,7 @@ use Rattle.std.proofs.Common.{◌≡◌, ◌++◌, drop}
 use Rattle.pv_model.specs.Machine.{answer_bytes}
 use Rattle.pv_exposure.specs.Collected.{all_recorded_lines}
 use Rattle.pv_exposure.specs.Stored.{all_recorded}
-use Rattle.pv_exposure.proofs.Texts.{lines_left}
+use Rattle.pv_exposure.proofs.ListTexts.{lines_left}
 use Rattle.pv_exposure.proofs.text.append_findings.Given as goal
 
 abbrev pub invariant-loop-finding : goal.invariant-loop-finding

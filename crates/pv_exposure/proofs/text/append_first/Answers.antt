@@ -5,7 +5,7 @@ use Rattle.pv_model.specs.Machine.{answer_bytes, Bytes}
 use Rattle.pv_exposure.specs.Collected.{Recorded, recorded_lines_by}
 use Rattle.pv_exposure.specs.Stored.{all_recorded, first_at, recorded_of_file}
 use Rattle.pv_exposure.specs.declared.findings.StoredFinding.{StoredFinding}
-use Rattle.pv_exposure.proofs.Texts.{first-here}
+use Rattle.pv_exposure.proofs.ListTexts.{first-here}
 use Rattle.pv_exposure.proofs.text.append_first.Goals as goal
 
 pub returns-then-from-line : goal.returns-then-from-line

@@ -3,7 +3,7 @@ use Rattle.std.proofs.lemmas.Result.{on_ok_weaker}
 use Rattle.pv_model.specs.Machine.{answer_bytes}
 use Rattle.pv_model_questions.specs.declared.finding_kind.FindingKind.TheVariants.{Leak, Peer, Edit, Read}
 use Rattle.pv_exposure.specs.Collected.{lines_recorded_of}
-use Rattle.pv_exposure.proofs.Texts.{four}
+use Rattle.pv_exposure.proofs.ListTexts.{four}
 use Rattle.pv_exposure.proofs.text.append_kinds.Goals as goal
 
 pub returns : goal.returns

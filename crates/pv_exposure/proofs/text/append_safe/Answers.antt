@@ -1,7 +1,7 @@
 use Rattle.std.proofs.Common.{◌∙◌, ◌++◌, ap}
 use Rattle.pv_model.specs.Machine.{answer_line_bytes, Bytes}
 use Rattle.pv_model_questions.specs.Exposure.{safe_line}
-use Rattle.pv_exposure.proofs.Texts.{all-done, safe-flat}
+use Rattle.pv_exposure.proofs.ListTexts.{all-done, safe-flat}
 use Rattle.pv_exposure.proofs.text.append_safe.Goals as goal
 
 pub returns : goal.returns

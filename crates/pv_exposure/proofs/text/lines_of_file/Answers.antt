@@ -1,6 +1,6 @@
 use Rattle.std.proofs.Common.{◌∙◌, ◌∷◌, [], map}
 use Rattle.pv_exposure.specs.Stored.{recorded_in, recorded_of_file}
-use Rattle.pv_exposure.proofs.Texts.{all-done, lines-flat}
+use Rattle.pv_exposure.proofs.ListTexts.{all-done, lines-flat}
 use Rattle.pv_exposure.proofs.text.lines_of_file.Goals as goal
 
 pub returns : goal.returns

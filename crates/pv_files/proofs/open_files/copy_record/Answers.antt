@@ -1,7 +1,7 @@
 use Rattle.std.proofs.Common.{◌<◌, ◌∙◌, length, slice_set, Option, ap, arith}
 use Rattle.pv_files.specs.declared.opened.Opened.{Opened}
 use Rattle.pv_files.specs.Slots.{slots_under}
-use Rattle.pv_files.proofs.Keys.{slots_after}
+use Rattle.pv_files.proofs.RecordKeys.{slots_after}
 use Rattle.pv_files.proofs.open_files.copy_record.Goals as goal
 
 pub returns-clause-copied : goal.returns-clause-copied

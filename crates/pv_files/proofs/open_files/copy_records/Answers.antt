@@ -1,8 +1,8 @@
 use Rattle.std.proofs.Common.{◌<◌, ◌+◌, length, take, ap, ◌∙◌, arith}
 use Rattle.std.proofs.Math.ListN.{length-map}
 use Rattle.pv_files.specs.Slots.{record_at, slots_under, where_used}
-use Rattle.pv_files.proofs.Copies.{take_more-set_same}
-use Rattle.pv_files.proofs.Keys.{record_read}
+use Rattle.pv_files.proofs.ListCopies.{take_more-set_same}
+use Rattle.pv_files.proofs.RecordKeys.{record_read}
 use Rattle.pv_files.proofs.open_files.copy_records.Goals as goal
 
 pub loop-number-preserved : goal.loop-number-preserved

@@ -1,6 +1,6 @@
 use Rattle.std.proofs.Common.{None, Some}
 use Rattle.std.proofs.lemmas.List.{take_rest}
-use Rattle.pv_files.proofs.Keys.{free_after}
+use Rattle.pv_files.proofs.RecordKeys.{free_after}
 use Rattle.pv_files.proofs.open_files.first_free_from.Goals as goal
 
 pub returns-in_err-following : goal.returns-in_err-following

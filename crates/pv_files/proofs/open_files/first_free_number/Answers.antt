@@ -1,8 +1,8 @@
 use Rattle.std.proofs.Common.{◌∙◌}
 use Rattle.std.proofs.Math.ListN.{length-map}
 use Rattle.pv_files.specs.Slots.{record_at, slots_under}
-use Rattle.pv_files.proofs.Seen.{least_free_found}
-use Rattle.pv_files.proofs.Keys.{position_under}
+use Rattle.pv_files.proofs.ViewedMaps.{least_free_found}
+use Rattle.pv_files.proofs.RecordKeys.{position_under}
 use Rattle.pv_files.proofs.open_files.first_free_number.Goals as goal
 
 pub returns : goal.returns

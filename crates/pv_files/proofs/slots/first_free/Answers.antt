@@ -1,4 +1,4 @@
-use Rattle.pv_files.proofs.Seen.{least_free_found}
+use Rattle.pv_files.proofs.ViewedMaps.{least_free_found}
 use Rattle.pv_files.proofs.slots.first_free.Goals as goal
 
 pub returns : goal.returns

@@ -1,5 +1,5 @@
 use Rattle.std.proofs.Common.{true, false, refl}
-use Rattle.pv_host_copy.proofs.NodesBeside.{taken-at}
+use Rattle.pv_host_copy.proofs.MergedEntries.{taken-at}
 use Rattle.pv_host_copy.proofs.beside.node_beside.Goals as goal
 
 pub returns-then-is_taken : goal.returns-then-is_taken

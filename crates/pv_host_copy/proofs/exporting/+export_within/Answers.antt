@@ -1,12 +1,12 @@
 use Rattle.std.proofs.Common.{◌≡◌, ◌++◌, ◌-◌, ◌∙◌, ap, sym, subst, drop, take, length, codes, arith, ℕ, Option, Some}
 use Rattle.std.proofs.lemmas.List.{take_all, drop_all}
 use Rattle.pv_listing.specs.Lines.{entries_after, last_name, IsNextChild}
-use Rattle.pv_listing.proofs.Children.{past-none, last-is, front-is, length-path}
+use Rattle.pv_listing.proofs.DirectoryNames.{past-none, last-is, front-is, length-path}
 use Rattle.pv_model.specs.Machine.{Bytes, entries_at, node_at}
 use Rattle.pv_host_copy.specs.declared.target.TargetFault.TheVariants.{Memory}
-use Rattle.pv_host_copy.specs.Exported.{Encodes, Stops}
+use Rattle.pv_host_copy.specs.Exported.{CreatesEntries, StopsExport}
 use Rattle.pv_host_copy.specs.Encoded.{encodes_node, encodes_within}
-use Rattle.pv_host_copy.proofs.Exports.{none-within, refused, encodes_on-start, encodes_on-step, encodes_on-end, encodes_on-memory, encodes_on-node, encodes_on-within, stops-within}
+use Rattle.pv_host_copy.proofs.ExportSteps.{none-within, refused, encodes_on-start, encodes_on-step, encodes_on-end, encodes_on-memory, encodes_on-node, encodes_on-within, stops-within}
 use Rattle.pv_host_copy.proofs.exporting.+export_within.Goals as goal
 use Rattle.pv_host_copy.proofs.exporting.+export_within.Goals.{then-depth-eq0-via-then-depth-eq0, then-depth-eq0-via-else-depth-eq0+then-not-is_directory}
 
@@ -60,8 +60,8 @@ returns-in_err-export_node-clause-made g t c =
     let at = c.next_child.new.path.items in
     let next = subst (λ (o : Option ℕ). IsNextChild es last (take base c.loop-child.path.items) o at) c.in-Some.is c.in_ok-child.ensures in
     let ends : at ≡ path ++ codes "/" ++ next.0 = next.2 ∙ ap (λ d. d ++ codes "/" ++ next.0) c.loop-child.invariant.front in
-    let stops : Stops (encodes_node at child (node_at tree child)) c.loop-child.firsts.items made1 made2 at fault =
-    subst (λ (bs : Bytes). Stops (encodes_node bs child (node_at tree child)) c.loop-child.firsts.items made1 made2 bs fault) c.deref.ensures.value c.in_err-export_node.ensures in
+    let stops : StopsExport (encodes_node at child (node_at tree child)) c.loop-child.firsts.items made1 made2 at fault =
+    subst (λ (bs : Bytes). StopsExport (encodes_node bs child (node_at tree child)) c.loop-child.firsts.items made1 made2 bs fault) c.deref.ensures.value c.in_err-export_node.ensures in
     refused firsts c.export_node.new.firsts.items made made2 (encodes_within tree c.args.depth path c.args.node) at c.from_residual-in_err-export_node.result fault
     c.from_residual-in_err-export_node.ensures.1
     (stops-within tree c.args.depth path c.args.node firsts made made2 at fault (omega arith)
@@ -85,8 +85,8 @@ returns-in_err-export_within-clause-made g t c =
     let at = c.next_child.new.path.items in
     let next = subst (λ (o : Option ℕ). IsNextChild es last (take base c.loop-child.path.items) o at) c.in-Some.is c.in_ok-child.ensures in
     let ends : at ≡ path ++ codes "/" ++ next.0 = next.2 ∙ ap (λ d. d ++ codes "/" ++ next.0) c.loop-child.invariant.front in
-    let node : Encodes (encodes_node at child (node_at tree child)) c.loop-child.firsts.items made1 c.export_node.new.firsts.items made2 =
-    subst (λ (bs : Bytes). Encodes (encodes_node bs child (node_at tree child)) c.loop-child.firsts.items made1 c.export_node.new.firsts.items made2) c.deref.ensures.value
+    let node : CreatesEntries (encodes_node at child (node_at tree child)) c.loop-child.firsts.items made1 c.export_node.new.firsts.items made2 =
+    subst (λ (bs : Bytes). CreatesEntries (encodes_node bs child (node_at tree child)) c.loop-child.firsts.items made1 c.export_node.new.firsts.items made2) c.deref.ensures.value
     c.in_ok-export_node.ensures in
     refused firsts c.export_within.new.firsts.items made made3 (encodes_within tree c.args.depth path c.args.node) c.export_within.new.path.items
     c.from_residual-in_err-export_within.result fault c.from_residual-in_err-export_within.ensures.1
@@ -113,8 +113,8 @@ loop-child-preserved g t c =
     let name = next.0 in
     let ends : at ≡ path ++ codes "/" ++ name = next.2 ∙ ap (λ d. d ++ codes "/" ++ name) c.loop-child.invariant.front in
     let after : c.export_within.new.path.items ≡ path ++ codes "/" ++ name = c.in_ok-export_within.ensures.path ∙ ends in
-    let node : Encodes (encodes_node at child (node_at tree child)) c.loop-child.firsts.items made1 c.export_node.new.firsts.items made2 =
-    subst (λ (bs : Bytes). Encodes (encodes_node bs child (node_at tree child)) c.loop-child.firsts.items made1 c.export_node.new.firsts.items made2) c.deref.ensures.value
+    let node : CreatesEntries (encodes_node at child (node_at tree child)) c.loop-child.firsts.items made1 c.export_node.new.firsts.items made2 =
+    subst (λ (bs : Bytes). CreatesEntries (encodes_node bs child (node_at tree child)) c.loop-child.firsts.items made1 c.export_node.new.firsts.items made2) c.deref.ensures.value
     c.in_ok-export_node.ensures in
     record {
       within = omega (arith, length-path path name c.export_within.new.path.items after);

@@ -1,7 +1,7 @@
 use Rattle.std.proofs.Common.{◌≡◌, ◌-◌, ◌≤◌, length, take, drop, vec_len}
 use Rattle.pv_listing.specs.Lines.{entries_after, last_name}
 use Rattle.pv_model.specs.Machine.{entries_at}
-use Rattle.pv_host_copy.proofs.Exports.{EncodesOn}
+use Rattle.pv_host_copy.proofs.ExportSteps.{EncodesOn}
 use Rattle.pv_host_copy.proofs.exporting.+export_within.Given as goal
 
 abbrev pub decreases-export_within : goal.decreases-export_within

@@ -1,6 +1,6 @@
 use Rattle.std.proofs.Common.{◌+◌, arith}
 use Rattle.pv_host_copy.specs.declared.target.TargetFault.TheVariants.{Make, Memory}
-use Rattle.pv_host_copy.proofs.Exports.{export-stops}
+use Rattle.pv_host_copy.proofs.ExportSteps.{export-stops}
 use Rattle.pv_host_copy.proofs.exporting.export.Goals as goal
 
 pub returns-in-Err-Make : goal.returns-in-Err-Make

@@ -1,6 +1,6 @@
 use Rattle.pv_model.specs.Machine.{node_at}
 use Rattle.pv_host_copy.specs.declared.target.TargetFault.TheVariants.{Memory}
-use Rattle.pv_host_copy.proofs.Exports.{new-refused, new-stops, new-unpreserved}
+use Rattle.pv_host_copy.proofs.ExportSteps.{new-refused, new-stops, new-unpreserved}
 use Rattle.pv_host_copy.proofs.exporting.export_new.Goals as goal
 
 pub returns-in_err-make_new : goal.returns-in_err-make_new

@@ -1,6 +1,6 @@
 use Rattle.std.proofs.Common.{◌+◌, ◌∙◌, ap, drop, refl, Some}
 use Rattle.std.proofs.Math.ListN.{drop_of_length-le}
-use Rattle.pv_host_copy.proofs.Exports.{path-found, path-step, path-none}
+use Rattle.pv_host_copy.proofs.ExportSteps.{path-found, path-step, path-none}
 use Rattle.pv_host_copy.proofs.FirstPaths.{next_first}
 use Rattle.pv_host_copy.proofs.exporting.first_path.Goals as goal
 

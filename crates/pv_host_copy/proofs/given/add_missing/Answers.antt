@@ -5,7 +5,7 @@ use Rattle.pv_image_manifest.specs.Entries.{entry_of_line}
 use Rattle.pv_image_manifest.specs.Paths.{is_path}
 use Rattle.pv_model.specs.Machine.{add_entry}
 use Rattle.pv_host_copy.proofs.FirstPaths.{next_first}
-use Rattle.pv_host_copy.proofs.Givens.{added-next, added-present, content-in_version, path-in_version}
+use Rattle.pv_host_copy.proofs.SourceEntries.{added-next, added-present, content-in_version, path-in_version}
 use Rattle.pv_host_copy.proofs.given.add_missing.Goals as goal
 
 pub loop-entry-preserved-then-is_present : goal.loop-entry-preserved-then-is_present

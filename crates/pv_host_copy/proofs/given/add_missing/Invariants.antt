@@ -1,7 +1,7 @@
 use Rattle.std.proofs.Common.{◌≡◌, drop}
 use Rattle.std.specs.Prelude.{map}
 use Rattle.pv_image_manifest.specs.Entries.{entry_of_line}
-use Rattle.pv_host_copy.proofs.Givens.{IsAddedSoFar}
+use Rattle.pv_host_copy.proofs.SourceEntries.{IsAddedSoFar}
 use Rattle.pv_host_copy.proofs.given.add_missing.Given as goal
 
 abbrev pub invariant-loop-entry : goal.invariant-loop-entry

@@ -1,6 +1,6 @@
 use Rattle.std.specs.Option.{option_copied}
 use Rattle.pv_text.specs.Components.{left_in}
-use Rattle.pv_host_copy.proofs.Givens.{IsSoughtIn}
+use Rattle.pv_host_copy.proofs.SourceEntries.{IsSoughtIn}
 use Rattle.pv_host_copy.proofs.given.has_directory.Given as goal
 
 abbrev pub invariant-loop-rest : goal.invariant-loop-rest

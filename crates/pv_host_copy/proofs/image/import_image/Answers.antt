@@ -1,5 +1,5 @@
 use Rattle.std.proofs.Common.{refl}
-use Rattle.pv_host_copy.proofs.Imports.{imports-stop}
+use Rattle.pv_host_copy.proofs.WholeImport.{imports-stop}
 use Rattle.pv_host_copy.proofs.image.import_image.Goals as goal
 
 pub returns-in-Err-clause-imports : goal.returns-in-Err-clause-imports

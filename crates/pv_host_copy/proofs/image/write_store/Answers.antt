@@ -2,7 +2,7 @@ use Rattle.std.proofs.Common.{subst}
 use Rattle.std.proofs.lemmas.Result.{on_ok_weaker}
 use Rattle.pv_image_write.specs.Written.{BeginsImage, WritesImage}
 use Rattle.pv_model.specs.Machine.{named_tree, Tree}
-use Rattle.pv_host_copy.proofs.Imports.{reports-tree, begins-tree}
+use Rattle.pv_host_copy.proofs.WholeImport.{reports-tree, begins-tree}
 use Rattle.pv_host_copy.proofs.image.write_store.Goals as goal
 
 pub returns : goal.returns

@@ -1,5 +1,5 @@
 use Rattle.std.proofs.Common.{◌∙◌}
-use Rattle.pv_host_copy.proofs.Imports.{start-holds}
+use Rattle.pv_host_copy.proofs.WholeImport.{start-holds}
 use Rattle.pv_host_copy.proofs.import.empty.Goals as goal
 
 pub returns-clause-holds : goal.returns-clause-holds

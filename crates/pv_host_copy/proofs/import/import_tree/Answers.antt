@@ -1,5 +1,5 @@
 use Rattle.std.proofs.Common.{[], refl}
-use Rattle.pv_host_copy.proofs.Imports.{imported-reported}
+use Rattle.pv_host_copy.proofs.WholeImport.{imported-reported}
 use Rattle.pv_host_copy.proofs.import.import_tree.Goals as goal
 
 pub returns-clause-reported : goal.returns-clause-reported

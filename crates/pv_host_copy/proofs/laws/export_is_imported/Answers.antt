@@ -1,4 +1,4 @@
-use Rattle.pv_host_copy.proofs.Shown.{export-is_imported}
+use Rattle.pv_host_copy.proofs.ImportOfExport.{export-is_imported}
 use Rattle.pv_host_copy.proofs.laws.export_is_imported.Goals as goal
 
 pub returns : goal.returns

@@ -1,7 +1,7 @@
 use Rattle.std.proofs.Common.{codes}
 use Rattle.std.proofs.lemmas.Result.{on_ok_weaker}
 use Rattle.pv_model.specs.Machine.{listed_path, quote}
-use Rattle.pv_streams.proofs.Reporting.{written_both}
+use Rattle.pv_streams.proofs.OutputTexts.{written_both}
 use Rattle.pv_host_copy.proofs.lines.write_front.Goals as goal
 
 pub returns : goal.returns

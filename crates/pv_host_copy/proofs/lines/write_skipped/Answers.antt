@@ -2,7 +2,7 @@ use Rattle.std.proofs.Common.{◌+◌, ◌∙◌, ap, drop, flat_map, refl, sym}
 use Rattle.std.specs.Prelude.{map}
 use Rattle.std.proofs.Math.ListN.{drop_of_length-le}
 use Rattle.pv_streams.specs.Sinks.{and_all}
-use Rattle.pv_streams.proofs.Reporting.{written_none}
+use Rattle.pv_streams.proofs.OutputTexts.{written_none}
 use Rattle.pv_host_copy.specs.Firsts.{skipped_pair}
 use Rattle.pv_host_copy.specs.Lines.{skipped_line}
 use Rattle.pv_host_copy.proofs.FirstPaths.{next_first}

@@ -1,5 +1,5 @@
 use Rattle.std.proofs.Common.{◌≡◌}
-use Rattle.pv_host_copy.proofs.Walks.{GoesOn, steps_left}
+use Rattle.pv_host_copy.proofs.DirectoryDescent.{GoesOn, steps_left}
 use Rattle.pv_host_copy.proofs.walking.import_directory.Given as goal
 
 abbrev pub invariant-loop-current : goal.invariant-loop-current

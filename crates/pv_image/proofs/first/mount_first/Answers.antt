@@ -5,7 +5,7 @@ use Rattle.pv_model.specs.declared.fault.ImageFault.TheVariants.{Memory}
 use Rattle.pv_model.specs.declared.limits.TheConstants.{BLOCK}
 use Rattle.pv_model.specs.declared.version.Version.TheVariants.{V1}
 use Rattle.pv_model.specs.Machine.{Bytes, magic, Tree}
-use Rattle.pv_image.proofs.Migrations.{first-short, first-magic, mounted-first}
+use Rattle.pv_image.proofs.MigrationResults.{first-short, first-magic, mounted-first}
 use Rattle.pv_image.proofs.first.mount_first.Goals as goal
 
 pub returns-then-len-lt-BLOCK-clause-refused : goal.returns-then-len-lt-BLOCK-clause-refused

@@ -2,7 +2,7 @@ use Rattle.std.proofs.Common.{inr, sym, ap, ◌∙◌}
 use Rattle.std.proofs.lemmas.Result.{err_from_is_err_and}
 use Rattle.pv_model.specs.Machine.{Tree}
 use Rattle.pv_image.specs.Migrated.{has_room}
-use Rattle.pv_image.proofs.Migrations.{refuses-image, migrated-small}
+use Rattle.pv_image.proofs.MigrationResults.{refuses-image, migrated-small}
 use Rattle.pv_image.proofs.migrating.mount_roomy.Goals as goal
 
 pub returns-in_err-store-clause-refused : goal.returns-in_err-store-clause-refused

@@ -4,8 +4,8 @@ use Rattle.pv_laws_trees.specs.Preserved.{EachIsNamed}
 use Rattle.pv_image_write.specs.declared.fault.WriteFault.{WriteFault}
 use Rattle.pv_image_write.specs.declared.fault.WriteFault.TheVariants.{Write}
 use Rattle.pv_image.specs.Migrated.{has_room}
-use Rattle.pv_image.proofs.Enlarged.{roomy, named_need-needed}
-use Rattle.pv_image.proofs.Migrations.{begins-migrated, reports-migrated}
+use Rattle.pv_image.proofs.EnlargedTrees.{roomy, named_need-needed}
+use Rattle.pv_image.proofs.MigrationResults.{begins-migrated, reports-migrated}
 use Rattle.pv_image.proofs.migrating.write_migrated.Goals as goal
 
 -- the same for the borrowed tree

@@ -1,5 +1,5 @@
 use Rattle.std.proofs.Common.{nat_le, sym, ap, ◌∙◌}
-use Rattle.pv_image.proofs.Enlarged.{room-is}
+use Rattle.pv_image.proofs.EnlargedTrees.{room-is}
 use Rattle.pv_image.proofs.room.has_room.Goals as goal
 use Rattle.pv_image.proofs.room.has_room.Goals.{then-are_image_sizes, else-are_image_sizes}
 

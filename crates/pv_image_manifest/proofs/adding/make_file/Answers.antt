@@ -1,7 +1,7 @@
 use Rattle.std.proofs.Common.{◌≡◌, ap, sym, ◌∙◌, Ok, []}
 use Rattle.pv_model.specs.Machine.{is_file, file_node, node_at, with_new_node}
 use Rattle.pv_tree.specs.Changes.{new_node}
-use Rattle.pv_tree.specs.Rooms.{refusal}
+use Rattle.pv_tree.specs.Rooms.{room_error}
 use Rattle.pv_image_manifest.proofs.NewFiles.{in-room, out-of-room, room-some, file-there, file-written-in, no-room-empty}
 use Rattle.pv_image_manifest.proofs.adding.make_file.Goals as goal
 
@@ -12,7 +12,7 @@ returns-in_default-clause-made c = λ line.
     let name = c.args.name.now in
     out-of-room line (with_new_node t d name (file_node c.args.executable c.args.bytes.now))
     (no-room-empty t c.invariant.ensures.well_formed d name c.args.executable c.requires.directory.0 c.requires.absent c.args.bytes.now c.in_default.field-0
-    (ap (λ node. refusal (with_new_node t d name node)) (sym c.file_kind.ensures) ∙ c.in_default.ensures.change.refused))
+    (ap (λ node. room_error (with_new_node t d name node)) (sym c.file_kind.ensures) ∙ c.in_default.ensures.change.refused))
 
 pub write_at-requires : goal.write_at-requires
 write_at-requires c =
@@ -31,7 +31,7 @@ returns-in_default-write_at-clause-made c = λ line.
     file-written-in c.args.tree.now.tree c.invariant.ensures.well_formed c.args.directory c.args.name.now c.args.executable c.requires.directory.0 c.requires.absent c.args.bytes.now
     c.make.new.self.tree (new_node c.file_kind.result) c.in-Ok.node (ap (λ h. h.tree) c.in-Ok.ensures.change.ok) c.file_kind.ensures c.in-Ok.ensures.number
     in
-    out-of-room line made (room-some made c.in_default-write_at.field-0 (ap refusal (sym written) ∙ c.in_default-write_at.ensures.change.refused))
+    out-of-room line made (room-some made c.in_default-write_at.field-0 (ap room_error (sym written) ∙ c.in_default-write_at.ensures.change.refused))
 
 pub returns-clause-made : goal.returns-clause-made
 returns-clause-made c = λ line.
@@ -41,7 +41,7 @@ returns-clause-made c = λ line.
     c.make.new.self.tree (new_node c.file_kind.result) c.in-Ok.node (ap (λ h. h.tree) c.in-Ok.ensures.change.ok) c.file_kind.ensures c.in-Ok.ensures.number
     in
     let is : c.write_at.new.self.tree ≡ made = ap (λ h. h.tree) c.in-Ok-write_at.ensures.change.ok ∙ written in
-    in-room line made (ap refusal (sym written) ∙ c.in-Ok-write_at.ensures.change.allowed) ∙ ap (λ t. Ok t) (sym is)
+    in-room line made (ap room_error (sym written) ∙ c.in-Ok-write_at.ensures.change.allowed) ∙ ap (λ t. Ok t) (sym is)
 
 pub returns-clause-version : goal.returns-clause-version
 returns-clause-version c =

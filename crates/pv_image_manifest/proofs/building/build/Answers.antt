@@ -2,10 +2,10 @@ use Rattle.std.proofs.Common.{◌≡◌, ap, sym, subst, ◌∙◌, Ok, Err}
 use Rattle.std.specs.Prelude.{[], ◌+◌, drop}
 use Rattle.std.proofs.lemmas.Result.{err_from_is_err_and}
 use Rattle.pv_image_manifest.specs.Reading.{manifest_before}
-use Rattle.pv_image_manifest.specs.Building.{Makes}
+use Rattle.pv_image_manifest.specs.Building.{MakesTreeOrError}
 use Rattle.pv_image_manifest.specs.Entries.{entry_of_line}
 use Rattle.pv_model.specs.Machine.{add_entry, tree_of}
-use Rattle.pv_image_manifest.proofs.EntryByEntry.{IsBuiltSoFar, IsBuiltSoFar-start, IsBuiltSoFar-step, IsBuiltSoFar-refused, IsBuiltSoFar-end, refuses, next_entry}
+use Rattle.pv_image_manifest.proofs.EntrySequences.{IsBuiltSoFar, IsBuiltSoFar-start, IsBuiltSoFar-step, IsBuiltSoFar-refused, IsBuiltSoFar-end, refuses, next_entry}
 use Rattle.std.proofs.Math.ListN.{drop_of_length-le}
 use Rattle.pv_tree.specs.Holding.{HeldTree, IsUnheld}
 use Rattle.pv_image_manifest.proofs.building.build.Goals as goal
@@ -38,7 +38,7 @@ loop-entry-preserved c =
     let m = manifest_before c.args.manifest.now [] in
     let first = next_entry items i c.entry-item.result c.loop-entry-test.true c.entry-item.is in
     IsBuiltSoFar-step (drop i items) c.loop-entry.tree.value m c.loop-entry.invariant c.entry-item.result (drop (i + 1) items) first c.in_ok-add.field-0 c.add.new.tree
-    (subst (λ (h : HeldTree). Makes (Ok c.in_ok-add.field-0) (add_entry c.entry-item.result.line h.tree (entry_of_line c.entry-item.result).1) h c.add.new.tree) c.deref_mut.ensures.value c.in_ok-add.ensures)
+    (subst (λ (h : HeldTree). MakesTreeOrError (Ok c.in_ok-add.field-0) (add_entry c.entry-item.result.line h.tree (entry_of_line c.entry-item.result).1) h c.add.new.tree) c.deref_mut.ensures.value c.in_ok-add.ensures)
 
 pub of_tree-requires : goal.of_tree-requires
 of_tree-requires c = subst (λ (h : HeldTree). IsUnheld h.holds) (sym (c.order_entries.ensures ∙ c.deref_mut-2.ensures.value)) c.loop-entry.invariant.unheld

@@ -1,6 +1,6 @@
 use Rattle.std.specs.Prelude.{[], drop}
 use Rattle.pv_image_manifest.specs.Reading.{manifest_before}
-use Rattle.pv_image_manifest.proofs.EntryByEntry.{IsBuiltSoFar}
+use Rattle.pv_image_manifest.proofs.EntrySequences.{IsBuiltSoFar}
 use Rattle.pv_image_manifest.proofs.building.build.Given as goal
 
 abbrev pub invariant-loop-entry : goal.invariant-loop-entry

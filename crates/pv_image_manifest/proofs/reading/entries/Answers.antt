@@ -2,12 +2,12 @@ use Rattle.std.proofs.Common.{List, Option, Some, refl, sym, ◌∙◌, arith, s
 use Rattle.pv_model.specs.Machine.{Bytes}
 use Rattle.pv_model.specs.Grammar.Manifests.{Taking}
 use Rattle.pv_image_manifest.specs.declared.read_entry.ReadEntry.{ReadEntry}
-use Rattle.pv_image_manifest.specs.Reading.{Takes}
+use Rattle.pv_image_manifest.specs.Reading.{ParsesEntry}
 use Rattle.pv_image_manifest.proofs.ListedEntries.{IsListedSoFar-following, IsListedSoFar-room, IsListedSoFar-step}
 use Rattle.pv_image_manifest.proofs.reading.entries.Goals as goal
 
-what_is_taken : (o : Option ReadEntry) (t : ReadEntry) (taking : Option Taking) (following : List Bytes) → o ≡ Some t → Takes o taking following → Takes (Some t) taking following
-what_is_taken o t taking following is takes = subst (λ p. Takes p taking following) is takes
+what_is_taken : (o : Option ReadEntry) (t : ReadEntry) (taking : Option Taking) (following : List Bytes) → o ≡ Some t → ParsesEntry o taking following → ParsesEntry (Some t) taking following
+what_is_taken o t taking following is takes = subst (λ p. ParsesEntry p taking following) is takes
 
 pub returns-then-ends_manifest-clause-end : goal.returns-then-ends_manifest-clause-end
 returns-then-ends_manifest-clause-end c =

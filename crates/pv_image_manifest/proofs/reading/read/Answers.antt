@@ -2,8 +2,8 @@ use Rattle.std.proofs.Common.{◌∙◌}
 use Rattle.std.proofs.lemmas.Result.{err_from_is_err_and}
 use Rattle.pv_model.specs.Machine.{lines_of, entry_of}
 use Rattle.pv_model.specs.Grammar.Manifests.{manifest_by}
-use Rattle.pv_image_manifest.proofs.Ends.{end_of_end, end_after_line}
-use Rattle.pv_image_manifest.proofs.WholeManifests.{fault_of_entries, with_listed, sizes_refused, sizes_taken, refuses_along}
+use Rattle.pv_image_manifest.proofs.TextEnds.{end_of_end, end_after_line}
+use Rattle.pv_image_manifest.proofs.WholeManifests.{error_of_entries, with_listed, sizes_refused, sizes_taken, refuses_along}
 use Rattle.pv_image_manifest.proofs.reading.read.Goals as goal
 
 pub returns-in_err-entries-clause-exact : goal.returns-in_err-entries-clause-exact
@@ -11,7 +11,7 @@ returns-in_err-entries-clause-exact c =
     let p = err_from_is_err_and c.from_residual.result c.from_residual.ensures.1 in
     rw (p.1, p.2)
     (refuses_along _ _ (manifest_by c.args.in_bundle entry_of (lines_of c.args.bytes.now))
-    (fault_of_entries c.args.in_bundle c.args.bytes.now c.in-Some.first.now c.in-Some.rest.now c.in-Some.ensures.lines c.in-Some-sizes.block_count c.in-Some-sizes.inode_count c.in-Some-sizes.ensures)
+    (error_of_entries c.args.in_bundle c.args.bytes.now c.in-Some.first.now c.in-Some.rest.now c.in-Some.ensures.lines c.in-Some-sizes.block_count c.in-Some-sizes.inode_count c.in-Some-sizes.ensures)
     c.in_err-entries.ensures.exact)
 
 pub returns-then-not-are_image_sizes-clause-exact : goal.returns-then-not-are_image_sizes-clause-exact

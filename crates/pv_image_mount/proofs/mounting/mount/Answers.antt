@@ -1,6 +1,6 @@
 use Rattle.std.proofs.Common.{◌∙◌, ap, subst}
 use Rattle.pv_model.specs.Machine.{Bytes, field}
-use Rattle.pv_image_mount.proofs.Mounted.{Holds, is_image, is_mounted, long_enough}
+use Rattle.pv_image_mount.proofs.MountedImages.{Holds, is_image, is_mounted, long_enough}
 use Rattle.pv_image_mount.proofs.mounting.mount.Goals as goal
 
 pub u16_at-inodes-requires : goal.u16_at-inodes-requires

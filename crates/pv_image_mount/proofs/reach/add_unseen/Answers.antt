@@ -1,8 +1,8 @@
 use Rattle.std.proofs.Common.{◌≡◌, ◌+◌, ◌++◌, ◌∷◌, [], get_or, false, true, take, ap, sym, subst, ◌∙◌}
 use Rattle.std.proofs.lemmas.List.{take_all}
 use Rattle.pv_blocks.specs.BlockSet.{is_member}
-use Rattle.pv_image_mount.specs.Places.{is_among, joined, with_number_last, HasEach}
-use Rattle.pv_image_mount.proofs.Joining.{each_more, having_last, joined_more, lacking_last}
+use Rattle.pv_image_mount.specs.Places.{is_among, joined_numbers, with_number_last, HasEach}
+use Rattle.pv_image_mount.proofs.NumberUnions.{each_more, having_last, joined_more, lacking_last}
 use Rattle.pv_image_mount.proofs.reach.add_unseen.Goals as goal
 use Rattle.pv_image_mount.proofs.reach.add_unseen.Goals.{then-not-contains+in_ok-push, else-not-contains}
 
@@ -14,7 +14,7 @@ loop-k-preserved c =
     let k = get_or numbers i 0 in
     let order = c.loop-k.order.items in
     let each = c.loop-k.invariant.each in
-    let step : with_number_last order k ≡ joined first (take (i + 1) numbers) =
+    let step : with_number_last order k ≡ joined_numbers first (take (i + 1) numbers) =
     ap (λ l. with_number_last l k) c.loop-k.invariant.order ∙ sym (joined_more first numbers i c.loop-k-test.true) in
     elim c.if-not-contains.branch [
       | then-not-contains+in_ok-push w ↦
@@ -35,4 +35,4 @@ loop-k-preserved c =
     ]
 
 pub returns-clause-order : goal.returns-clause-order
-returns-clause-order c = c.loop-k.invariant.order ∙ ap (joined c.args.order.now.items) (take_all c.loop-k.k-index c.args.numbers.now c.loop-k-test.false)
+returns-clause-order c = c.loop-k.invariant.order ∙ ap (joined_numbers c.args.order.now.items) (take_all c.loop-k.k-index c.args.numbers.now c.loop-k-test.false)

@@ -1,6 +1,6 @@
 use Rattle.std.proofs.Common.{◌+◌, ◌<◌, ◌^◌, get_or, subst, arith}
 use Rattle.std.proofs.lemmas.List.{take_all}
-use Rattle.pv_image_mount.proofs.Counting.{AreCounted, counted_more, none_counted, room_to_count}
+use Rattle.pv_image_mount.proofs.NameCounts.{AreCounted, counted_more, none_counted, room_to_count}
 use Rattle.pv_image_mount.proofs.targets.add_counts.Goals as goal
 
 pub loop-k-init : goal.loop-k-init

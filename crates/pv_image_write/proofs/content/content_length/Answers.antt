@@ -7,7 +7,7 @@ use Rattle.pv_tree.specs.Present.{IsPresent}
 use Rattle.pv_image_write.specs.Encoding.{content_of}
 use Rattle.pv_image_write.proofs.PlacedTrees.{content-allowed, directory-length, other-length}
 use Rattle.pv_image_write.proofs.content.content_length.Goals as goal
-use Rattle.pv_laws_trees.proofs.Rooms.{greatest-low}
+use Rattle.pv_laws_trees.proofs.NodeRoom.{greatest-low}
 
 of_directory : (h : HeldTree) → IsPresent h → (v : Version) → greatest_name h.tree.version ≤ greatest_name v → (n size slot : ℕ) → slot ≡ entry_length v
     → is_directory_at h.tree n ≡ true → option_map size_of (node_at h.tree n) ≡ Some size → slot * size ≡ length (content_of v (node_at h.tree n))

@@ -1,7 +1,7 @@
 use Rattle.std.proofs.Common.{◌≡◌, ◌+◌, ◌++◌, length, take, ap, sym, ◌∙◌, append_assoc, arith}
 use Rattle.std.proofs.Math.Seq.{take-add}
 use Rattle.pv_model.specs.Machine.{Bytes}
-use Rattle.pv_tree.specs.OfDirs.Trees.{bytes_at}
+use Rattle.pv_tree.specs.OfDirs.Trees.{node_bytes_at}
 use Rattle.pv_image_write.proofs.content.put_bytes.Goals as goal
 
 pub put-requires : goal.put-requires
@@ -10,7 +10,7 @@ put-requires c =
 
 pub loop-at-preserved : goal.loop-at-preserved
 loop-at-preserved c =
-    let bytes = bytes_at c.args.tree.now.tree c.args.node in
+    let bytes = node_bytes_at c.args.tree.now.tree c.args.node in
     let at = c.loop-at.at in
     let part = c.lend-part.result.now in
     let more : take (at + length part) bytes ≡ take at bytes ++ part = take-add at (length part) bytes ∙ ap (λ (t : Bytes). take at bytes ++ t) (sym c.lend-part.ensures.run) in

@@ -1,7 +1,7 @@
 use Rattle.std.proofs.Common.{◌≡◌, ℕ, ◌+◌, ◌*◌, ◌<◌, ◌++◌, length, Some, sym, ap, subst, ◌∙◌, arith}
 use Rattle.pv_model.specs.Machine.{Bytes, entry_length, entries_at, find_entry, node_at}
 use Rattle.pv_image_write.specs.Encoding.{slot_of}
-use Rattle.pv_image_write.proofs.Listed.{front-none, front-some, some-is, met, all-met, listing-start, listing-step, size_entries, slot-room, IsListing}
+use Rattle.pv_image_write.proofs.EntryLists.{front-none, front-some, some-is, met, all-met, listing-start, listing-step, size_entries, slot-room, IsListing}
 use Rattle.pv_image_write.proofs.content.put_slots.Goals as goal
 
 pub unreachable-requires : goal.unreachable-requires

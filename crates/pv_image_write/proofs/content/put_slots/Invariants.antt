@@ -1,6 +1,6 @@
 use Rattle.std.proofs.Common.{◌≡◌, ◌+◌, ◌*◌, ◌≤◌, vec_capacity, vec_len}
 use Rattle.pv_model.specs.Machine.{entry_length, entries_at}
-use Rattle.pv_image_write.proofs.Listed.{IsListing}
+use Rattle.pv_image_write.proofs.EntryLists.{IsListing}
 use Rattle.pv_image_write.proofs.content.put_slots.Given as goal
 
 abbrev pub invariant-loop-entry : goal.invariant-loop-entry

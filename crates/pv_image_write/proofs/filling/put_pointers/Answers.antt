@@ -2,20 +2,20 @@ use Rattle.std.proofs.Common.{◌≡◌, ◌+◌, ◌-◌, ◌*◌, ◌≤◌, �
 use Rattle.std.specs.List.{range_with_len}
 use Rattle.std.proofs.lemmas.List.{append_assoc}
 use Rattle.pv_model.specs.Machine.{Bytes, little_endian}
-use Rattle.pv_image_write.specs.Encoding.{padded, encoded}
-use Rattle.pv_image_write.proofs.Ranges.{length-encoded_row, encoded-more}
+use Rattle.pv_image_write.specs.Encoding.{padded, encoded_numbers}
+use Rattle.pv_image_write.proofs.NumberRanges.{length-encoded_row, encoded_numbers-more}
 use Rattle.pv_image_write.proofs.filling.put_pointers.Goals as goal
 
 -- one more number
-one-more : (old now new : Bytes) (first block : ℕ) → first ≤ block → now ≡ old ++ encoded (range_with_len first (block - first)) → new ≡ now ++ little_endian 2 block
-    → new ≡ old ++ encoded (range_with_len first (block + 1 - first))
+one-more : (old now new : Bytes) (first block : ℕ) → first ≤ block → now ≡ old ++ encoded_numbers (range_with_len first (block - first)) → new ≡ now ++ little_endian 2 block
+    → new ≡ old ++ encoded_numbers (range_with_len first (block + 1 - first))
 one-more old now new first block from so_far next =
     let n = block - first in
     let further : n + 1 ≡ block + 1 - first = omega arith in
     let here : block ≡ first + n = omega arith in
-    next ∙ ap (λ (xs : Bytes). xs ++ little_endian 2 block) so_far ∙ append_assoc old (encoded (range_with_len first n)) (little_endian 2 block)
-    ∙ ap (λ k. old ++ (encoded (range_with_len first n) ++ little_endian 2 k)) here
-    ∙ ap (λ (xs : Bytes). old ++ xs) (sym (encoded-more first n)) ∙ ap (λ k. old ++ encoded (range_with_len first k)) further
+    next ∙ ap (λ (xs : Bytes). xs ++ little_endian 2 block) so_far ∙ append_assoc old (encoded_numbers (range_with_len first n)) (little_endian 2 block)
+    ∙ ap (λ k. old ++ (encoded_numbers (range_with_len first n) ++ little_endian 2 k)) here
+    ∙ ap (λ (xs : Bytes). old ++ xs) (sym (encoded_numbers-more first n)) ∙ ap (λ k. old ++ encoded_numbers (range_with_len first k)) further
 
 pub loop-block-preserved : goal.loop-block-preserved
 loop-block-preserved c = record {
@@ -25,12 +25,12 @@ loop-block-preserved c = record {
 }
 
 -- and the zeros after them
-with-zeros : (old now new : Bytes) (first count n length : ℕ) → n ≡ count → now ≡ old ++ encoded (range_with_len first n) → new ≡ now ++ replicate (length - 2 * count) 0
-    → new ≡ old ++ padded length (encoded (range_with_len first count))
+with-zeros : (old now new : Bytes) (first count n length : ℕ) → n ≡ count → now ≡ old ++ encoded_numbers (range_with_len first n) → new ≡ now ++ replicate (length - 2 * count) 0
+    → new ≡ old ++ padded length (encoded_numbers (range_with_len first count))
 unfolding padded
 with-zeros old now new first count n size all so_far following =
-    let row = encoded (range_with_len first count) in
-    following ∙ ap (λ (xs : Bytes). xs ++ replicate (size - 2 * count) 0) (so_far ∙ ap (λ k. old ++ encoded (range_with_len first k)) all)
+    let row = encoded_numbers (range_with_len first count) in
+    following ∙ ap (λ (xs : Bytes). xs ++ replicate (size - 2 * count) 0) (so_far ∙ ap (λ k. old ++ encoded_numbers (range_with_len first k)) all)
     ∙ append_assoc old row (replicate (size - 2 * count) 0)
     ∙ ap (λ k. old ++ (row ++ replicate (size - k) 0)) (sym (length-encoded_row first count))
 

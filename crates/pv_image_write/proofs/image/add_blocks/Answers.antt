@@ -1,7 +1,7 @@
 use Rattle.std.proofs.Common.{refl}
 use Rattle.pv_model.specs.Machine.{node_at}
 use Rattle.pv_image_write.specs.Placed.{written_at}
-use Rattle.pv_image_write.proofs.Writing.{blocks-put}
+use Rattle.pv_image_write.proofs.ImageWrites.{blocks-put}
 use Rattle.pv_image_write.proofs.image.add_blocks.Goals as goal
 
 pub returns-clause-items : goal.returns-clause-items

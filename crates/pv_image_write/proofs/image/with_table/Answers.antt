@@ -4,8 +4,8 @@ use Rattle.pv_image_write.specs.Placed.{placed, written_at}
 use Rattle.pv_image_write.specs.Encoding.{first_block, all_inodes}
 use Rattle.pv_image_write.specs.Writable.{AreWritten}
 use Rattle.pv_image_write.proofs.PlacedTrees.{node-placed, names-placed, placed-counted}
-use Rattle.pv_image_write.proofs.Places.{length-first_block}
-use Rattle.pv_image_write.proofs.Writing.{inode-room, inodes-start, inodes-step, table-is, table-room, as_written-room}
+use Rattle.pv_image_write.proofs.ImageParts.{length-first_block}
+use Rattle.pv_image_write.proofs.ImageWrites.{inode-room, inodes-start, inodes-step, table-is, table-room, as_written-room}
 use Rattle.pv_image_write.proofs.image.with_table.Goals as goal
 
 pub table_blocks-first_data-requires : goal.table_blocks-first_data-requires

@@ -8,7 +8,7 @@ use Rattle.pv_image_write.specs.Placed.{placed}
 use Rattle.pv_image_write.specs.Encoding.{image_bytes}
 use Rattle.pv_image_write.specs.Written.{BeginsImage, WritesImage}
 use Rattle.pv_image_write.specs.Writable.{IsWritable}
-use Rattle.pv_image_write.proofs.Law.{is-written_image}
+use Rattle.pv_image_write.proofs.WrittenImage.{is-written_image}
 use Rattle.pv_image_write.proofs.PlacedTrees.{placed-writable}
 use Rattle.pv_image_write.proofs.image.write_as.Goals as goal
 

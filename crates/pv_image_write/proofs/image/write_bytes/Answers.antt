@@ -2,7 +2,7 @@ use Rattle.std.proofs.Common.{◌≡◌, subst}
 use Rattle.pv_model.specs.Machine.{Bytes, inode_blocks}
 use Rattle.pv_streams.specs.Sinks.{and_all, WritesPrefix}
 use Rattle.pv_image_write.specs.Placed.{placed}
-use Rattle.pv_image_write.proofs.Writing.{image-as_written, length-with_table, whole-image}
+use Rattle.pv_image_write.proofs.ImageWrites.{image-as_written, length-with_table, whole-image}
 use Rattle.pv_image_write.proofs.image.write_bytes.Goals as goal
 
 pub write_contents-requires-clause-following : goal.write_contents-requires-clause-following

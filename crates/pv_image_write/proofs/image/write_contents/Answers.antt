@@ -4,13 +4,13 @@ use Rattle.pv_model.specs.declared.version.Version.{Version}
 use Rattle.pv_model.specs.Machine.{Bytes, inode_blocks, node_at, greatest_name}
 use Rattle.pv_tree.specs.Holding.{HeldTree}
 use Rattle.pv_tree.specs.Present.{IsPresent}
-use Rattle.pv_streams.proofs.Reporting.{on_err}
+use Rattle.pv_streams.proofs.OutputTexts.{on_err}
 use Rattle.pv_streams.specs.Sinks.{and_all, WritesPrefix}
 use Rattle.pv_image_write.specs.Placed.{placed, written_at}
 use Rattle.pv_image_write.specs.Encoding.{all_contents, padded}
 use Rattle.pv_image_write.proofs.PlacedTrees.{node-placed}
-use Rattle.pv_image_write.proofs.Windows.{put-all, put-cut, put-on}
-use Rattle.pv_image_write.proofs.Writing.{blocks-left, cut-node, node-room, put-node, put-none, put-zeros, written-node, as_written-room, whole-image, zeros-room}
+use Rattle.pv_image_write.proofs.WindowWrites.{put-all, put-cut, put-on}
+use Rattle.pv_image_write.proofs.ImageWrites.{blocks-left, cut-node, node-room, put-node, put-none, put-zeros, written-node, as_written-room, whole-image, zeros-room}
 use Rattle.pv_image_write.proofs.image.write_contents.Goals as goal
 
 -- the next node

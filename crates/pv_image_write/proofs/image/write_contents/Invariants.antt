@@ -1,6 +1,6 @@
 use Rattle.std.proofs.Common.{◌≡◌, ◌≤◌, vec_capacity}
 use Rattle.pv_image_write.specs.Placed.{placed}
-use Rattle.pv_image_write.proofs.Writing.{ArePut}
+use Rattle.pv_image_write.proofs.ImageWrites.{ArePut}
 use Rattle.pv_image_write.proofs.image.write_contents.Given as goal
 
 abbrev pub invariant-loop-slot : goal.invariant-loop-slot

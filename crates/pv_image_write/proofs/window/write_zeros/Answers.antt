@@ -1,11 +1,11 @@
 use Rattle.std.proofs.Common.{◌≡◌, ℕ, ◌+◌, ◌*◌, ◌-◌, ◌≤◌, ◌++◌, replicate, ap, subst, ◌∙◌, append_assoc, arith}
 use Rattle.std.proofs.lemmas.List.{length-append, length-replicate, replicate-append-replicate}
 use Rattle.pv_model.specs.Machine.{Bytes}
-use Rattle.pv_streams.proofs.Reporting.{on_err}
+use Rattle.pv_streams.proofs.OutputTexts.{on_err}
 use Rattle.pv_streams.specs.Sinks.{WritesPrefix}
-use Rattle.pv_image_write.specs.Written.{IsPut}
-use Rattle.pv_streams.proofs.Reporting.{begins_first}
-use Rattle.pv_image_write.proofs.Windows.{put-cut, put-more, put-on, put-within}
+use Rattle.pv_image_write.specs.Written.{IsPartlyWritten}
+use Rattle.pv_streams.proofs.OutputTexts.{begins_first}
+use Rattle.pv_image_write.proofs.WindowWrites.{put-cut, put-more, put-on, put-within}
 use Rattle.pv_image_write.proofs.window.write_zeros.Goals as goal
 
 -- zeros of one more block
@@ -53,7 +53,7 @@ loop-block-preserved g c =
     let more = put-more entry mid c.loop-block.window.items (had ++ replicate (512 * n) 0) c.put_zeros.new.bytes.items (replicate 512 0) c.loop-block.invariant.put c.put_zeros.ensures.items in
     let on = put-on entry mid after c.put_zeros.new.bytes.items ((had ++ replicate (512 * n) 0) ++ replicate 512 0) c.write_full.new.window.items more c.in_ok-write_full.ensures.put in
     record {
-      put = subst (λ (xs : Bytes). IsPut entry after c.write_full.new.window.items xs) (one-more n had) on;
+      put = subst (λ (xs : Bytes). IsPartlyWritten entry after c.write_full.new.window.items xs) (one-more n had) on;
       room = omega (arith, c.loop-block.invariant.room, c.put_zeros.ensures.capacity, c.write_full.ensures.capacity);
       quiet = c.in_ok-write_full.ensures.quiet ∙ c.loop-block.invariant.quiet;
     }

@@ -1,6 +1,6 @@
 use Rattle.pv_inodes.specs.Layout.{pointer_of}
-use Rattle.pv_inodes.proofs.Layouts.{pointer_of-few}
-use Rattle.pv_inodes.proofs.Pushes.{pushed-steps, pointer_at-cleared, length-cleared}
+use Rattle.pv_inodes.proofs.InodeLayouts.{pointer_of-few}
+use Rattle.pv_inodes.proofs.BlockAllocation.{pushed-steps, pointer_at-cleared, length-cleared}
 use Rattle.pv_inodes.proofs.table.push_block.Goals as goal
 
 pub set_owned-requires-clause-index : goal.set_owned-requires-clause-index

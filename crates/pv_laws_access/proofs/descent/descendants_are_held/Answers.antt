@@ -1,4 +1,4 @@
-use Rattle.pv_laws_access.proofs.Inheritance.{descendants-held}
+use Rattle.pv_laws_access.proofs.DescendantLimits.{descendants-held}
 use Rattle.pv_laws_access.proofs.descent.descendants_are_held.Goals as goal
 
 pub returns : goal.returns

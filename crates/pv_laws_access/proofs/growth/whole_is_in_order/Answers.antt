@@ -1,5 +1,5 @@
-use Rattle.pv_laws_access.proofs.Ends.{whole-in_order}
+use Rattle.pv_laws_access.proofs.ProcessesAfterEnds.{valid-in_order}
 use Rattle.pv_laws_access.proofs.growth.whole_is_in_order.Goals as goal
 
 pub returns : goal.returns
-returns c = whole-in_order
+returns c = valid-in_order

@@ -1,4 +1,4 @@
-use Rattle.pv_laws_access.proofs.Ascending.{names-ascend}
+use Rattle.pv_laws_access.proofs.AscendingListings.{names-ascend}
 use Rattle.pv_laws_access.proofs.order.names_reported_ascend.Goals as goal
 
 pub returns : goal.returns

@@ -1,4 +1,4 @@
-use Rattle.pv_laws_access.proofs.Decisions.{lock-refuses-exactly}
+use Rattle.pv_laws_access.proofs.WalkDecisions.{lock-refuses-exactly}
 use Rattle.pv_laws_access.proofs.table_refusals.lock_refuses_exactly.Goals as goal
 
 pub returns : goal.returns

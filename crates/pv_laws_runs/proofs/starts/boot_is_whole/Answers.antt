@@ -1,5 +1,5 @@
-use Rattle.pv_laws_runs.proofs.StartingStates.{boot-whole}
+use Rattle.pv_laws_runs.proofs.StartingStates.{boot-valid}
 use Rattle.pv_laws_runs.proofs.starts.boot_is_whole.Goals as goal
 
 pub returns : goal.returns
-returns c = boot-whole
+returns c = boot-valid

@@ -1,4 +1,4 @@
-use Rattle.pv_laws_runs.proofs.Ranges.{program_of-encodes}
+use Rattle.pv_laws_runs.proofs.ProgramRanges.{program_of-encodes}
 use Rattle.pv_laws_runs.proofs.starts.programs_are_in_range.Goals as goal
 
 pub returns : goal.returns

@@ -1,4 +1,4 @@
-use Rattle.pv_laws_runs.proofs.TurnsEnd.{dead-idle, idle-dead}
+use Rattle.pv_laws_runs.proofs.ScheduleEnds.{dead-idle, idle-dead}
 use Rattle.pv_laws_runs.proofs.turns.idle_if_none_lives.Goals as goal
 
 pub returns : goal.returns

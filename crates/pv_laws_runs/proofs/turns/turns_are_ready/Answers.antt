@@ -1,4 +1,4 @@
-use Rattle.pv_laws_runs.proofs.TurnsEnd.{turns-ready}
+use Rattle.pv_laws_runs.proofs.ScheduleEnds.{turns-ready}
 use Rattle.pv_laws_runs.proofs.turns.turns_are_ready.Goals as goal
 
 pub returns : goal.returns

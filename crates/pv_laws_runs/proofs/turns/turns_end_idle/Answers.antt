@@ -1,4 +1,4 @@
-use Rattle.pv_laws_runs.proofs.TurnsEnd.{turns-idle, turns-within}
+use Rattle.pv_laws_runs.proofs.ScheduleEnds.{turns-idle, turns-within}
 use Rattle.pv_laws_runs.proofs.turns.turns_end_idle.Goals as goal
 
 pub returns : goal.returns

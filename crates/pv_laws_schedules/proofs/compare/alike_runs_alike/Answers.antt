@@ -1,4 +1,4 @@
-use Rattle.pv_laws_schedules.proofs.AlikeRuns.{runs-alike}
+use Rattle.pv_laws_schedules.proofs.EqualRuns.{runs-alike}
 use Rattle.pv_laws_schedules.proofs.compare.alike_runs_alike.Goals as goal
 
 pub returns : goal.returns

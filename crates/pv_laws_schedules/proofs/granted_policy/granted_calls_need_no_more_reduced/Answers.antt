@@ -1,4 +1,4 @@
-use Rattle.pv_laws_schedules.proofs.Granted.{calls-no_more_reduced}
+use Rattle.pv_laws_schedules.proofs.GrantedNeeds.{calls-no_more_reduced}
 use Rattle.pv_laws_schedules.proofs.granted_policy.granted_calls_need_no_more_reduced.Goals as goal
 
 pub returns : goal.returns

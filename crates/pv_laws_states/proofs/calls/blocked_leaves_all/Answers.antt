@@ -1,4 +1,4 @@
-use Rattle.pv_laws_states.proofs.Outcomes.{blocked-leaves}
+use Rattle.pv_laws_states.proofs.CallOutcomes.{blocked-leaves}
 use Rattle.pv_laws_states.proofs.calls.blocked_leaves_all.Goals as goal
 
 pub returns : goal.returns

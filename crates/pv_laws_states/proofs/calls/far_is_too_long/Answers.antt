@@ -1,4 +1,4 @@
-use Rattle.pv_laws_states.proofs.LongLengths.{far-too_long}
+use Rattle.pv_laws_states.proofs.LengthLimits.{far-too_long}
 use Rattle.pv_laws_states.proofs.calls.far_is_too_long.Goals as goal
 
 pub returns : goal.returns

@@ -1,4 +1,4 @@
-use Rattle.pv_laws_states.proofs.Outcomes.{refused-reports}
+use Rattle.pv_laws_states.proofs.CallOutcomes.{refused-reports}
 use Rattle.pv_laws_states.proofs.calls.refused_only_reports.Goals as goal
 
 pub returns : goal.returns

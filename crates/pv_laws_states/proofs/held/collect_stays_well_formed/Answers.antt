@@ -1,4 +1,4 @@
-use Rattle.pv_laws_states.proofs.Collect.{collect-well_formed}
+use Rattle.pv_laws_states.proofs.CollectedStates.{collect-well_formed}
 use Rattle.pv_laws_states.proofs.held.collect_stays_well_formed.Goals as goal
 
 pub returns : goal.returns

@@ -1,5 +1,5 @@
-use Rattle.pv_laws_states.proofs.BySteps.{call-keeps_whole}
+use Rattle.pv_laws_states.proofs.ValidBySteps.{call-keeps_valid}
 use Rattle.pv_laws_states.proofs.states.call_keeps_whole.Goals as goal
 
 pub returns : goal.returns
-returns c = call-keeps_whole
+returns c = call-keeps_valid

@@ -1,5 +1,5 @@
-use Rattle.pv_laws_states.proofs.BySteps.{first-whole}
+use Rattle.pv_laws_states.proofs.ValidBySteps.{first-valid}
 use Rattle.pv_laws_states.proofs.states.first_is_whole.Goals as goal
 
 pub returns : goal.returns
-returns c = first-whole
+returns c = first-valid

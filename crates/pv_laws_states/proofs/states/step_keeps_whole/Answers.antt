@@ -1,5 +1,5 @@
-use Rattle.pv_laws_states.proofs.BySteps.{step-keeps_whole}
+use Rattle.pv_laws_states.proofs.ValidBySteps.{step-keeps_valid}
 use Rattle.pv_laws_states.proofs.states.step_keeps_whole.Goals as goal
 
 pub returns : goal.returns
-returns c = step-keeps_whole
+returns c = step-keeps_valid

@@ -1,4 +1,4 @@
-use Rattle.pv_model.proofs.Runs.{run-append}
+use Rattle.pv_model.proofs.RunComposition.{run-append}
 use Rattle.pv_laws_states.proofs.steps.runs_join.Goals as goal
 
 pub returns : goal.returns

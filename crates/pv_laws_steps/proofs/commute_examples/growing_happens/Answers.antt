@@ -1,4 +1,4 @@
-use Rattle.pv_laws_steps.proofs.GrowingExamples.{growing-happens}
+use Rattle.pv_laws_steps.proofs.GrowthExampleRuns.{growing-happens}
 use Rattle.pv_laws_steps.proofs.commute_examples.growing_happens.Goals as goal
 
 pub returns : goal.returns

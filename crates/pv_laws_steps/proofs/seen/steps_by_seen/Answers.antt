@@ -1,4 +1,4 @@
-use Rattle.pv_laws_steps.proofs.SeenSteps.{steps-by_seen}
+use Rattle.pv_laws_steps.proofs.DependentSteps.{steps-by_seen}
 use Rattle.pv_laws_steps.proofs.seen.steps_by_seen.Goals as goal
 
 pub returns : goal.returns

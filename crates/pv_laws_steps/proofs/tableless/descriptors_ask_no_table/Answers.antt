@@ -1,4 +1,4 @@
-use Rattle.pv_laws_steps.proofs.RelabelledCalls.{descriptors-ask-no_table}
+use Rattle.pv_laws_steps.proofs.CallsWithOtherTables.{descriptors-ask-no_table}
 use Rattle.pv_laws_steps.proofs.tableless.descriptors_ask_no_table.Goals as goal
 
 pub returns : goal.returns

@@ -1,4 +1,4 @@
-use Rattle.pv_laws_trees.proofs.Blocks.{blocks-fine, fine-blocks}
+use Rattle.pv_laws_trees.proofs.InodeBlocks.{blocks-fine, fine-blocks}
 use Rattle.pv_laws_trees.proofs.image_bytes.blocks_are_tested.Goals as goal
 
 pub returns : goal.returns

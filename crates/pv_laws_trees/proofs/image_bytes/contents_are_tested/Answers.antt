@@ -1,4 +1,4 @@
-use Rattle.pv_laws_trees.proofs.Nodes.{content-fine, fine-content}
+use Rattle.pv_laws_trees.proofs.InodeNodes.{content-fine, fine-content}
 use Rattle.pv_laws_trees.proofs.image_bytes.contents_are_tested.Goals as goal
 
 pub returns : goal.returns

@@ -1,5 +1,5 @@
 use Rattle.pv_laws_trees.proofs.MountedImages.{image-mounted}
-use Rattle.pv_laws_trees.proofs.Images.{mounted-image}
+use Rattle.pv_laws_trees.proofs.TreeImages.{mounted-image}
 use Rattle.pv_laws_trees.proofs.image_bytes.images_mount.Goals as goal
 
 pub returns : goal.returns

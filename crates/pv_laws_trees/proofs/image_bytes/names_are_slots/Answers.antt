@@ -1,4 +1,4 @@
-use Rattle.pv_laws_trees.proofs.Names.{as_many_names}
+use Rattle.pv_laws_trees.proofs.InodeNames.{as_many_names}
 use Rattle.pv_laws_trees.proofs.image_bytes.names_are_slots.Goals as goal
 
 pub returns : goal.returns

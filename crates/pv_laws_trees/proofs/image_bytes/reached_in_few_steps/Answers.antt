@@ -1,5 +1,5 @@
 use Rattle.pv_model.specs.Machine.{inode_number}
-use Rattle.pv_laws_trees.proofs.Names.{within-reached}
+use Rattle.pv_laws_trees.proofs.InodeNames.{within-reached}
 use Rattle.pv_laws_trees.proofs.ReachedNodes.{reached-within}
 use Rattle.pv_laws_trees.proofs.image_bytes.reached_in_few_steps.Goals as goal
 

@@ -1,4 +1,4 @@
-use Rattle.pv_laws_trees.proofs.Rooms.{need_grows}
+use Rattle.pv_laws_trees.proofs.NodeRoom.{need_grows}
 use Rattle.pv_laws_trees.proofs.room.need_grows.Goals as goal
 
 pub returns : goal.returns

@@ -1,4 +1,4 @@
-use Rattle.pv_laws_trees.proofs.Rooms.{smaller-fits}
+use Rattle.pv_laws_trees.proofs.NodeRoom.{smaller-fits}
 use Rattle.pv_laws_trees.proofs.room.smaller_fits.Goals as goal
 
 pub returns : goal.returns

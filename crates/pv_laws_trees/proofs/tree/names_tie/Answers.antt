@@ -1,4 +1,4 @@
-use Rattle.pv_laws_trees.proofs.Entries.{ties-bytes_eq}
+use Rattle.pv_laws_trees.proofs.DirectoryEntries.{ties-bytes_eq}
 use Rattle.pv_laws_trees.proofs.tree.names_tie.Goals as goal
 
 pub returns : goal.returns

@@ -1,4 +1,4 @@
-use Rattle.pv_laws_trees.proofs.Edits.{stays-renamed}
+use Rattle.pv_laws_trees.proofs.WellFormedChanges.{stays-renamed}
 use Rattle.pv_laws_trees.proofs.tree.stays_renamed.Goals as goal
 
 pub returns : goal.returns

@@ -1,4 +1,4 @@
-use Rattle.pv_laws_trees.proofs.Edits.{stays-with_entry}
+use Rattle.pv_laws_trees.proofs.WellFormedChanges.{stays-with_entry}
 use Rattle.pv_laws_trees.proofs.tree.stays_with_entry.Goals as goal
 
 pub returns : goal.returns

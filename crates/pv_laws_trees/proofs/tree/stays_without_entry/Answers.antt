@@ -1,4 +1,4 @@
-use Rattle.pv_laws_trees.proofs.Edits.{stays-without_entry}
+use Rattle.pv_laws_trees.proofs.WellFormedChanges.{stays-without_entry}
 use Rattle.pv_laws_trees.proofs.tree.stays_without_entry.Goals as goal
 
 pub returns : goal.returns

@@ -1,4 +1,4 @@
-use Rattle.pv_laws_trees.proofs.Places.{leads-to_place}
+use Rattle.pv_laws_trees.proofs.WalkPlaces.{leads-to_place}
 use Rattle.pv_laws_trees.proofs.walk.leads_to_place.Goals as goal
 
 pub returns : goal.returns

@@ -4,7 +4,7 @@ use Rattle.std.specs.Slice.{IsGetRangeResult}
 use Rattle.pv_model.specs.Machine.{Bytes, next_name, entries_at}
 use Rattle.pv_tree.proofs.OfLawsTrees.Trees.{ordered}
 use Rattle.pv_listing.specs.Lines.{last_name}
-use Rattle.pv_listing.proofs.Children.{child-none, child-some, last-got}
+use Rattle.pv_listing.proofs.DirectoryNames.{child-none, child-some, last-got}
 use Rattle.pv_listing.proofs.listing.next_child.Goals as goal
 
 pub returns-in_default : goal.returns-in_default

@@ -1,7 +1,7 @@
 use Rattle.std.proofs.Common.{◌++◌, flat_map, rules}
 use Rattle.std.proofs.lemmas.Result.{on_err_weaker}
 use Rattle.pv_model.specs.Machine.{listed_path, quote_byte}
-use Rattle.pv_streams.proofs.Reporting.{begins_first, begins_then, written_both, on_err}
+use Rattle.pv_streams.proofs.OutputTexts.{begins_first, begins_then, written_both, on_err}
 use Rattle.pv_listing.proofs.path.write_between.Goals as goal
 
 pub returns-in_err-write_whole : goal.returns-in_err-write_whole

@@ -1,8 +1,8 @@
 use Rattle.std.proofs.Common.{◌≡◌, ◌∙◌, ◌<◌, ◌++◌, [], ◌∷◌, length, take, drop, flat_map, get_or, ap, sym, arith, rules}
 use Rattle.std.proofs.lemmas.List.{append-nil, length-take-le}
 use Rattle.pv_model.specs.Machine.{Bytes, quote_byte}
-use Rattle.pv_streams.proofs.Reporting.{on_err}
-use Rattle.pv_listing.proofs.Rests.{rest_after, rest_begins, components-split, plain-split, rest_all, written_text}
+use Rattle.pv_streams.proofs.OutputTexts.{on_err}
+use Rattle.pv_listing.proofs.TextRemainders.{rest_after, rest_begins, components-split, plain-split, rest_all, written_text}
 use Rattle.pv_listing.proofs.path.write_bytes.Goals as goal
 
 one-byte : (xs : Bytes) → length xs ≡ 1 → quote_byte (get_or xs 0 0) ≡ flat_map quote_byte xs

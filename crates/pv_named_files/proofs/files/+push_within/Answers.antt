@@ -1,10 +1,10 @@
 use Rattle.std.proofs.Common.{ℕ, ◌-◌, List, [], ◌∷◌, ◌++◌, ◌∙◌, append_assoc, append-nil, length, Option, None, Some, ap, refl, sym, arith}
-use Rattle.pv_step_cache.proofs.OfAnswers.Listed.{next-is, upcoming}
-use Rattle.pv_step_cache.proofs.OfListing.Children.{past-none}
-use Rattle.pv_step_cache.proofs.OfListing.Entries.{no-entries}
+use Rattle.pv_step_cache.proofs.OfAnswers.ListedLines.{next-is, upcoming}
+use Rattle.pv_step_cache.proofs.OfListing.DirectoryNames.{past-none}
+use Rattle.pv_step_cache.proofs.OfListing.EntryLines.{no-entries}
 use Rattle.pv_model.specs.Machine.{Bytes, next_name, Entries, entries_at}
 use Rattle.pv_named_files.specs.Listed.{nodes_within}
-use Rattle.pv_named_files.proofs.Listed.{nodes-are, nodes_under}
+use Rattle.pv_named_files.proofs.ListedFiles.{nodes-are, nodes_under}
 use Rattle.pv_named_files.proofs.files.+push_within.Goals as goal
 
 pub returns-then-not-is_directory : goal.returns-then-not-is_directory

@@ -1,8 +1,8 @@
 use Rattle.std.proofs.Common.{◌≡◌, ◌-◌, ◌++◌, length}
-use Rattle.pv_step_cache.proofs.OfAnswers.Listed.{upcoming}
+use Rattle.pv_step_cache.proofs.OfAnswers.ListedLines.{upcoming}
 use Rattle.pv_model.specs.Machine.{entries_at}
 use Rattle.pv_named_files.specs.Listed.{nodes_within}
-use Rattle.pv_named_files.proofs.Listed.{nodes_under}
+use Rattle.pv_named_files.proofs.ListedFiles.{nodes_under}
 use Rattle.pv_named_files.proofs.files.+push_within.Given as goal
 
 abbrev pub decreases-push_within : goal.decreases-push_within

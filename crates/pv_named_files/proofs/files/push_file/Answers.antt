@@ -1,7 +1,7 @@
 use Rattle.std.proofs.Common.{◌≡◌, ◌∙◌, ℕ, Bool, true, false, not, ◌&&◌, if◌then◌else◌, ◌==◌, bytes_eq, List, [], ◌∷◌, ◌++◌, ap, ap₂, sym}
 use Rattle.std.specs.List.{list_any}
 use Rattle.pv_model.specs.Machine.{is_file_at, Bytes}
-use Rattle.pv_named_files.proofs.Notes.{notes-any}
+use Rattle.pv_named_files.proofs.FileNotes.{notes-any}
 use Rattle.pv_named_files.proofs.files.push_file.Goals as goal
 
 -- the files after a node, by whether it is a file and whether it is known

@@ -1,7 +1,7 @@
 use Rattle.std.proofs.Common.{◌∙◌, ◌||◌, sym, ap, ap₂}
 use Rattle.pv_model.specs.Machine.{ends_in_dot, components}
 use Rattle.pv_model.specs.Walk.{is_dot_dot}
-use Rattle.pv_namei.proofs.Dots.{last_or, last_first, last_next}
+use Rattle.pv_namei.proofs.DotComponents.{last_or, last_first, last_next}
 use Rattle.pv_namei.proofs.component.ends_in_dot.Goals as goal
 
 pub loop-component-init : goal.loop-component-init

@@ -1,6 +1,6 @@
 use Rattle.std.proofs.Common.{◌≡◌, length}
 use Rattle.pv_model.specs.Machine.{ends_in_dot, components}
-use Rattle.pv_namei.proofs.Dots.{last_or}
+use Rattle.pv_namei.proofs.DotComponents.{last_or}
 use Rattle.pv_namei.proofs.component.ends_in_dot.Given as goal
 
 abbrev pub invariant-loop-component : goal.invariant-loop-component

@@ -1,5 +1,5 @@
 use Rattle.std.proofs.Common.{◌≡◌, suc, ◌-◌, length, sym, arith}
-use Rattle.pv_namei.proofs.Components.{ends_in_last_of}
+use Rattle.pv_namei.proofs.PathComponents.{ends_in_last_of}
 use Rattle.pv_namei.proofs.component.ends_in_slash.Goals as goal
 
 pub returns-in-len1-up : goal.returns-in-len1-up

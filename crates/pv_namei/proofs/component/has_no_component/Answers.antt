@@ -1,5 +1,5 @@
 use Rattle.std.proofs.Common.{is_some, ap, sym, ◌∙◌}
-use Rattle.pv_namei.proofs.Components.{components_empty}
+use Rattle.pv_namei.proofs.PathComponents.{components_empty}
 use Rattle.pv_namei.proofs.component.has_no_component.Goals as goal
 
 pub returns : goal.returns

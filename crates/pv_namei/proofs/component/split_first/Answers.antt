@@ -1,5 +1,5 @@
 use Rattle.std.proofs.Common.{◌≡◌, ◌<◌, length, drop, Some, unwrap_or, position, sym, ◌∙◌, arith}
-use Rattle.pv_namei.proofs.Components.{is_slash, is_other, components_none, components_next, some_next}
+use Rattle.pv_namei.proofs.PathComponents.{is_slash, is_other, components_none, components_next, some_next}
 use Rattle.pv_namei.proofs.component.split_first.Goals as goal
 use Rattle.pv_namei.proofs.component.split_first.Goals.{After-split_at-2}
 

@@ -2,7 +2,7 @@ use Rattle.std.proofs.Common.{length, ap, arith}
 use Rattle.std.proofs.Math.ListN.{length-append}
 use Rattle.std.proofs.lemmas.Result.{err_from_is_err_and}
 use Rattle.pv_model.specs.Machine.{components, weight}
-use Rattle.pv_namei.proofs.Encoding.{weight-cons}
+use Rattle.pv_namei.proofs.JoinedComponents.{weight-cons}
 use Rattle.pv_namei.proofs.joined.push_components.Goals as goal
 
 pub returns-in_err-push_bytes-clause-too_long : goal.returns-in_err-push_bytes-clause-too_long

@@ -1,6 +1,6 @@
 use Rattle.std.proofs.Common.{arith}
 use Rattle.pv_model.specs.Machine.{node_at}
-use Rattle.pv_namei.proofs.Nodes.{text-read, text-short}
+use Rattle.pv_namei.proofs.NodeKinds.{text-read, text-short}
 use Rattle.pv_namei.proofs.walk.read_link.Goals as goal
 
 pub returns-clause-text : goal.returns-clause-text

@@ -1,7 +1,7 @@
 use Rattle.std.proofs.Common.{Ok, ap, sym, ◌∙◌}
 use Rattle.std.proofs.lemmas.Result.{err_from_is_err_and}
 use Rattle.pv_namei.specs.Onward.{stopped}
-use Rattle.pv_namei.proofs.Steps.{resolve-empty, resolve-long, resolve-remaining}
+use Rattle.pv_namei.proofs.WalkSteps.{resolve-empty, resolve-long, resolve-remaining}
 use Rattle.pv_namei.proofs.walk.resolve_ref.Goals as goal
 
 pub returns-then-is_empty-clause-place : goal.returns-then-is_empty-clause-place

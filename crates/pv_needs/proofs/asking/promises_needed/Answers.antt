@@ -1,6 +1,6 @@
 use Rattle.std.proofs.Common.{◌∙◌, sym}
 use Rattle.pv_model.specs.Machine.{call_of}
-use Rattle.pv_needs.proofs.Promised.{needed_all, needed_either}
+use Rattle.pv_needs.proofs.NeededPromises.{needed_all, needed_either}
 use Rattle.pv_needs.proofs.asking.promises_needed.Goals as goal
 
 pub returns-then-needs_either : goal.returns-then-needs_either

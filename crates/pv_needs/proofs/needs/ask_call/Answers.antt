@@ -1,11 +1,11 @@
 use Rattle.std.proofs.Common.{◌∙◌, ap, sym, subst, refl}
-use Rattle.pv_session.proofs.OfCallsPath.Reaching.{recorded}
+use Rattle.pv_session.proofs.OfCallsPath.CheckedWalks.{recorded}
 use Rattle.pv_model.specs.Machine.{Answered, Asked, call_of, State, process_at, Stepped}
 use Rattle.pv_procs.specs.declared.record.ProcessRecord.{ProcessRecord}
-use Rattle.pv_session.proofs.Stepping.{step-called}
+use Rattle.pv_session.proofs.MachineSteps.{step-called}
 use Rattle.pv_needs.specs.Asking.{IsMoreBy, ends_before}
 use Rattle.pv_needs.specs.ProcessImages.{first_walks, judged_in}
-use Rattle.pv_needs.proofs.Asked.{asks-call, counts-call, counts-none}
+use Rattle.pv_needs.proofs.StepDemands.{asks-call, counts-call, counts-none}
 use Rattle.pv_needs.proofs.needs.ask_call.Goals as goal
 
 pub returns-in-Ok-keep-clause-after : goal.returns-in-Ok-keep-clause-after

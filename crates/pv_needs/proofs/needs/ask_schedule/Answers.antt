@@ -1,15 +1,15 @@
 use Rattle.std.proofs.Common.{◌∙◌, ap, arith, sym, refl, subst, []}
 use Rattle.pv_model.specs.Machine.{Run}
-use Rattle.pv_session.proofs.Turns.{schedule_more}
-use Rattle.pv_needs.specs.ProcessImages.{Keeps}
-use Rattle.pv_needs.proofs.AskedRuns.{keeps-none, keeps-schedule, steps-longer}
+use Rattle.pv_session.proofs.TurnRuns.{schedule_more}
+use Rattle.pv_needs.specs.ProcessImages.{RecordsCalls}
+use Rattle.pv_needs.proofs.RunDemands.{keeps-none, keeps-schedule, steps-longer}
 use Rattle.pv_needs.proofs.needs.ask_schedule.Goals as goal
 
 pub loop-turn-init : goal.loop-turn-init
 loop-turn-init c = record {
   after = refl;
   few = omega arith;
-  recorded = subst (λ k. Keeps k []) (sym c.new-recorded.ensures) keeps-none;
+  recorded = subst (λ k. RecordsCalls k []) (sym c.new-recorded.ensures) keeps-none;
 }
 
 pub loop-turn-preserved : goal.loop-turn-preserved

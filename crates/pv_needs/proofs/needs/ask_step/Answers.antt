@@ -1,8 +1,8 @@
 use Rattle.std.proofs.Common.{◌∙◌, ap, inl, inr, sym, subst, refl}
-use Rattle.pv_laws_access.proofs.Ends.{step-is}
+use Rattle.pv_laws_access.proofs.ProcessesAfterEnds.{step-is}
 use Rattle.pv_model.specs.Machine.{program_of, Stepped, step_by}
 use Rattle.pv_needs.specs.Asking.{IsMoreBy}
-use Rattle.pv_needs.proofs.Asked.{asks-nothing, counts-nothing}
+use Rattle.pv_needs.proofs.StepDemands.{asks-nothing, counts-nothing}
 use Rattle.pv_needs.proofs.needs.ask_step.Goals as goal
 
 pub returns-in-Register : goal.returns-in-Register

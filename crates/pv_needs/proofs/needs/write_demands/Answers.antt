@@ -1,6 +1,6 @@
 use Rattle.std.proofs.Common.{◌∙◌, ◌*◌, ◌≤◌, ap, arith, length, subst, rules}
 use Rattle.pv_model.specs.Machine.{answer_bytes, steps_of}
-use Rattle.pv_streams.proofs.Reporting.{on_err}
+use Rattle.pv_streams.proofs.OutputTexts.{on_err}
 use Rattle.pv_streams.specs.Sinks.{WritesPrefix, and_all}
 use Rattle.pv_needs.specs.declared.process_images.TheConstants.{MANY}
 use Rattle.pv_needs.proofs.NeedsText.{needs-reported}

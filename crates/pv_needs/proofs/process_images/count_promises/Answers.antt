@@ -2,7 +2,7 @@ use Rattle.std.proofs.Common.{◌≡◌, ◌∙◌, ◌<◌, arith, cond, get_or
 use Rattle.pv_model.specs.declared.promise.Promise.TheVariants.{Stdio}
 use Rattle.pv_needs.specs.declared.process_images.Times.{Times}
 use Rattle.pv_needs.specs.ProcessImages.{once_more}
-use Rattle.pv_needs.proofs.Keeping.{promise-next}
+use Rattle.pv_needs.proofs.RecordLists.{promise-next}
 use Rattle.pv_needs.proofs.process_images.count_promises.Goals as goal
 use Rattle.pv_needs.proofs.process_images.count_promises.Goals.{then-is_needed, else-is_needed}
 

@@ -1,7 +1,7 @@
 use Rattle.std.proofs.Common.{◌≡◌, ◌∙◌, ◌+◌, arith, ap, subst, sym}
 use Rattle.pv_model.specs.Machine.{continues}
-use Rattle.pv_needs.specs.Turning.{IsMade}
-use Rattle.pv_needs.proofs.TurnsTaken.{IsSoFar, so-far-all, so-far-more, so-far-none, so-far-stops}
+use Rattle.pv_needs.specs.Turning.{IsTurnMade}
+use Rattle.pv_needs.proofs.TurnLoops.{IsSoFar, so-far-all, so-far-more, so-far-none, so-far-stops}
 use Rattle.pv_needs.proofs.turns.make_turn.Goals as goal
 
 pub loop-made-init : goal.loop-made-init
@@ -9,7 +9,7 @@ loop-made-init c = so-far-none c.args.most c.args.pid c.args.session.now
 
 pub returns-then-not-continues-clause-made : goal.returns-then-not-continues-clause-made
 returns-then-not-continues-clause-made c =
-    subst (λ s. IsMade c.args.most c.args.pid c.args.session.now c.loop-made.made s) (sym c.in_ok-step.ensures.after)
+    subst (λ s. IsTurnMade c.args.most c.args.pid c.args.session.now c.loop-made.made s) (sym c.in_ok-step.ensures.after)
     (so-far-stops c.args.most c.args.pid c.args.session.now c.loop-made.made c.loop-made.session c.loop-made.invariant
     (ap continues (sym c.in_ok-step.ensures.outcome) ∙ sym c.if-not-continues.ensures))
 

@@ -1,4 +1,4 @@
-use Rattle.pv_needs.proofs.TurnsTaken.{IsSoFar}
+use Rattle.pv_needs.proofs.TurnLoops.{IsSoFar}
 use Rattle.pv_needs.proofs.turns.make_turn.Given as goal
 
 abbrev pub invariant-loop-made : goal.invariant-loop-made

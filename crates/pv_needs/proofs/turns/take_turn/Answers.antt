@@ -1,8 +1,8 @@
 use Rattle.std.proofs.Common.{sym}
 use Rattle.std.proofs.lemmas.Result.{IfOk-weaker}
-use Rattle.pv_needs.proofs.TurnsTaken.{taken-first, taken-next}
+use Rattle.pv_needs.proofs.TurnLoops.{taken-first, taken-next}
 use Rattle.pv_needs.proofs.turns.take_turn.Goals as goal
-use Rattle.pv_laws_trees.proofs.Generic.{not-there}
+use Rattle.pv_laws_trees.proofs.ListTests.{not-there}
 
 pub returns-then-is_some-clause-taken : goal.returns-then-is_some-clause-taken
 returns-then-is_some-clause-taken c =

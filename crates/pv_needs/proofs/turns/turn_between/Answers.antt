@@ -1,4 +1,4 @@
-use Rattle.pv_needs.proofs.TurnsTaken.{left-all, left-beyond, left-fewer, left-here, left-later, left-nobody, numbered}
+use Rattle.pv_needs.proofs.TurnLoops.{left-all, left-beyond, left-fewer, left-here, left-later, left-nobody, numbered}
 use Rattle.pv_needs.proofs.turns.turn_between.Goals as goal
 
 pub loop-pid-init : goal.loop-pid-init

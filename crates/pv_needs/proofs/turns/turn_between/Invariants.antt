@@ -1,6 +1,6 @@
 use Rattle.std.proofs.Common.{length}
-use Rattle.pv_answers.proofs.Following.{records_after}
-use Rattle.pv_needs.proofs.TurnsTaken.{IsLeft}
+use Rattle.pv_answers.proofs.ProcessSequence.{records_after}
+use Rattle.pv_needs.proofs.TurnLoops.{IsLeft}
 use Rattle.pv_needs.proofs.turns.turn_between.Given as goal
 
 abbrev pub invariant-loop-pid : goal.invariant-loop-pid

@@ -1,7 +1,7 @@
 use Rattle.std.proofs.Common.{◌∙◌, arith, refl, rules}
-use Rattle.pv_streams.proofs.Reporting.{on_err}
+use Rattle.pv_streams.proofs.OutputTexts.{on_err}
 use Rattle.pv_needs.proofs.TurnsLines.{all-idle, all-over, begun-next, begun-so-far, count-fits, count-some, lines-so-far, written-next, written-none}
-use Rattle.pv_needs.proofs.TurnsTaken.{taken-as}
+use Rattle.pv_needs.proofs.TurnLoops.{taken-as}
 use Rattle.pv_needs.proofs.turns.write_turns.Goals as goal
 
 pub loop-left-init : goal.loop-left-init

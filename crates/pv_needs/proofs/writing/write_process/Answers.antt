@@ -1,6 +1,6 @@
 use Rattle.std.proofs.Common.{◌≡◌, ◌∙◌, ◌<◌, ◌≤◌, length, sym, subst, ℕ, rules}
 use Rattle.pv_model.specs.Machine.{answer_bytes, counted_from}
-use Rattle.pv_streams.proofs.Reporting.{on_err}
+use Rattle.pv_streams.proofs.OutputTexts.{on_err}
 use Rattle.pv_streams.specs.Sinks.{WritesPrefix, and_all}
 use Rattle.pv_needs.specs.RecordedLines.{recorded_image_lines}
 use Rattle.pv_needs.specs.ProcessImages.{RecordedImage}

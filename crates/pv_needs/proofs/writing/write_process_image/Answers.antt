@@ -2,7 +2,7 @@ use Rattle.std.proofs.Common.{◌∙◌, ◌++◌, ◌∷◌, [], ap, codes, dec
 use Rattle.std.proofs.lemmas.Result.{on_err_weaker, on_ok_weaker}
 use Rattle.std.specs.List.{flat_map}
 use Rattle.pv_model.specs.Machine.{answer_bytes, Bytes, all_promises}
-use Rattle.pv_streams.proofs.Reporting.{begins_first, begins_then, on_err, written_both}
+use Rattle.pv_streams.proofs.OutputTexts.{begins_first, begins_then, on_err, written_both}
 use Rattle.pv_streams.specs.Sinks.{WritesPrefix, and_all}
 use Rattle.pv_needs.specs.RecordedLines.{recorded_promises_lines, recorded_target_lines}
 use Rattle.pv_answers.specs.Texts.{line_front}

@@ -1,6 +1,6 @@
 use Rattle.std.proofs.Common.{subst, rules}
 use Rattle.pv_model.specs.Machine.{answer_bytes}
-use Rattle.pv_streams.proofs.Reporting.{on_err}
+use Rattle.pv_streams.proofs.OutputTexts.{on_err}
 use Rattle.pv_streams.specs.Sinks.{WritesPrefix}
 use Rattle.pv_needs.specs.RecordedLines.{recorded_target_lines}
 use Rattle.pv_needs.proofs.LineBytes.{begins-next}

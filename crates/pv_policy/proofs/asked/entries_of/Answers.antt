@@ -3,8 +3,8 @@ use Rattle.pv_model.specs.declared.perms.Perms.{Perms}
 use Rattle.pv_model.specs.declared.target.Target.{Target}
 use Rattle.pv_model.specs.Machine.{entries_of_table}
 use Rattle.pv_policy.specs.Asked.{entry_granted}
-use Rattle.pv_policy.proofs.Nexts.{mapped-next}
-use Rattle.pv_policy.proofs.Using.{entry-own}
+use Rattle.pv_policy.proofs.ListSteps.{mapped-next}
+use Rattle.pv_policy.proofs.UsedPermissions.{entry-own}
 use Rattle.pv_policy.proofs.asked.entries_of.Goals as goal
 
 pub loop-k-preserved : goal.loop-k-preserved

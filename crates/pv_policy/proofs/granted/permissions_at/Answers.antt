@@ -1,6 +1,6 @@
 use Rattle.std.proofs.Common.{◌≡◌, ◌∙◌, false, ap, bytes_eq, get_or, sym}
 use Rattle.pv_model.specs.Machine.{Granted}
-use Rattle.pv_policy.proofs.Nexts.{permissions-next}
+use Rattle.pv_policy.proofs.ListSteps.{permissions-next}
 use Rattle.pv_policy.proofs.granted.permissions_at.Goals as goal
 
 pub loop-row-preserved : goal.loop-row-preserved

@@ -1,13 +1,13 @@
 use Rattle.std.proofs.Common.{◌≡◌, ◌∙◌, ◌&&◌, [], ap, cond, is_some, map, not, option_map, refl, subst, sym, Some}
 use Rattle.std.proofs.lemmas.Result.{on_ok_weaker}
-use Rattle.pv_needs.proofs.OfCallsPath.Reaching.{recorded}
+use Rattle.pv_needs.proofs.OfCallsPath.CheckedWalks.{recorded}
 use Rattle.pv_model.specs.Machine.{is_unveil, call_of, entries_of_table, Process, process_at}
 use Rattle.pv_procs.specs.ProcessTable.{ProcessTable, process_in}
 use Rattle.pv_procs.specs.declared.record.ProcessRecord.{ProcessRecord}
 use Rattle.pv_promises.specs.Pledge.{bits_of}
 use Rattle.pv_policy.specs.Asked.{entry_granted}
 use Rattle.pv_policy.specs.Usage.{Noted, and_call}
-use Rattle.pv_policy.proofs.Recording.{recorded-call}
+use Rattle.pv_policy.proofs.RecordedCalls.{recorded-call}
 use Rattle.pv_policy.proofs.note.note_call.Goals as goal
 
 pub returns : goal.returns

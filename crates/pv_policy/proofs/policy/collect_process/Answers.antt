@@ -3,7 +3,7 @@ use Rattle.pv_model.specs.Machine.{answer, Found, call_of, program_of}
 use Rattle.pv_procs.specs.ProcessTable.{ProcessTable, process_in}
 use Rattle.pv_procs.specs.Turns.{CallsNext, IsFetched}
 use Rattle.pv_policy.specs.Usage.{and_call, and_calls, noted_by, request_of}
-use Rattle.pv_policy.proofs.Collecting.{calls-called, calls-left, calls-none, counted-walks}
+use Rattle.pv_policy.proofs.CollectedCalls.{calls-called, calls-left, calls-none, counted-walks}
 use Rattle.pv_policy.proofs.policy.collect_process.Goals as goal
 
 pub returns-in-Register : goal.returns-in-Register

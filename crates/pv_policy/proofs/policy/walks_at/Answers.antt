@@ -2,7 +2,7 @@ use Rattle.std.proofs.Common.{◌≡◌, ◌∙◌, ap, slice_get}
 use Rattle.std.proofs.lemmas.Result.{IfOk-weaker}
 use Rattle.pv_model.specs.Machine.{answer, Found, program_of, process_at}
 use Rattle.pv_policy.specs.Collecting.{walks_counted}
-use Rattle.pv_policy.proofs.Collecting.{none-found, same-found}
+use Rattle.pv_policy.proofs.CollectedCalls.{none-found, same-found}
 use Rattle.pv_policy.proofs.policy.walks_at.Goals as goal
 
 pub returns-in-Some-clause-walks : goal.returns-in-Some-clause-walks

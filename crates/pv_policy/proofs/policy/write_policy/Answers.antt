@@ -1,8 +1,8 @@
 use Rattle.std.proofs.Common.{◌∙◌}
 use Rattle.std.proofs.lemmas.Result.{err_from_is_err_and}
-use Rattle.pv_needs.proofs.OfAnswers.Writing.{or_as, or_ok}
-use Rattle.pv_reduced.proofs.OfExplore.Stopped.{unfinished, unwritten}
-use Rattle.pv_policy.proofs.Collecting.{search-bytes}
+use Rattle.pv_needs.proofs.OfAnswers.WriterContracts.{or_as, or_ok}
+use Rattle.pv_reduced.proofs.OfExplore.StoppedAnswers.{unfinished, unwritten}
+use Rattle.pv_policy.proofs.CollectedCalls.{search-bytes}
 use Rattle.pv_policy.proofs.policy.write_policy.Goals as goal
 
 pub returns-in_err-lines-clause-written : goal.returns-in_err-lines-clause-written

@@ -4,7 +4,7 @@ use Rattle.pv_model.specs.Machine.{program_numbers}
 use Rattle.pv_policy.specs.Groups.{row_at}
 use Rattle.pv_policy.specs.Noting.{noted_in}
 use Rattle.pv_policy.specs.Usage.{noted_key, unused_by, usage_key, usage_more}
-use Rattle.pv_policy.proofs.Groups.{one-new, one-there}
+use Rattle.pv_policy.proofs.GroupTables.{one-new, one-there}
 use Rattle.pv_policy.proofs.program_use.keep_numbered.Goals as goal
 
 pub returns-in_ok-add-in-Some : goal.returns-in_ok-add-in-Some

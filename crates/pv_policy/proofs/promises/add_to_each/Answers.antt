@@ -1,7 +1,7 @@
 use Rattle.std.proofs.Common.{◌≡◌, ◌∙◌, ap, get_or, slice_set}
 use Rattle.pv_policy.specs.Noting.{noted_in}
 use Rattle.pv_policy.specs.Usage.{promise_by}
-use Rattle.pv_policy.proofs.Fronts.{mapped, mapped-get, mapped-set}
+use Rattle.pv_policy.proofs.MappedFronts.{mapped, mapped-get, mapped-set}
 use Rattle.pv_policy.proofs.promises.add_to_each.Goals as goal
 
 pub loop-k-preserved : goal.loop-k-preserved

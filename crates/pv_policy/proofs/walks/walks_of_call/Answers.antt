@@ -2,7 +2,7 @@ use Rattle.std.proofs.Common.{◌≡◌, ◌∙◌, ap, sym}
 use Rattle.pv_model.specs.declared.call.Call.{Call}
 use Rattle.pv_model.specs.Machine.{Answered, answer, call_of, program_of, process_at}
 use Rattle.pv_policy.specs.Collecting.{walks_counted}
-use Rattle.pv_policy.proofs.Collecting.{counted, left-out}
+use Rattle.pv_policy.proofs.CollectedCalls.{counted, left-out}
 use Rattle.pv_policy.proofs.NextCalls.{gone-not-live, one-call, register-not-call}
 use Rattle.pv_policy.proofs.walks.walks_of_call.Goals as goal
 

@@ -1,7 +1,7 @@
 use Rattle.std.proofs.Common.{◌≡◌, ◌∙◌, ◌+◌, ◌++◌, ap, flat_map, sym, take}
 use Rattle.pv_model.specs.Machine.{counted_from}
 use Rattle.pv_policy.specs.Usage.{usage_bytes}
-use Rattle.pv_policy.proofs.Nexts.{counted-next}
+use Rattle.pv_policy.proofs.ListSteps.{counted-next}
 use Rattle.pv_policy.proofs.writing.push_programs.Goals as goal
 
 pub loop-k-preserved : goal.loop-k-preserved

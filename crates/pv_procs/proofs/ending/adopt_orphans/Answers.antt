@@ -1,6 +1,6 @@
 use Rattle.std.proofs.Common.{◌∙◌, ap, sym}
 use Rattle.pv_procs.specs.Slots.{adopted}
-use Rattle.pv_procs.proofs.Steps.{mapped_further}
+use Rattle.pv_procs.proofs.ElementSteps.{mapped_further}
 use Rattle.pv_procs.proofs.ending.adopt_orphans.Goals as goal
 
 pub loop-k-preserved : goal.loop-k-preserved

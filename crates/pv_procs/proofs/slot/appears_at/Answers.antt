@@ -1,5 +1,5 @@
 use Rattle.std.proofs.lemmas.Bool.{eqb-true}
-use Rattle.pv_procs.proofs.Finding.{appeared-found}
+use Rattle.pv_procs.proofs.SlotLookups.{appeared-found}
 use Rattle.pv_procs.proofs.slot.appears_at.Goals as goal
 
 pub returns : goal.returns

@@ -1,7 +1,7 @@
 use Rattle.std.proofs.Common.{rules}
 use Rattle.std.proofs.lemmas.List.Sorted.{answers_always}
 use Rattle.pv_procs.specs.declared.slot.ProcessSlot.{ProcessSlot}
-use Rattle.pv_procs.proofs.Finding.{half-found, half-none}
+use Rattle.pv_procs.proofs.SlotLookups.{half-found, half-none}
 use Rattle.pv_procs.proofs.slot.index_of.Goals as goal
 
 pub returns-in-Ok : goal.returns-in-Ok

@@ -1,7 +1,7 @@
 use Rattle.std.proofs.Common.{◌++◌, ◌∙◌, ap, codes, decimal}
 use Rattle.std.proofs.lemmas.Result.{on_ok_weaker}
 use Rattle.pv_model.specs.Machine.{answer_line, answer_line_bytes, Bytes}
-use Rattle.pv_programs.proofs.Named.{words-are}
+use Rattle.pv_programs.proofs.FirstNames.{words-are}
 use Rattle.pv_programs.proofs.line.append_program_line.Goals as goal
 
 pub returns : goal.returns

@@ -1,11 +1,11 @@
 use Rattle.std.proofs.Common.{◌≡◌, ℕ, ◌-◌, ◌++◌, ◌∙◌, length, codes, Option, None, Some, ap, ap₂, refl, sym, arith}
-use Rattle.pv_answers.proofs.Listed.{next-is, upcoming}
+use Rattle.pv_answers.proofs.ListedLines.{next-is, upcoming}
 use Rattle.pv_answers.specs.OfListing.Lines.{entries_after}
-use Rattle.pv_answers.proofs.OfListing.Children.{past-none}
-use Rattle.pv_answers.proofs.OfListing.Entries.{no-entries}
+use Rattle.pv_answers.proofs.OfListing.DirectoryNames.{past-none}
+use Rattle.pv_answers.proofs.OfListing.EntryLines.{no-entries}
 use Rattle.pv_model.specs.Machine.{Bytes, next_name, entries_at}
-use Rattle.pv_programs.specs.Naming.{below, first_under, first_within, holds_numbers, or_next}
-use Rattle.pv_programs.proofs.Named.{first-from, first-here}
+use Rattle.pv_programs.specs.Naming.{below_name, first_under, first_within, holds_numbers, or_next}
+use Rattle.pv_programs.proofs.FirstNames.{first-from, first-here}
 use Rattle.pv_programs.proofs.naming.+path_within.Goals as goal
 
 pub returns-then-branch : goal.returns-then-branch
@@ -48,7 +48,7 @@ loop-next-preserved t c =
     c.next_entry-next-in-Some.ensures.node in
     let none : None ≡ first_within holds tree k c.in-Some.child = rw c.in_default-2.is at c.in_ok-rest.ensures in
     ap (first_under holds tree k) (sym coming)
-    ∙ ap (λ (first : Option Bytes). or_next (below c.in-Some.name first) (first_under holds tree k (entries_after (Some c.in-Some.name) es))) none
+    ∙ ap (λ (first : Option Bytes). or_next (below_name c.in-Some.name first) (first_under holds tree k (entries_after (Some c.in-Some.name) es))) none
     ∙ ap (λ (next : Option (Bytes × ℕ)). first_under holds tree k (upcoming es next)) (sym c.in-Some.is)
     ∙ c.loop-next.invariant
 
@@ -60,7 +60,7 @@ returns-in-Some-2 t c =
     let holds = holds_numbers tree c.args.numbers.now in
     let found : Some c.in-Some-2.rest.items ≡ first_within holds tree k c.in-Some.child = rw c.in-Some-2.is at c.in_ok-rest.ensures in
     ap Some (c.in_ok-below.ensures ∙ ap₂ (λ (name rest : Bytes). codes "/" ++ name ++ rest) c.as_slice.ensures.value c.deref.ensures.value)
-    ∙ ap (λ (first : Option Bytes). or_next (below c.in-Some.name first) (first_under holds tree k (entries_after (Some c.in-Some.name) es))) found
+    ∙ ap (λ (first : Option Bytes). or_next (below_name c.in-Some.name first) (first_under holds tree k (entries_after (Some c.in-Some.name) es))) found
     ∙ ap (λ (next : Option (Bytes × ℕ)). first_under holds tree k (upcoming es next)) (sym c.in-Some.is)
     ∙ c.loop-next.invariant
 

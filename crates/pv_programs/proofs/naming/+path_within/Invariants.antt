@@ -1,5 +1,5 @@
 use Rattle.std.proofs.Common.{◌≡◌, ◌-◌, length}
-use Rattle.pv_answers.proofs.Listed.{upcoming}
+use Rattle.pv_answers.proofs.ListedLines.{upcoming}
 use Rattle.pv_model.specs.Machine.{entries_at}
 use Rattle.pv_programs.specs.Naming.{first_under, first_within, holds_numbers}
 use Rattle.pv_programs.proofs.naming.+path_within.Given as goal

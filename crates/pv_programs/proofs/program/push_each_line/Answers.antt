@@ -1,6 +1,6 @@
 use Rattle.std.proofs.Common.{◌≡◌, ◌+◌, ◌-◌, ℕ, Some, slice_get, subst, sym, arith}
 use Rattle.pv_model.specs.Machine.{instruction_numbers}
-use Rattle.pv_programs.proofs.Appending.{appends_got}
+use Rattle.pv_programs.proofs.AppendedNumbers.{appends_got}
 use Rattle.pv_programs.proofs.program.push_each_line.Goals as goal
 
 pub loop-number-preserved : goal.loop-number-preserved

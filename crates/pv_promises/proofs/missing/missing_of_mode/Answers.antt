@@ -1,7 +1,7 @@
 use Rattle.std.proofs.Common.{[], ◌∷◌, sym}
 use Rattle.pv_model.specs.declared.promise.Promise.TheVariants.{Rpath, Wpath}
 use Rattle.pv_promises.specs.Pledge.{bits_of}
-use Rattle.pv_promises.proofs.LackedLemmas.{missing_promise-append}
+use Rattle.pv_promises.proofs.LackedPromises.{missing_promise-append}
 use Rattle.pv_promises.proofs.missing.missing_of_mode.Goals as goal
 
 pub returns-in-ReadWrite : goal.returns-in-ReadWrite

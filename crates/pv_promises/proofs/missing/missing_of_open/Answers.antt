@@ -1,7 +1,7 @@
 use Rattle.std.proofs.Common.{sym}
 use Rattle.pv_model.specs.Machine.{needs_of_mode, needs_cpath}
 use Rattle.pv_promises.specs.Pledge.{bits_of}
-use Rattle.pv_promises.proofs.LackedLemmas.{missing_promise-append}
+use Rattle.pv_promises.proofs.LackedPromises.{missing_promise-append}
 use Rattle.pv_promises.proofs.missing.missing_of_open.Goals as goal
 
 pub returns-then-flags : goal.returns-then-flags

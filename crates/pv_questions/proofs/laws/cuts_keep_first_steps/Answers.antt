@@ -1,4 +1,4 @@
-use Rattle.pv_questions.proofs.Cuts.{cut_steps}
+use Rattle.pv_questions.proofs.CutSchedules.{cut_steps}
 use Rattle.pv_questions.proofs.laws.cuts_keep_first_steps.Goals as goal
 
 pub returns : goal.returns

@@ -5,7 +5,7 @@ use Rattle.pv_model.specs.Machine.{Comparison, and_then}
 use Rattle.pv_questions.specs.Answering.{of_lines}
 use Rattle.pv_questions.specs.Comparing.{result_or_same}
 use Rattle.pv_questions.specs.declared.stop.AskStop.TheVariants.{Machine}
-use Rattle.pv_questions.proofs.Alike.{comparisons}
+use Rattle.pv_questions.proofs.EqualInputs.{comparisons}
 use Rattle.pv_questions.proofs.laws.images_compare_as_manifests.Goals as goal
 
 pub returns : goal.returns

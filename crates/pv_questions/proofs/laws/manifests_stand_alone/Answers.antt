@@ -1,4 +1,4 @@
-use Rattle.pv_questions.proofs.Alike.{appears_alone}
+use Rattle.pv_questions.proofs.EqualInputs.{appears_alone}
 use Rattle.pv_questions.proofs.laws.manifests_stand_alone.Goals as goal
 
 pub returns : goal.returns

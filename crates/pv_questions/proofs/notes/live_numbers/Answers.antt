@@ -1,5 +1,5 @@
 use Rattle.std.proofs.Common.{◌∙◌, ℕ, ◌++◌, List, append-nil, append_assoc, ap, sym}
-use Rattle.pv_policy.proofs.OfAnswers.Following.{all-after, fewer-after, next-record, none-after, records_after}
+use Rattle.pv_policy.proofs.OfAnswers.ProcessSequence.{all-after, fewer-after, next-record, none-after, records_after}
 use Rattle.pv_policy.specs.OfProcs.ProcessTable.{ProcessTable, number_after}
 use Rattle.pv_questions.proofs.LiveNumbers.{numbers-all, numbers-next, numbers_in}
 use Rattle.pv_questions.proofs.notes.live_numbers.Goals as goal

@@ -1,6 +1,6 @@
 use Rattle.std.proofs.Common.{◌≡◌, ◌++◌, length}
 use Rattle.pv_model_questions.specs.Notes.{live_numbers}
-use Rattle.pv_policy.proofs.OfAnswers.Following.{records_after}
+use Rattle.pv_policy.proofs.OfAnswers.ProcessSequence.{records_after}
 use Rattle.pv_questions.proofs.LiveNumbers.{numbers_in}
 use Rattle.pv_questions.proofs.notes.live_numbers.Given as goal
 

@@ -1,5 +1,5 @@
 use Rattle.std.proofs.Common.{codes}
-use Rattle.pv_questions.proofs.Appended.{appended-thrice}
+use Rattle.pv_questions.proofs.AppendedTexts.{appended-thrice}
 use Rattle.pv_questions.proofs.notes.push_note.Goals as goal
 
 pub returns : goal.returns

@@ -1,6 +1,6 @@
 use Rattle.std.proofs.Common.{◌∙◌, ◌++◌, ap, codes, decimal}
 use Rattle.pv_model.specs.Machine.{Bytes}
-use Rattle.pv_questions.proofs.Appended.{appended-thrice, dropped, noted-pledge}
+use Rattle.pv_questions.proofs.AppendedTexts.{appended-thrice, dropped, noted-pledge}
 use Rattle.pv_questions.proofs.notes.push_pledge_note.Goals as goal
 
 pub returns : goal.returns

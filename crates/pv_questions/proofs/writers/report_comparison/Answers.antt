@@ -1,4 +1,4 @@
-use Rattle.pv_questions.proofs.Handed.{reported}
+use Rattle.pv_questions.proofs.FlushedReports.{reported}
 use Rattle.pv_questions.proofs.writers.report_comparison.Goals as goal
 
 pub returns-clause-written : goal.returns-clause-written

@@ -1,4 +1,4 @@
-use Rattle.pv_questions.proofs.Handed.{listing-ended, reported}
+use Rattle.pv_questions.proofs.FlushedReports.{listing-ended, reported}
 use Rattle.pv_questions.proofs.writers.report_listing.Goals as goal
 
 pub returns : goal.returns

@@ -1,4 +1,4 @@
-use Rattle.pv_questions.proofs.Handed.{reported}
+use Rattle.pv_questions.proofs.FlushedReports.{reported}
 use Rattle.pv_questions.proofs.writers.report_needs.Goals as goal
 
 pub returns : goal.returns

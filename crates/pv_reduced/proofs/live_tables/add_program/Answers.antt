@@ -1,5 +1,5 @@
 use Rattle.std.proofs.Common.{◌∙◌}
-use Rattle.pv_reduced.proofs.Lively.{last-table, table-added, tables-left}
+use Rattle.pv_reduced.proofs.LivenessComputation.{last-table, table-added, tables-left}
 use Rattle.pv_reduced.proofs.live_tables.add_program.Goals as goal
 
 pub returns-in-Ok-clause-tables : goal.returns-in-Ok-clause-tables

@@ -1,4 +1,4 @@
-use Rattle.pv_reduced.proofs.Lively.{lines-of}
+use Rattle.pv_reduced.proofs.LivenessComputation.{lines-of}
 use Rattle.pv_reduced.proofs.live_tables.line_at.Goals as goal
 
 pub returns : goal.returns

@@ -1,4 +1,4 @@
-use Rattle.pv_reduced.proofs.Lively.{table-found, table-other}
+use Rattle.pv_reduced.proofs.LivenessComputation.{table-found, table-other}
 use Rattle.pv_reduced.proofs.live_tables.program_number.Goals as goal
 
 pub returns-in-Some-clause-there : goal.returns-in-Some-clause-there

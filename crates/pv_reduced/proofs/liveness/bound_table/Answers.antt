@@ -1,4 +1,4 @@
-use Rattle.pv_reduced.proofs.Lively.{bound-is}
+use Rattle.pv_reduced.proofs.LivenessComputation.{bound-is}
 use Rattle.pv_reduced.proofs.liveness.bound_table.Goals as goal
 
 pub returns : goal.returns

@@ -1,5 +1,5 @@
 use Rattle.std.proofs.Common.{sym, arith}
-use Rattle.pv_reduced.proofs.Lively.{bounds-end, bounds-next, bounds-start, line-within}
+use Rattle.pv_reduced.proofs.LivenessComputation.{bounds-end, bounds-next, bounds-start, line-within}
 use Rattle.pv_reduced.proofs.liveness.bound_tables.Goals as goal
 
 pub loop-instruction-init : goal.loop-instruction-init

@@ -1,5 +1,5 @@
 use Rattle.std.proofs.Common.{◌-◌, length, suc}
-use Rattle.pv_reduced.proofs.Lively.{HasBounds}
+use Rattle.pv_reduced.proofs.LivenessComputation.{HasBounds}
 use Rattle.pv_reduced.proofs.liveness.bound_tables.Given as goal
 
 abbrev pub invariant-loop-instruction : goal.invariant-loop-instruction

@@ -1,5 +1,5 @@
 use Rattle.std.proofs.Common.{◌∙◌, ap, max, arith}
-use Rattle.pv_reduced.proofs.Lively.{greatest-end, greatest-next}
+use Rattle.pv_reduced.proofs.LivenessComputation.{greatest-end, greatest-next}
 use Rattle.pv_reduced.proofs.liveness.greatest_in.Goals as goal
 
 pub loop-bound-init : goal.loop-bound-init

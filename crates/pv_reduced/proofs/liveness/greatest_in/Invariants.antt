@@ -1,4 +1,4 @@
-use Rattle.pv_reduced.proofs.Lively.{HasGreatest}
+use Rattle.pv_reduced.proofs.LivenessComputation.{HasGreatest}
 use Rattle.pv_reduced.proofs.liveness.greatest_in.Given as goal
 
 abbrev pub invariant-loop-bound : goal.invariant-loop-bound

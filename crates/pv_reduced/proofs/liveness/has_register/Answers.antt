@@ -1,6 +1,6 @@
 use Rattle.std.proofs.Common.{◌∙◌, ap}
 use Rattle.pv_laws_classes.specs.Liveness.{has_line}
-use Rattle.pv_reduced.proofs.Lively.{register-there}
+use Rattle.pv_reduced.proofs.LivenessComputation.{register-there}
 use Rattle.pv_reduced.proofs.liveness.has_register.Goals as goal
 
 pub returns : goal.returns

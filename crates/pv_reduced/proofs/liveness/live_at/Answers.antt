@@ -1,4 +1,4 @@
-use Rattle.pv_reduced.proofs.Lively.{live-past, live-there}
+use Rattle.pv_reduced.proofs.LivenessComputation.{live-past, live-there}
 use Rattle.pv_reduced.proofs.liveness.live_at.Goals as goal
 
 pub returns-in-Some : goal.returns-in-Some

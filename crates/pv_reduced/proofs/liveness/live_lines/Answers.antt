@@ -1,6 +1,6 @@
 use Rattle.std.proofs.Common.{◌∙◌, ap, length, arith}
 use Rattle.pv_reduced.specs.Live.{bounds_of, tables_of}
-use Rattle.pv_reduced.proofs.Lively.{lines-given, registers-count}
+use Rattle.pv_reduced.proofs.LivenessComputation.{lines-given, registers-count}
 use Rattle.pv_reduced.proofs.liveness.live_lines.Goals as goal
 
 pub lines_in-requires : goal.lines_in-requires

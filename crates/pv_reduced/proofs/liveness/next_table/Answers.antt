@@ -1,7 +1,7 @@
 use Rattle.std.proofs.Common.{◌∙◌, sym, ap, arith}
 use Rattle.pv_laws_classes.specs.Liveness.{is_needed}
 use Rattle.pv_reduced.specs.Live.{variable_of}
-use Rattle.pv_reduced.proofs.Lively.{line-within, lines-end, lines-next, lines-start}
+use Rattle.pv_reduced.proofs.LivenessComputation.{line-within, lines-end, lines-next, lines-start}
 use Rattle.pv_reduced.proofs.liveness.next_table.Goals as goal
 
 pub loop-instruction-init : goal.loop-instruction-init

@@ -1,6 +1,6 @@
 use Rattle.std.proofs.Common.{◌-◌, length, suc}
 use Rattle.pv_reduced.specs.Live.{variable_of}
-use Rattle.pv_reduced.proofs.Lively.{HasLines}
+use Rattle.pv_reduced.proofs.LivenessComputation.{HasLines}
 use Rattle.pv_reduced.proofs.liveness.next_table.Given as goal
 
 abbrev pub invariant-loop-instruction : goal.invariant-loop-instruction

@@ -1,6 +1,6 @@
 use Rattle.std.proofs.Common.{◌≡◌, ◌∙◌, ap, arith}
 use Rattle.pv_reduced.specs.Live.{register_tables, tables_of}
-use Rattle.pv_reduced.proofs.Lively.{registers-next}
+use Rattle.pv_reduced.proofs.LivenessComputation.{registers-next}
 use Rattle.pv_reduced.proofs.liveness.register_tables.Goals as goal
 
 pub loop-register-init : goal.loop-register-init

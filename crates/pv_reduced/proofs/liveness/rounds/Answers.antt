@@ -1,7 +1,7 @@
 use Rattle.std.proofs.Common.{◌≡◌, ◌∙◌, ap, length, arith}
 use Rattle.pv_laws_classes.specs.Liveness.{rounds}
 use Rattle.pv_reduced.specs.Live.{variable_of}
-use Rattle.pv_reduced.proofs.Lively.{rounds-next, rounds-start}
+use Rattle.pv_reduced.proofs.LivenessComputation.{rounds-next, rounds-start}
 use Rattle.pv_reduced.proofs.liveness.rounds.Goals as goal
 
 pub loop-init : goal.loop-init

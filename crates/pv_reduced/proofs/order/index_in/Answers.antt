@@ -1,5 +1,5 @@
 use Rattle.std.proofs.Common.{arith, rules}
-use Rattle.pv_reduced.proofs.Ordering.{index_next, index_past, index_there}
+use Rattle.pv_reduced.proofs.DescriptorOrder.{index_next, index_past, index_there}
 use Rattle.pv_reduced.proofs.order.index_in.Goals as goal
 
 pub loop-index-init : goal.loop-index-init

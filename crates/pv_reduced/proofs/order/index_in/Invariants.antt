@@ -1,5 +1,5 @@
 use Rattle.std.proofs.Common.{length, ◌-◌}
-use Rattle.pv_reduced.proofs.Ordering.{IsBefore}
+use Rattle.pv_reduced.proofs.DescriptorOrder.{IsBefore}
 use Rattle.pv_reduced.proofs.order.index_in.Given as goal
 
 abbrev pub invariant-loop-index : goal.invariant-loop-index

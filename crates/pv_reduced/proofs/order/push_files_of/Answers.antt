@@ -1,5 +1,5 @@
 use Rattle.std.proofs.Common.{arith}
-use Rattle.pv_reduced.proofs.Ordering.{files_next}
+use Rattle.pv_reduced.proofs.DescriptorOrder.{files_next}
 use Rattle.pv_reduced.proofs.order.push_files_of.Goals as goal
 
 pub loop-number-preserved : goal.loop-number-preserved

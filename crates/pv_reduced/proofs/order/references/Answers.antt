@@ -1,6 +1,6 @@
 use Rattle.std.proofs.Common.{sym}
-use Rattle.pv_state_encoding.proofs.OfAnswers.Following.{fewer-after, next-record}
-use Rattle.pv_reduced.proofs.Ordering.{references-end, references-next, references-start}
+use Rattle.pv_state_encoding.proofs.OfAnswers.ProcessSequence.{fewer-after, next-record}
+use Rattle.pv_reduced.proofs.DescriptorOrder.{references-end, references-next, references-start}
 use Rattle.pv_reduced.proofs.order.references.Goals as goal
 
 pub loop-pid-init : goal.loop-pid-init

@@ -1,6 +1,6 @@
 use Rattle.std.proofs.Common.{length}
-use Rattle.pv_state_encoding.proofs.OfAnswers.Following.{records_after}
-use Rattle.pv_reduced.proofs.Ordering.{LeavesFiles}
+use Rattle.pv_state_encoding.proofs.OfAnswers.ProcessSequence.{records_after}
+use Rattle.pv_reduced.proofs.DescriptorOrder.{LeavesFiles}
 use Rattle.pv_reduced.proofs.order.references.Given as goal
 
 abbrev pub invariant-loop-pid : goal.invariant-loop-pid

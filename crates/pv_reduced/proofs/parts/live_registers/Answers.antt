@@ -1,6 +1,6 @@
 use Rattle.std.proofs.Common.{ap, arith, refl, set, w32, ℤ}
 use Rattle.std.proofs.lemmas.Int.{to_z-of_z}
-use Rattle.pv_reduced.proofs.Keying.{cleared_end, cleared_next}
+use Rattle.pv_reduced.proofs.StateKeys.{cleared_end, cleared_next}
 use Rattle.pv_reduced.proofs.parts.live_registers.Goals as goal
 
 pub loop-number-init : goal.loop-number-init

@@ -1,4 +1,4 @@
-use Rattle.pv_reduced.proofs.Keying.{AreCleared}
+use Rattle.pv_reduced.proofs.StateKeys.{AreCleared}
 use Rattle.pv_reduced.proofs.parts.live_registers.Given as goal
 
 abbrev pub invariant-loop-number : goal.invariant-loop-number

@@ -1,5 +1,5 @@
 use Rattle.std.proofs.Common.{◌-◌, length, refl}
-use Rattle.pv_reduced.proofs.Keying.{added_buffer}
+use Rattle.pv_reduced.proofs.StateKeys.{added_buffer}
 use Rattle.pv_reduced.proofs.parts.part_of_buffer.Goals as goal
 
 pub returns : goal.returns

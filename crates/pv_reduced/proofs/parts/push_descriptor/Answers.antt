@@ -1,5 +1,5 @@
 use Rattle.std.proofs.lemmas.Result.{on_ok_weaker}
-use Rattle.pv_reduced.proofs.Keying.{added_descriptor, added_no_descriptor}
+use Rattle.pv_reduced.proofs.StateKeys.{added_descriptor, added_no_descriptor}
 use Rattle.pv_laws_classes.specs.Canonical.{index_in}
 use Rattle.pv_reduced.proofs.parts.push_descriptor.Goals as goal
 

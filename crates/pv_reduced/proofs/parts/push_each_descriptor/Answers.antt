@@ -1,9 +1,9 @@
 use Rattle.std.proofs.Common.{arith}
-use Rattle.pv_reduced.proofs.Keying.{long_under}
+use Rattle.pv_reduced.proofs.StateKeys.{long_under}
 use Rattle.pv_laws_classes.specs.Canonical.{index_in}
 use Rattle.pv_laws_classes.specs.Renumbering.{renumbered_descriptors}
 use Rattle.pv_model.specs.Machine.{descriptor_numbers}
-use Rattle.pv_state_encoding.proofs.Numbering.{added_at}
+use Rattle.pv_state_encoding.proofs.MapNumbers.{added_at}
 use Rattle.pv_reduced.proofs.parts.push_each_descriptor.Goals as goal
 
 pub loop-number-preserved : goal.loop-number-preserved

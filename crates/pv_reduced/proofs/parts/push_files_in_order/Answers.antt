@@ -1,5 +1,5 @@
 use Rattle.pv_model.specs.Machine.{file_numbers, option_numbers, at_number}
-use Rattle.pv_state_encoding.proofs.Adding.{added_each}
+use Rattle.pv_state_encoding.proofs.AppendedNumbers.{added_each}
 use Rattle.pv_reduced.proofs.parts.push_files_in_order.Goals as goal
 
 pub loop-file-preserved : goal.loop-file-preserved

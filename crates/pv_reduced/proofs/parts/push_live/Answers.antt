@@ -6,10 +6,10 @@ use Rattle.pv_laws_classes.specs.Canonical.{index_in}
 use Rattle.pv_laws_classes.specs.Liveness.{cleared_buffer, cleared_registers, is_live_below}
 use Rattle.pv_model.specs.Machine.{bytes_numbers, Bytes}
 use Rattle.pv_reduced.specs.Live.{live_line}
-use Rattle.pv_reduced.proofs.Keying.{live_under}
+use Rattle.pv_reduced.proofs.StateKeys.{live_under}
 use Rattle.pv_state_encoding.specs.Groups.{parts_of}
 use Rattle.pv_state_encoding.specs.Packed.{packed_all}
-use Rattle.pv_state_encoding.proofs.Owned.{parent-there}
+use Rattle.pv_state_encoding.proofs.ProcessNumbers.{parent-there}
 use Rattle.pv_reduced.proofs.parts.push_live.Goals as goal
 
 pub unreachable-requires : goal.unreachable-requires

@@ -1,7 +1,7 @@
 use Rattle.std.proofs.Common.{sym}
-use Rattle.pv_state_encoding.proofs.OfAnswers.Following.{fewer-after, next-record}
+use Rattle.pv_state_encoding.proofs.OfAnswers.ProcessSequence.{fewer-after, next-record}
 use Rattle.pv_laws_classes.specs.Canonical.{index_in}
-use Rattle.pv_reduced.proofs.Keying.{parts-end, parts-next, parts-start}
+use Rattle.pv_reduced.proofs.StateKeys.{parts-end, parts-next, parts-start}
 use Rattle.pv_state_encoding.specs.Groups.{parts_of}
 use Rattle.pv_reduced.proofs.parts.push_processes.Goals as goal
 

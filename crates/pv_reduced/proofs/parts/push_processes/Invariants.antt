@@ -1,7 +1,7 @@
 use Rattle.std.proofs.Common.{length}
-use Rattle.pv_state_encoding.proofs.OfAnswers.Following.{records_after}
+use Rattle.pv_state_encoding.proofs.OfAnswers.ProcessSequence.{records_after}
 use Rattle.pv_laws_classes.specs.Canonical.{index_in}
-use Rattle.pv_reduced.proofs.Keying.{LeavesParts}
+use Rattle.pv_reduced.proofs.StateKeys.{LeavesParts}
 use Rattle.pv_state_encoding.specs.Groups.{parts_of}
 use Rattle.pv_reduced.proofs.parts.push_processes.Given as goal
 

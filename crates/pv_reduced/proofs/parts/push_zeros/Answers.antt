@@ -1,5 +1,5 @@
 use Rattle.pv_model.specs.declared.limits.TheConstants.{BUFFER}
-use Rattle.pv_reduced.proofs.Keying.{zeros_added}
+use Rattle.pv_reduced.proofs.StateKeys.{zeros_added}
 use Rattle.pv_reduced.proofs.parts.push_zeros.Goals as goal
 
 pub returns : goal.returns

@@ -1,6 +1,6 @@
 use Rattle.std.proofs.Common.{ap}
 use Rattle.pv_state_encoding.specs.OfProcs.ProcessTable.{process_in}
-use Rattle.pv_reduced.proofs.Bounds.{bound-register}
+use Rattle.pv_reduced.proofs.NextStepBounds.{bound-register}
 use Rattle.pv_reduced.proofs.search.bound_by.Goals as goal
 
 pub returns-in-Register : goal.returns-in-Register

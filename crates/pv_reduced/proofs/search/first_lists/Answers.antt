@@ -2,7 +2,7 @@ use Rattle.std.proofs.Common.{◌∙◌, ap, List, ℕ}
 use Rattle.std.specs.Global.{Vec}
 use Rattle.pv_explore.specs.Rows.{parts_in}
 use Rattle.pv_reduced.specs.Keys.{reduced_parts}
-use Rattle.pv_reduced.proofs.Lists.{first-list}
+use Rattle.pv_reduced.proofs.ListSets.{first-list}
 use Rattle.pv_reduced.proofs.search.first_lists.Goals as goal
 
 pub returns : goal.returns

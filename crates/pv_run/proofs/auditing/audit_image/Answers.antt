@@ -1,6 +1,6 @@
 use Rattle.std.proofs.Common.{option_map, rules}
 use Rattle.std.proofs.lemmas.Result.{err_from_is_err_and}
-use Rattle.pv_run.proofs.Audited.{kinds, no_machine, nothing_written, reads_no_more, stopped_all, reports, written_all}
+use Rattle.pv_run.proofs.AuditOutput.{kinds, no_machine, nothing_written, reads_no_more, stopped_all, reports, written_all}
 use Rattle.pv_run.proofs.auditing.audit_image.Goals as goal
 
 pub returns-in_err-session : goal.returns-in_err-session

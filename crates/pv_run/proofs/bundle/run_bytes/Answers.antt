@@ -1,6 +1,6 @@
 use Rattle.std.proofs.Common.{rules}
 use Rattle.pv_model.specs.Machine.{bundle_started}
-use Rattle.pv_run.proofs.Begun.{has_run, appears}
+use Rattle.pv_run.proofs.RunPrefixes.{has_run, appears}
 use Rattle.pv_run.proofs.bundle.run_bytes.Goals as goal
 
 pub returns : goal.returns

@@ -4,7 +4,7 @@ use Rattle.pv_image_manifest.specs.Reading.{manifest_before}
 use Rattle.pv_model.specs.Machine.{lines_of, Started}
 use Rattle.pv_model.specs.declared.run_fault.RunFault.{RunFault}
 use Rattle.pv_run.specs.Run.{RefusesStart, started_from}
-use Rattle.pv_run.proofs.Starting.{bundle_on, refuses_manifest, refuses_tree, start_faults}
+use Rattle.pv_run.proofs.InputChecks.{bundle_on, refuses_manifest, refuses_tree, start_errors}
 use Rattle.pv_run.proofs.bundle.start_bundle.Goals as goal
 
 pub returns-in_err-bundle-clause-fault : goal.returns-in_err-bundle-clause-fault
@@ -29,4 +29,4 @@ returns-clause-fault c =
     (bundle_on c.args.bytes.now c.in_ok-bundle.bundle.manifest c.in_ok-bundle.bundle.schedule_at c.in_ok-store.store c.in_ok-bundle.ensures.exact c.in_ok-store.ensures) c.start_on.ensures.fault
 
 pub returns-clause-kind : goal.returns-clause-kind
-returns-clause-kind c = start_faults c.start_on.result c.start_on.ensures.kind
+returns-clause-kind c = start_errors c.start_on.result c.start_on.ensures.kind

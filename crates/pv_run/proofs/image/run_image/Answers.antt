@@ -1,8 +1,8 @@
 use Rattle.std.proofs.Common.{rules}
 use Rattle.std.proofs.lemmas.Result.{err_from_is_err_and}
 use Rattle.pv_model.specs.Machine.{image_started}
-use Rattle.pv_run.proofs.Unwritten.{image_written, neither_written, no_image_written, none_buffered}
-use Rattle.pv_run.proofs.Written.{has_run_on, stops_on, unwritten}
+use Rattle.pv_run.proofs.StoppedOutput.{image_written, neither_written, no_image_written, none_buffered}
+use Rattle.pv_run.proofs.ImageRuns.{has_run_on, stops_on, unwritten}
 use Rattle.pv_run.proofs.image.run_image.Goals as goal
 
 pub returns-in_err-ready : goal.returns-in_err-ready

@@ -3,7 +3,7 @@ use Rattle.std.proofs.lemmas.Result.{err_from_is_err_and}
 use Rattle.pv_model.specs.declared.run_fault.RunFault.{RunFault}
 use Rattle.pv_model.specs.Machine.{Started}
 use Rattle.pv_run.specs.Run.{RefusesStart, started_from}
-use Rattle.pv_run.proofs.Starting.{image_faults, image_on, refuses_image}
+use Rattle.pv_run.proofs.InputChecks.{image_errors, image_on, refuses_image}
 use Rattle.pv_run.proofs.image.start_image.Goals as goal
 
 pub returns-in_err-store-clause-fault : goal.returns-in_err-store-clause-fault
@@ -22,4 +22,4 @@ returns-clause-fault c =
     (image_on c.args.image.items c.args.schedule.now c.in_ok-store.store c.in_ok-store.ensures.mounted) c.start_on.ensures.fault
 
 pub returns-clause-kind : goal.returns-clause-kind
-returns-clause-kind c = image_faults c.start_on.result c.start_on.ensures.kind
+returns-clause-kind c = image_errors c.start_on.result c.start_on.ensures.kind

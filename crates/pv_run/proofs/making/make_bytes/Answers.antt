@@ -2,7 +2,7 @@ use Rattle.std.proofs.Common.{[], rules}
 use Rattle.std.proofs.lemmas.Result.{err_from_is_err_and}
 use Rattle.pv_image_manifest.specs.Reading.{manifest_before}
 use Rattle.pv_run.specs.Making.{tree_made}
-use Rattle.pv_run.proofs.Made.{made-tree, made_whole, refuses_manifest, refuses_tree, unmade}
+use Rattle.pv_run.proofs.ManifestImages.{made-tree, made_whole, refuses_manifest, refuses_tree, unmade}
 use Rattle.pv_run.proofs.making.make_bytes.Goals as goal
 
 pub returns-in_err-manifest : goal.returns-in_err-manifest

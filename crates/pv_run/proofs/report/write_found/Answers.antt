@@ -3,7 +3,7 @@ use Rattle.std.proofs.lemmas.Grind.{common_steps}
 use Rattle.std.proofs.lemmas.Result.{on_err_weaker}
 use Rattle.pv_model.specs.Machine.{Bytes, listed_path, quote}
 use Rattle.pv_model.specs.Sealed.{verdict_line}
-use Rattle.pv_streams.proofs.Reporting.{begins_first, begins_then, written_both, on_err}
+use Rattle.pv_streams.proofs.OutputTexts.{begins_first, begins_then, written_both, on_err}
 use Rattle.pv_run.proofs.report.write_found.Goals as goal
 
 abbrev space : Bytes

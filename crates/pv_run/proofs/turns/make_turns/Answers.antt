@@ -1,8 +1,8 @@
 use Rattle.std.proofs.Common.{◌∙◌, subst, rules}
 use Rattle.pv_model.specs.Machine.{Schedule, trace_bytes}
 use Rattle.pv_session.specs.Running.{WrittenLines, run_of}
-use Rattle.pv_streams.proofs.Sinks.{begins_whole}
-use Rattle.pv_streams.proofs.Reporting.{on_err}
+use Rattle.pv_streams.proofs.SinkWrites.{begins_whole}
+use Rattle.pv_streams.proofs.OutputTexts.{on_err}
 use Rattle.pv_run.proofs.turns.make_turns.Goals as goal
 
 pub returns-in_err-flush_buffer-in-Ok-clause-written : goal.returns-in_err-flush_buffer-in-Ok-clause-written

@@ -2,8 +2,8 @@ use Rattle.std.proofs.Common.{◌∙◌, sym}
 use Rattle.std.proofs.lemmas.Result.{err_from_is_err_and}
 use Rattle.pv_model.specs.Machine.{lines_of}
 use Rattle.pv_run.specs.Run.{started_from}
-use Rattle.pv_laws_runs.proofs.RunChecks.{boots, started-whole}
-use Rattle.pv_run.proofs.Starting.{refuses_boot, refuses_schedule, refuses_text, schedule_of_text}
+use Rattle.pv_laws_runs.proofs.RunChecks.{boots, started-valid}
+use Rattle.pv_run.proofs.InputChecks.{refuses_boot, refuses_schedule, refuses_text, schedule_of_text}
 use Rattle.pv_run.proofs.turns.start_on.Goals as goal
 
 pub returns-in_err-schedule-clause-fault : goal.returns-in_err-schedule-clause-fault
@@ -18,7 +18,7 @@ returns-in_err-session-clause-fault c =
 
 pub returns-clause-asked : goal.returns-clause-asked
 returns-clause-asked c =
-    started-whole c.args.store (lines_of c.args.schedule.now) (started_from c.in_ok-session.session c.in_ok-schedule.schedule) (sym (schedule_of_text _) ∙ c.in_ok-schedule.ensures) c.in_ok-session.ensures.booted
+    started-valid c.args.store (lines_of c.args.schedule.now) (started_from c.in_ok-session.session c.in_ok-schedule.schedule) (sym (schedule_of_text _) ∙ c.in_ok-schedule.ensures) c.in_ok-session.ensures.booted
 
 pub returns-clause-machine : goal.returns-clause-machine
 returns-clause-machine c = boots c.args.store c.in_ok-session.session c.in_ok-session.ensures.booted

@@ -1,7 +1,7 @@
 use Rattle.std.proofs.Common.{◌∙◌, ap, sym}
-use Rattle.pv_session.proofs.Turns.{schedule_more}
+use Rattle.pv_session.proofs.TurnRuns.{schedule_more}
 use Rattle.std.proofs.lemmas.Result.{err_from_is_err_and}
-use Rattle.pv_session.proofs.Stopped.{unread-in-schedule}
+use Rattle.pv_session.proofs.StoppedRuns.{unread-in-schedule}
 use Rattle.pv_session.proofs.running.pass_schedule.Goals as goal
 
 pub loop-turn-preserved : goal.loop-turn-preserved

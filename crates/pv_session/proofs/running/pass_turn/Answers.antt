@@ -1,7 +1,7 @@
 use Rattle.std.proofs.Common.{◌∙◌, ◌+◌, ap, sym, arith}
-use Rattle.pv_session.proofs.Turns.{turn_more, turn_passed}
+use Rattle.pv_session.proofs.TurnRuns.{turn_more, turn_passed}
 use Rattle.std.proofs.lemmas.Result.{err_from_is_err_and}
-use Rattle.pv_session.proofs.Stopped.{unread-in-turn}
+use Rattle.pv_session.proofs.StoppedRuns.{unread-in-run_of_turn}
 use Rattle.pv_session.proofs.running.pass_turn.Goals as goal
 
 pub loop-made-preserved : goal.loop-made-preserved
@@ -17,5 +17,5 @@ loop-made-preserved c =
 pub returns-in_err-step-clause-stopped : goal.returns-in_err-step-clause-stopped
 returns-in_err-step-clause-stopped c =
     let p = err_from_is_err_and c.from_residual.result c.from_residual.ensures.1 in
-    rw p.1 (unread-in-turn c.args.session.now c.loop-made.session c.step.new.self c.args.pid c.loop-made.made c.args.count
+    rw p.1 (unread-in-run_of_turn c.args.session.now c.loop-made.session c.step.new.self c.args.pid c.loop-made.made c.args.count
     c.loop-made-test.true c.loop-made.invariant.after c.in_err-step.ensures.unchanged c.in_err-step.ensures.memory)

@@ -1,17 +1,17 @@
 use Rattle.std.proofs.Common.{◌∙◌, ap, sym, subst, length, get_or, drop, arith, rules, ◌+◌}
 use Rattle.std.proofs.lemmas.Result.{err_from_is_err_and}
 use Rattle.pv_model.specs.Machine.{Run}
-use Rattle.pv_streams.proofs.Reporting.{on_err}
-use Rattle.pv_session.specs.Running.{BeginsLines, WrittenLines, turn, run_of, run_of_first}
-use Rattle.pv_session.proofs.Turns.{begun_before, begun_after, schedule_more, schedule_rest, written_after, lines_after}
-use Rattle.pv_session.proofs.Stopped.{in-schedule}
+use Rattle.pv_streams.proofs.OutputTexts.{on_err}
+use Rattle.pv_session.specs.Running.{BeginsLines, WrittenLines, run_of_turn, run_of, run_of_first}
+use Rattle.pv_session.proofs.TurnRuns.{begun_before, begun_after, schedule_more, schedule_rest, written_after, lines_after}
+use Rattle.pv_session.proofs.StoppedRuns.{in-schedule}
 use Rattle.pv_session.proofs.running.run_schedule.Goals as goal
 
 pub loop-turn-preserved : goal.loop-turn-preserved
 loop-turn-preserved g c =
     let entry = get_or c.args.schedule.now c.loop-turn.turn-index (0, 0) in
     let first = run_of_first c.args.session.now c.loop-turn.turn-index c.args.schedule.now in
-    let next = turn c.loop-turn.session entry.0 entry.1 in
+    let next = run_of_turn c.loop-turn.session entry.0 entry.1 in
     let more = schedule_more c.args.session.now c.loop-turn.session c.args.schedule.now c.loop-turn.turn-index c.loop-turn-test.true c.loop-turn.invariant.after in
     record {
       after = c.in_ok-lines.ensures.after ∙ sym (ap (λ r. r.final) more);
@@ -36,7 +36,7 @@ returns-in_err-lines-clause-written g c =
           (subst (λ (r : Run). BeginsLines r.lines (g.W.Sink.written c.args.trace.now) (g.W.Sink.written c.run_turn.new.trace)) (sym rest)
           (begun_before (run_of_first s (n + 1) schedule) (run_of (run_of_first s (n + 1) schedule).final (drop (n + 1) schedule)) _ _
           (subst (λ (r : Run). BeginsLines r.lines (g.W.Sink.written c.args.trace.now) (g.W.Sink.written c.run_turn.new.trace)) (sym more)
-          (begun_after (run_of_first s n schedule) (turn c.loop-turn.session entry.0 entry.1) _ _ _ c.loop-turn.invariant.written c.in_err-lines.ensures.written.prefix))));
+          (begun_after (run_of_first s n schedule) (run_of_turn c.loop-turn.session entry.0 entry.1) _ _ _ c.loop-turn.invariant.written c.in_err-lines.ensures.written.prefix))));
       failed = search rules;
       quiet = search rules;
     }

@@ -1,16 +1,16 @@
 use Rattle.std.proofs.Common.{◌≡◌, ◌≤◌, ◌∙◌, ap, sym, subst, length, arith, rules, ◌+◌, ◌-◌, ℕ}
 use Rattle.std.proofs.lemmas.Result.{err_from_is_err_and}
 use Rattle.pv_model.specs.Machine.{State, Run}
-use Rattle.pv_streams.proofs.Reporting.{on_err}
-use Rattle.pv_session.specs.Running.{BeginsLines, WrittenLines, turn}
-use Rattle.pv_session.proofs.Turns.{begun_before, begun_after, one_step, turn_more, turn_passed, turn_rest, written_after, lines_after}
-use Rattle.pv_session.proofs.Stopped.{in-turn}
+use Rattle.pv_streams.proofs.OutputTexts.{on_err}
+use Rattle.pv_session.specs.Running.{BeginsLines, WrittenLines, run_of_turn}
+use Rattle.pv_session.proofs.TurnRuns.{begun_before, begun_after, one_step, turn_more, turn_passed, turn_rest, written_after, lines_after}
+use Rattle.pv_session.proofs.StoppedRuns.{in-run_of_turn}
 use Rattle.pv_session.proofs.running.run_turn.Goals as goal
 use Rattle.pv_session.proofs.running.run_turn.Goals.{then-written-eq0, else-written-eq0}
 
 -- a step, and the silent steps made at once after it
 record Made (s : State) (pid n count made : ℕ) (now : State) : Type 0 where
-  run : turn s pid made ≡ record { lines = (turn s pid (n + 1)).lines; final = now }
+  run : run_of_turn s pid made ≡ record { lines = (run_of_turn s pid (n + 1)).lines; final = now }
   more : n + 1 ≤ made
   within : made ≤ count
 
@@ -25,13 +25,13 @@ made-on g c =
           let k = w.pass-made.result in
           let passed = turn_passed s c.trace_step.new.self w.pass-made.new.self pid (n + 1) k at w.pass-made.ensures.after w.pass-made.ensures.no_lines in
           record {
-            run = ap (λ m. turn s pid m) w.made-is ∙ passed ∙ ap (λ t. let it : Run = record { lines = (turn s pid (n + 1)).lines; final = t } in it) (sym w.session-is);
+            run = ap (λ m. run_of_turn s pid m) w.made-is ∙ passed ∙ ap (λ t. let it : Run = record { lines = (run_of_turn s pid (n + 1)).lines; final = t } in it) (sym w.session-is);
             more = omega (arith, w.made-is);
             within = omega (arith, w.made-is, w.pass-made.ensures.few, c.loop-made-test.true);
           }
       | else-written-eq0 w ↦
           record {
-            run = ap (λ m. turn s pid m) w.made-is ∙ ap (λ t. let it : Run = record { lines = (turn s pid (n + 1)).lines; final = t } in it) (sym at ∙ sym w.session-is);
+            run = ap (λ m. run_of_turn s pid m) w.made-is ∙ ap (λ t. let it : Run = record { lines = (run_of_turn s pid (n + 1)).lines; final = t } in it) (sym at ∙ sym w.session-is);
             more = omega (arith, w.made-is);
             within = omega (arith, w.made-is, c.loop-made-test.true);
           }
@@ -39,7 +39,7 @@ made-on g c =
 
 pub loop-made-preserved : goal.loop-made-preserved
 loop-made-preserved g c =
-    let first = turn c.args.session.now c.args.pid c.loop-made.made in
+    let first = run_of_turn c.args.session.now c.args.pid c.loop-made.made in
     let step = one_step c.loop-made.session c.args.pid in
     let more = turn_more c.args.session.now c.loop-made.session c.args.pid c.loop-made.made c.loop-made.invariant.after in
     let on = made-on g c in
@@ -67,9 +67,9 @@ returns-in_err-written-clause-written g c =
       whole = search rules;
       prefix = on_err c.from_residual.result
           (subst (λ (r : Run). BeginsLines r.lines (g.W.Sink.written c.args.trace.now) (g.W.Sink.written c.trace_step.new.trace)) (sym rest)
-          (begun_before (turn s pid (n + 1)) (turn (turn s pid (n + 1)).final pid (c.args.count - (n + 1))) _ _
+          (begun_before (run_of_turn s pid (n + 1)) (run_of_turn (run_of_turn s pid (n + 1)).final pid (c.args.count - (n + 1))) _ _
           (subst (λ (r : Run). BeginsLines r.lines (g.W.Sink.written c.args.trace.now) (g.W.Sink.written c.trace_step.new.trace)) (sym more)
-          (begun_after (turn s pid n) (one_step c.loop-made.session pid) _ _ _ c.loop-made.invariant.written c.in_err-written.ensures.written.prefix))));
+          (begun_after (run_of_turn s pid n) (one_step c.loop-made.session pid) _ _ _ c.loop-made.invariant.written c.in_err-written.ensures.written.prefix))));
       failed = search rules;
       quiet = search rules;
     }
@@ -77,6 +77,6 @@ returns-in_err-written-clause-written g c =
 pub returns-in_err-written-clause-stopped : goal.returns-in_err-written-clause-stopped
 returns-in_err-written-clause-stopped g c =
     let p = err_from_is_err_and c.from_residual.result c.from_residual.ensures.1 in
-    rw p.1 (in-turn c.args.session.now c.loop-made.session c.trace_step.new.self c.args.pid c.loop-made.made c.args.count
+    rw p.1 (in-run_of_turn c.args.session.now c.loop-made.session c.trace_step.new.self c.args.pid c.loop-made.made c.args.count
     (g.W.Sink.written c.args.trace.now) (g.W.Sink.written c.loop-made.trace) (g.W.Sink.written c.trace_step.new.trace)
     c.loop-made-test.true c.loop-made.invariant.after c.loop-made.invariant.written c.in_err-written.field-0.0 p.0 p.2 c.in_err-written.ensures.stopped)

@@ -2,10 +2,10 @@ use Rattle.std.proofs.Common.{ap, sym, ◌∙◌, subst, length, List, rules}
 use Rattle.std.proofs.lemmas.Result.{err_from_is_err_and}
 use Rattle.pv_calls.specs.Kernel.{Running}
 use Rattle.pv_model.specs.Machine.{call_of, Stepped, Line}
-use Rattle.pv_streams.proofs.Reporting.{on_err}
+use Rattle.pv_streams.proofs.OutputTexts.{on_err}
 use Rattle.pv_session.specs.Running.{BeginsLines, WrittenLines, stepped}
-use Rattle.pv_session.proofs.Stepping.{begins-none, called-is, called-lines}
-use Rattle.pv_session.proofs.Stopped.{stops-called}
+use Rattle.pv_session.proofs.MachineSteps.{begins-none, called-is, called-lines}
+use Rattle.pv_session.proofs.StoppedRuns.{stops-called}
 use Rattle.pv_session.proofs.session.trace_call.Goals as goal
 
 pub returns-in_err-outcome-clause-written : goal.returns-in_err-outcome-clause-written

@@ -1,6 +1,6 @@
 use Rattle.std.proofs.Common.{◌+◌, [], refl, subst, arith}
-use Rattle.pv_model.specs.Machine.{counted_from, taken_lines, program_faults, invalid_lines}
-use Rattle.pv_source.specs.Reading.{numbered}
+use Rattle.pv_model.specs.Machine.{counted_from, taken_lines, program_errors, invalid_lines}
+use Rattle.pv_source.specs.Reading.{numbered_lines}
 use Rattle.pv_source.proofs.SourcePrograms.{taken_step, taken_start}
 use Rattle.pv_source.proofs.ReportedLines.{ReportedSoFar, ReportedSoFar-end}
 use Rattle.pv_source.proofs.judging.report_taken.Goals as goal
@@ -22,5 +22,5 @@ loop-line-preserved c = record {
 pub returns : goal.returns
 returns c =
     ReportedSoFar-end _ _ _
-    (subst (λ ls. ReportedSoFar c.args.faults.now c.loop-line.faults (invalid_lines c.line_count-count.result [] c.loop-line.before (taken_lines (counted_from (c.args.body.number + c.loop-line.before) ls))) (program_faults (taken_lines (numbered c.args.body))))
+    (subst (λ ls. ReportedSoFar c.args.faults.now c.loop-line.faults (invalid_lines c.line_count-count.result [] c.loop-line.before (taken_lines (counted_from (c.args.body.number + c.loop-line.before) ls))) (program_errors (taken_lines (numbered_lines c.args.body))))
     c.in_default.ensures.lines c.loop-line.invariant.reported)

@@ -1,6 +1,6 @@
 use Rattle.std.proofs.Common.{◌≤◌, ◌+◌, [], length}
-use Rattle.pv_source.specs.Reading.{numbered, numbered_text}
-use Rattle.pv_model.specs.Machine.{taken_lines, invalid_lines, program_faults}
+use Rattle.pv_source.specs.Reading.{numbered_lines, numbered_text}
+use Rattle.pv_model.specs.Machine.{taken_lines, invalid_lines, program_errors}
 use Rattle.pv_source.proofs.ReportedLines.{ReportedSoFar}
 use Rattle.pv_source.proofs.judging.report_taken.Given as goal
 
@@ -8,7 +8,7 @@ abbrev pub invariant-loop-line : goal.invariant-loop-line
 invariant-loop-line l = record {
   reported :
       ReportedSoFar l.fn.faults l.faults (invalid_lines l.count [] l.before (taken_lines (numbered_text (l.body.number + l.before) l.rest)))
-      (program_faults (taken_lines (numbered l.body)));
+      (program_errors (taken_lines (numbered_lines l.body)));
   few : l.before + length l.rest ≤ length l.body.text.now;
 }
 

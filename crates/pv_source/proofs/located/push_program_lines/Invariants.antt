@@ -2,15 +2,15 @@ use Rattle.std.proofs.Common.{◌≡◌, ◌≤◌, ◌+◌, ◌++◌, length}
 use Rattle.std.specs.Prelude.{map}
 use Rattle.pv_model.specs.Machine.{ended, labelled_lines, program_line_of}
 use Rattle.pv_source.specs.Located.{located_from, located_text}
-use Rattle.pv_source.specs.Reading.{numbered}
+use Rattle.pv_source.specs.Reading.{numbered_lines}
 use Rattle.pv_source.specs.ReadPrograms.{label_value}
 use Rattle.pv_source.proofs.located.push_program_lines.Given as goal
 
 abbrev pub invariant-loop-line : goal.invariant-loop-line
 invariant-loop-line l = record {
   put :
-      l.out.items ++ ended (map (located_text l.path) (located_from l.number (map (program_line_of (map label_value l.labels.items)) (labelled_lines (numbered l.rest)))))
-      ≡ l.fn.out.items ++ ended (map (located_text l.path) (located_from 1 (map (program_line_of (map label_value l.labels.items)) (labelled_lines (numbered l.fn.body)))));
+      l.out.items ++ ended (map (located_text l.path) (located_from l.number (map (program_line_of (map label_value l.labels.items)) (labelled_lines (numbered_lines l.rest)))))
+      ≡ l.fn.out.items ++ ended (map (located_text l.path) (located_from 1 (map (program_line_of (map label_value l.labels.items)) (labelled_lines (numbered_lines l.fn.body)))));
   room : l.rest.number + length l.rest.text.now ≤ l.fn.body.number + length l.fn.body.text.now;
   few : l.number + length l.rest.text.now ≤ 1 + length l.fn.body.text.now;
 }

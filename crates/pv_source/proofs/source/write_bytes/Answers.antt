@@ -1,15 +1,15 @@
 use Rattle.std.proofs.Common.{◌∙◌, inl, inr, refl, rules, ⊎_elim}
 use Rattle.std.proofs.lemmas.Result.{on_ok_weaker}
 use Rattle.pv_source.specs.Given.{text_of_source}
-use Rattle.pv_source.proofs.ReportedLines.{no_fault, read_right}
-use Rattle.pv_source.proofs.WrittenReports.{begins_faults, invalid_source, reports_faults}
+use Rattle.pv_source.proofs.ReportedLines.{no_error, read_right}
+use Rattle.pv_source.proofs.WrittenReports.{begins_errors, invalid_source, reports_errors}
 use Rattle.pv_source.proofs.source.write_bytes.Goals as goal
 
 pub returns-then-is_empty : goal.returns-then-is_empty
 returns-then-is_empty g c =
     let right = c.write_right.ensures in
     let text = text_of_source c.args.source.now in
-    let none = no_fault _ _ c.is_empty.ensures.value c.if-is_empty.true in
+    let none = no_error _ _ c.is_empty.ensures.value c.if-is_empty.true in
     let is = read_right c.args.source.now text _ c.in_ok-faults.ensures.reported none refl in
     record {
       written = on_ok_weaker c.write_right.result (λ whole. (text, is, whole)) right.written;
@@ -27,13 +27,13 @@ returns-then-is_empty g c =
 pub returns-in_err-write_through : goal.returns-in_err-write_through
 returns-in_err-write_through g c =
     let invalid = invalid_source c.args.source.now c.reported.result.now _ _ c.is_empty.ensures.value c.if-is_empty.false c.reported.ensures c.in_ok-faults.ensures.reported in
-    let begun = begins_faults c.args.name.now c.args.source.now c.reported.result.now _ (c.deref.ensures.value ∙ c.in_ok-text.ensures.text) c.in_ok-text.ensures.lines
+    let begun = begins_errors c.args.name.now c.args.source.now c.reported.result.now _ (c.deref.ensures.value ∙ c.in_ok-text.ensures.text) c.in_ok-text.ensures.lines
     _ _ invalid c.in_err-write_through.ensures.written.prefix in
     search (rules, begun)
 
 pub returns : goal.returns
 returns g c =
     let invalid = invalid_source c.args.source.now c.reported.result.now _ _ c.is_empty.ensures.value c.if-is_empty.false c.reported.ensures c.in_ok-faults.ensures.reported in
-    let refused = reports_faults c.args.name.now c.args.source.now c.reported.result.now _ (c.deref.ensures.value ∙ c.in_ok-text.ensures.text) c.in_ok-text.ensures.lines
+    let refused = reports_errors c.args.name.now c.args.source.now c.reported.result.now _ (c.deref.ensures.value ∙ c.in_ok-text.ensures.text) c.in_ok-text.ensures.lines
     _ _ invalid c.in_ok-write_through.ensures.written.whole in
     search (rules, refused)

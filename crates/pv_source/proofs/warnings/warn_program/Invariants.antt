@@ -1,5 +1,5 @@
 use Rattle.std.proofs.Common.{◌≤◌, ◌+◌, length, flat_map}
-use Rattle.pv_source.specs.Reading.{numbered}
+use Rattle.pv_source.specs.Reading.{numbered_lines}
 use Rattle.pv_model.specs.Machine.{labelled_lines}
 use Rattle.pv_source.specs.Warnings.{warned_labelled}
 use Rattle.pv_source.proofs.ReportedLines.{ReportedSoFar}
@@ -8,8 +8,8 @@ use Rattle.pv_source.proofs.warnings.warn_program.Given as goal
 abbrev pub invariant-loop-line : goal.invariant-loop-line
 invariant-loop-line l = record {
   reported :
-      ReportedSoFar l.fn.warnings l.warnings (flat_map warned_labelled (labelled_lines (numbered l.rest)))
-      (flat_map warned_labelled (labelled_lines (numbered l.fn.body)));
+      ReportedSoFar l.fn.warnings l.warnings (flat_map warned_labelled (labelled_lines (numbered_lines l.rest)))
+      (flat_map warned_labelled (labelled_lines (numbered_lines l.fn.body)));
   room : l.rest.number + length l.rest.text.now ≤ l.fn.body.number + length l.fn.body.text.now;
 }
 

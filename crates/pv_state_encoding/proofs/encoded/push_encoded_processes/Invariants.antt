@@ -1,7 +1,7 @@
 use Rattle.std.proofs.Common.{length}
-use Rattle.pv_answers.proofs.Following.{records_after}
+use Rattle.pv_answers.proofs.ProcessSequence.{records_after}
 use Rattle.pv_state_encoding.specs.Encoded.{encoded_all, encoded_record}
-use Rattle.pv_state_encoding.proofs.Records.{LeavesRecords}
+use Rattle.pv_state_encoding.proofs.ProcessGroups.{LeavesRecords}
 use Rattle.pv_state_encoding.proofs.encoded.push_encoded_processes.Given as goal
 
 abbrev pub invariant-loop-pid : goal.invariant-loop-pid

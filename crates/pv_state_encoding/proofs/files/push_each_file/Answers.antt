@@ -1,6 +1,6 @@
 use Rattle.std.proofs.Common.{arith}
 use Rattle.pv_model.specs.Machine.{file_numbers}
-use Rattle.pv_state_encoding.proofs.Numbering.{added_at}
+use Rattle.pv_state_encoding.proofs.MapNumbers.{added_at}
 use Rattle.pv_state_encoding.proofs.files.push_each_file.Goals as goal
 
 pub loop-file-preserved : goal.loop-file-preserved

@@ -1,7 +1,7 @@
 use Rattle.std.proofs.lemmas.Result.{on_ok_weaker}
 use Rattle.std.specs.Option.{option_copied}
 use Rattle.pv_model.specs.Machine.{at_number}
-use Rattle.pv_state_encoding.proofs.Numbering.{added_opened}
+use Rattle.pv_state_encoding.proofs.MapNumbers.{added_opened}
 use Rattle.pv_state_encoding.proofs.files.push_opened.Goals as goal
 
 pub returns : goal.returns

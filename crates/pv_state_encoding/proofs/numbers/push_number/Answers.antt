@@ -1,7 +1,7 @@
 use Rattle.std.proofs.Common.{◌≡◌, ◌∙◌, sym, ap, ℕ, ◌+◌, ◌-◌, ◌/◌, ◌%◌, ◌<◌, ◌≤◌, [], ◌∷◌, ◌++◌, append_assoc, append-nil, arith}
 use Rattle.pv_model.specs.Machine.{Bytes}
 use Rattle.pv_state_encoding.specs.Packed.{packed_in, packed, IsAdded}
-use Rattle.pv_state_encoding.proofs.Adding.{packed-is, packed-small, packed-more, low-more}
+use Rattle.pv_state_encoding.proofs.AppendedNumbers.{packed-is, packed-small, packed-more, low-more}
 use Rattle.pv_state_encoding.proofs.numbers.push_number.Goals as goal
 use Rattle.pv_state_encoding.proofs.numbers.push_number.Goals.{then-loop-left-test+else-rest-ge128, else-loop-left-test}
 

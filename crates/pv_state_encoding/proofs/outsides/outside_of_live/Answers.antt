@@ -1,6 +1,6 @@
 use Rattle.std.specs.FinMap.Entries.{find}
 use Rattle.std.specs.Ordering.{nat_cmp}
-use Rattle.pv_state_encoding.proofs.Owned.{parent-there}
+use Rattle.pv_state_encoding.proofs.ProcessNumbers.{parent-there}
 use Rattle.pv_state_encoding.proofs.outsides.outside_of_live.Goals as goal
 
 pub unreachable-requires : goal.unreachable-requires

@@ -1,6 +1,6 @@
 use Rattle.std.proofs.Common.{sym, arith}
-use Rattle.pv_answers.proofs.Following.{fewer-after, next-record}
-use Rattle.pv_state_encoding.proofs.Records.{count-end, count-next, count-start}
+use Rattle.pv_answers.proofs.ProcessSequence.{fewer-after, next-record}
+use Rattle.pv_state_encoding.proofs.ProcessGroups.{count-end, count-next, count-start}
 use Rattle.pv_state_encoding.proofs.processes.count.Goals as goal
 
 pub loop-pid-init : goal.loop-pid-init

@@ -1,5 +1,5 @@
 use Rattle.std.proofs.Common.{◌≡◌, ◌+◌, length}
-use Rattle.pv_answers.proofs.Following.{records_after}
+use Rattle.pv_answers.proofs.ProcessSequence.{records_after}
 use Rattle.pv_state_encoding.proofs.processes.count.Given as goal
 
 abbrev pub invariant-loop-pid : goal.invariant-loop-pid

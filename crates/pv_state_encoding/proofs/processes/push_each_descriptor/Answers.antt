@@ -1,6 +1,6 @@
 use Rattle.std.proofs.Common.{arith}
 use Rattle.pv_model.specs.Machine.{descriptor_numbers}
-use Rattle.pv_state_encoding.proofs.Numbering.{added_at}
+use Rattle.pv_state_encoding.proofs.MapNumbers.{added_at}
 use Rattle.pv_state_encoding.proofs.processes.push_each_descriptor.Goals as goal
 
 pub loop-number-preserved : goal.loop-number-preserved

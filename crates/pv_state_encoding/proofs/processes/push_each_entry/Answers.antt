@@ -1,6 +1,6 @@
 use Rattle.std.proofs.Common.{arith}
 use Rattle.pv_model.specs.Machine.{entry_numbers, entries_of_table}
-use Rattle.pv_state_encoding.proofs.Owned.{added_got, entry-there}
+use Rattle.pv_state_encoding.proofs.ProcessNumbers.{added_got, entry-there}
 use Rattle.pv_state_encoding.proofs.processes.push_each_entry.Goals as goal
 
 pub loop-number-preserved : goal.loop-number-preserved

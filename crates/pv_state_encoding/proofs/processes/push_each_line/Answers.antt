@@ -1,6 +1,6 @@
 use Rattle.std.proofs.Common.{◌≡◌, ◌+◌, ◌-◌, ℕ, Some, slice_get, subst, sym, arith}
 use Rattle.pv_model.specs.Machine.{instruction_numbers}
-use Rattle.pv_state_encoding.proofs.Owned.{added_got}
+use Rattle.pv_state_encoding.proofs.ProcessNumbers.{added_got}
 use Rattle.pv_state_encoding.proofs.processes.push_each_line.Goals as goal
 
 pub loop-number-preserved : goal.loop-number-preserved

@@ -1,5 +1,5 @@
 use Rattle.std.proofs.lemmas.Result.{on_ok_weaker}
-use Rattle.pv_state_encoding.proofs.Adding.{added_both}
+use Rattle.pv_state_encoding.proofs.AppendedNumbers.{added_both}
 use Rattle.pv_state_encoding.proofs.processes.push_held.Goals as goal
 
 pub returns : goal.returns

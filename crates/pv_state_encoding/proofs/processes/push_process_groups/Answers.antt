@@ -1,7 +1,7 @@
 use Rattle.std.proofs.Common.{sym, refl}
-use Rattle.pv_answers.proofs.Following.{fewer-after, next-record}
+use Rattle.pv_answers.proofs.ProcessSequence.{fewer-after, next-record}
 use Rattle.pv_state_encoding.specs.Groups.{groups_of, numbered_parts, record_parts}
-use Rattle.pv_state_encoding.proofs.Records.{records-end, records-next, records-start}
+use Rattle.pv_state_encoding.proofs.ProcessGroups.{records-end, records-next, records-start}
 use Rattle.pv_state_encoding.proofs.processes.push_process_groups.Goals as goal
 
 pub loop-pid-init : goal.loop-pid-init

@@ -1,7 +1,7 @@
 use Rattle.std.proofs.Common.{length}
-use Rattle.pv_answers.proofs.Following.{records_after}
+use Rattle.pv_answers.proofs.ProcessSequence.{records_after}
 use Rattle.pv_state_encoding.specs.Groups.{groups_of, record_parts}
-use Rattle.pv_state_encoding.proofs.Records.{LeavesRecords}
+use Rattle.pv_state_encoding.proofs.ProcessGroups.{LeavesRecords}
 use Rattle.pv_state_encoding.proofs.processes.push_process_groups.Given as goal
 
 abbrev pub invariant-loop-pid : goal.invariant-loop-pid

@@ -1,5 +1,5 @@
 use Rattle.std.proofs.lemmas.Result.{on_ok_weaker}
-use Rattle.pv_state_encoding.proofs.Owned.{added_table}
+use Rattle.pv_state_encoding.proofs.ProcessNumbers.{added_table}
 use Rattle.pv_state_encoding.proofs.processes.push_table.Goals as goal
 
 pub returns : goal.returns

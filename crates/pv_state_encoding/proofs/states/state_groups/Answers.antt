@@ -2,7 +2,7 @@ use Rattle.std.proofs.Common.{◌∙◌, ◌∷◌, ◌++◌, [], ap, ap₂, len
 use Rattle.pv_model.specs.Machine.{Tree}
 use Rattle.pv_answers.specs.OfProcs.ProcessTable.{ProcessTable}
 use Rattle.pv_state_encoding.specs.Groups.{counts_part, groups_of, node_parts, record_parts}
-use Rattle.pv_state_encoding.proofs.Grouping.{all-grouped}
+use Rattle.pv_state_encoding.proofs.StateGroups.{all-grouped}
 use Rattle.pv_state_encoding.proofs.states.state_groups.Goals as goal
 
 pub returns : goal.returns

@@ -1,6 +1,6 @@
 use Rattle.std.proofs.Common.{◌≡◌, ◌≤◌, ◌<◌, true, ap, map, length, ℕ, arith}
 use Rattle.std.specs.Global.{Vec}
-use Rattle.pv_state_encoding.proofs.Grouping.{parts-end, parts-start, parts-unused, parts-used}
+use Rattle.pv_state_encoding.proofs.StateGroups.{parts-end, parts-start, parts-unused, parts-used}
 use Rattle.pv_state_encoding.proofs.trees.group_of_nodes.Goals as goal
 use Rattle.pv_state_encoding.proofs.trees.group_of_nodes.Goals.{then-is_used+in_ok-push_used+in_ok-push_part, else-is_used+in_ok-push_number}
 

@@ -1,5 +1,5 @@
 use Rattle.pv_state_encoding.specs.Groups.{parts_of}
-use Rattle.pv_state_encoding.proofs.Grouping.{LeavesParts}
+use Rattle.pv_state_encoding.proofs.StateGroups.{LeavesParts}
 use Rattle.pv_state_encoding.proofs.trees.group_of_nodes.Given as goal
 
 abbrev pub invariant-loop-node : goal.invariant-loop-node

@@ -1,6 +1,6 @@
 use Rattle.std.proofs.lemmas.Result.{on_ok_weaker}
 use Rattle.pv_model.specs.Machine.{node_at}
-use Rattle.pv_state_encoding.proofs.Nodes.{added_content}
+use Rattle.pv_state_encoding.proofs.TreeNumbers.{added_content}
 use Rattle.pv_state_encoding.proofs.trees.push_content.Goals as goal
 
 pub returns : goal.returns

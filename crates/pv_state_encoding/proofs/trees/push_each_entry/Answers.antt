@@ -1,9 +1,9 @@
 use Rattle.std.proofs.Common.{◌≡◌, ◌∙◌, ◌+◌, ap, sym, subst, ℕ, Some}
-use Rattle.pv_image_write.proofs.Listed.{front-none, front-some, some-is}
+use Rattle.pv_image_write.proofs.EntryLists.{front-none, front-some, some-is}
 use Rattle.pv_model.specs.Answers.Numbers.{name_numbers}
 use Rattle.pv_model.specs.Machine.{Bytes, entries_at, find_entry}
 use Rattle.pv_state_encoding.specs.Packed.{IsAdded}
-use Rattle.pv_state_encoding.proofs.Nodes.{IsEncoded, all-met, met, encoded-start, encoded-step}
+use Rattle.pv_state_encoding.proofs.TreeNumbers.{IsEncoded, all-met, met, encoded-start, encoded-step}
 use Rattle.pv_state_encoding.proofs.trees.push_each_entry.Goals as goal
 
 pub unreachable-requires : goal.unreachable-requires

@@ -1,5 +1,5 @@
 use Rattle.pv_model.specs.Machine.{entries_at}
-use Rattle.pv_state_encoding.proofs.Nodes.{IsEncoded}
+use Rattle.pv_state_encoding.proofs.TreeNumbers.{IsEncoded}
 use Rattle.pv_state_encoding.proofs.trees.push_each_entry.Given as goal
 
 abbrev pub invariant-loop-entry : goal.invariant-loop-entry

@@ -1,6 +1,6 @@
 use Rattle.std.proofs.Common.{arith}
 use Rattle.pv_model.specs.Answers.Numbers.{node_numbers}
-use Rattle.pv_state_encoding.proofs.Numbering.{added_at}
+use Rattle.pv_state_encoding.proofs.MapNumbers.{added_at}
 use Rattle.pv_state_encoding.proofs.trees.push_each_node.Goals as goal
 
 pub loop-node-preserved : goal.loop-node-preserved

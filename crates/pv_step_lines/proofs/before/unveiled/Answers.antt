@@ -1,7 +1,7 @@
 use Rattle.std.proofs.Common.{ap, sym, ◌∙◌, Some, None}
 use Rattle.pv_model.specs.Machine.{call_of, walk_of, target_of}
 use Rattle.pv_step_lines.specs.Before.{path_unveiled, target_at}
-use Rattle.pv_step_lines.proofs.Unveiled.{target-ends}
+use Rattle.pv_step_lines.proofs.UnveilTargets.{target-ends}
 use Rattle.pv_step_lines.proofs.before.unveiled.Goals as goal
 
 pub returns-in-Some-end_of : goal.returns-in-Some-end_of

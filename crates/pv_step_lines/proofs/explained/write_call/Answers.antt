@@ -1,7 +1,7 @@
 use Rattle.std.proofs.Common.{◌∙◌, ap, refl}
 use Rattle.pv_model.specs.Machine.{Bytes, call_of}
 use Rattle.pv_trace.specs.Steps.{moved_by}
-use Rattle.pv_answers.proofs.Writing.{writes_as, writes_both, writes_failed, writes_longer}
+use Rattle.pv_answers.proofs.WriterContracts.{writes_as, writes_both, writes_failed, writes_longer}
 use Rattle.pv_step_lines.specs.Origin.{settings_in}
 use Rattle.pv_step_lines.proofs.CallLines.{call-bytes}
 use Rattle.pv_step_lines.proofs.explained.write_call.Goals as goal

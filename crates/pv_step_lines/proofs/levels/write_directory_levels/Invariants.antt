@@ -1,4 +1,4 @@
-use Rattle.pv_step_lines.proofs.Climbing.{IsClimbing}
+use Rattle.pv_step_lines.proofs.AncestorLines.{IsClimbing}
 use Rattle.pv_step_lines.proofs.levels.write_directory_levels.Given as goal
 
 abbrev pub invariant-loop-level : goal.invariant-loop-level

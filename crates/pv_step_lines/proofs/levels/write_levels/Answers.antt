@@ -1,5 +1,5 @@
-use Rattle.pv_answers.proofs.Writing.{writes_as}
-use Rattle.pv_step_lines.proofs.Climbing.{place-bare, place-directory, place-node, place-other}
+use Rattle.pv_answers.proofs.WriterContracts.{writes_as}
+use Rattle.pv_step_lines.proofs.AncestorLines.{place-bare, place-directory, place-node, place-other}
 use Rattle.pv_step_lines.proofs.levels.write_levels.Goals as goal
 
 pub returns-in-Node : goal.returns-in-Node

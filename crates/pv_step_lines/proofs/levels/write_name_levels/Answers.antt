@@ -1,5 +1,5 @@
-use Rattle.pv_answers.proofs.Writing.{writes_as, writes_both, writes_failed, writes_longer}
-use Rattle.pv_step_lines.proofs.Climbing.{name-bare, name-first, name-governed, none-found, some-found}
+use Rattle.pv_answers.proofs.WriterContracts.{writes_as, writes_both, writes_failed, writes_longer}
+use Rattle.pv_step_lines.proofs.AncestorLines.{name-bare, name-first, name-governed, none-found, some-found}
 use Rattle.pv_step_lines.proofs.levels.write_name_levels.Goals as goal
 
 pub returns-in_err-write_name_level : goal.returns-in_err-write_name_level

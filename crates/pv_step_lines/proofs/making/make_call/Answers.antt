@@ -2,8 +2,8 @@ use Rattle.std.proofs.Common.{ap, subst, ◌∙◌}
 use Rattle.pv_model.specs.Machine.{call_of, State, process_at}
 use Rattle.pv_step_lines.specs.Before.{IsBefore}
 use Rattle.pv_step_lines.specs.Made.{IsMadeCall}
-use Rattle.pv_step_lines.proofs.Fit.{call-fits}
-use Rattle.pv_step_lines.proofs.Made.{whole-made}
+use Rattle.pv_step_lines.proofs.WritableSteps.{call-fits}
+use Rattle.pv_step_lines.proofs.StepStates.{whole-made}
 use Rattle.pv_step_lines.proofs.making.make_call.Goals as goal
 
 pub returns-clause-made : goal.returns-clause-made

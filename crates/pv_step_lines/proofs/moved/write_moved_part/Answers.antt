@@ -2,10 +2,10 @@ use Rattle.std.proofs.Common.{◌++◌, ◌∙◌, [], ap, sym, codes}
 use Rattle.std.proofs.lemmas.List.{append-nil}
 use Rattle.pv_model.specs.Machine.{answer_bytes, answer_line, call_of}
 use Rattle.pv_trace.specs.Words.{direction_of}
-use Rattle.pv_answers.proofs.Writing.{writes_as, writes_both, writes_failed, writes_longer, writes_none}
+use Rattle.pv_answers.proofs.WriterContracts.{writes_as, writes_both, writes_failed, writes_longer, writes_none}
 use Rattle.pv_step_lines.specs.Parts.{moved_by_call}
 use Rattle.pv_step_lines.proofs.MovedLines.{moved-none, moved-some, moved-first}
-use Rattle.pv_step_lines.proofs.Remarks.{with-remark, with-remarks}
+use Rattle.pv_step_lines.proofs.RemarkLines.{with-remark, with-remarks}
 use Rattle.pv_step_lines.proofs.moved.write_moved_part.Goals as goal
 
 pub returns-in_default : goal.returns-in_default

@@ -1,6 +1,6 @@
 use Rattle.std.proofs.Common.{◌∙◌}
 use Rattle.pv_promises.specs.Pledge.{bits_of}
-use Rattle.pv_step_lines.proofs.Asked.{first-refused}
+use Rattle.pv_step_lines.proofs.PledgeIncreases.{first-refused}
 use Rattle.pv_step_lines.proofs.reasons.is_first_refused.Goals as goal
 
 pub returns : goal.returns

@@ -1,6 +1,6 @@
 use Rattle.pv_promises.specs.Pledge.{bits_of}
-use Rattle.pv_answers.proofs.Writing.{writes_as}
-use Rattle.pv_step_lines.proofs.Asked.{first-line}
+use Rattle.pv_answers.proofs.WriterContracts.{writes_as}
+use Rattle.pv_step_lines.proofs.PledgeIncreases.{first-line}
 use Rattle.pv_step_lines.proofs.reasons.write_increase.Goals as goal
 
 pub returns-then-is_first_refused : goal.returns-then-is_first_refused

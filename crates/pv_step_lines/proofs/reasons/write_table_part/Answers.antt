@@ -1,5 +1,5 @@
-use Rattle.pv_answers.proofs.Writing.{writes_as, writes_both, writes_failed, writes_longer}
-use Rattle.pv_step_lines.proofs.Remarks.{with-remarks}
+use Rattle.pv_answers.proofs.WriterContracts.{writes_as, writes_both, writes_failed, writes_longer}
+use Rattle.pv_step_lines.proofs.RemarkLines.{with-remarks}
 use Rattle.pv_step_lines.proofs.reasons.write_table_part.Goals as goal
 
 pub returns-in_err-write_line_on : goal.returns-in_err-write_line_on

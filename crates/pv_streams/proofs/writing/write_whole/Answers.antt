@@ -1,5 +1,5 @@
 use Rattle.std.proofs.Common.{◌∙◌, arith}
-use Rattle.pv_streams.proofs.Sinks.{written_more}
+use Rattle.pv_streams.proofs.SinkWrites.{written_more}
 use Rattle.pv_streams.proofs.writing.write_whole.Goals as goal
 
 pub loop-at-preserved : goal.loop-at-preserved

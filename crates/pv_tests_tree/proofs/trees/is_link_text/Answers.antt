@@ -2,7 +2,7 @@ use Rattle.std.proofs.Common.{◌≡◌, true, false, not, ◌==◌, nat_lt, nat
 use Rattle.std.specs.List.{list_all}
 use Rattle.std.proofs.lemmas.Bool.{and_from, ltb-false, le-leb}
 use Rattle.pv_model.specs.Machine.{Bytes, is_empty, is_link_text}
-use Rattle.pv_namei.proofs.Steps.{empty-is}
+use Rattle.pv_namei.proofs.WalkSteps.{empty-is}
 use Rattle.pv_tests_tree.proofs.trees.is_link_text.Goals as goal
 
 text_is : (text : Bytes) → (length text == 0) ≡ false → nat_lt 1023 (length text) ≡ false → list_all (λ b. not (b == 0)) text ≡ true → is_link_text text ≡ true

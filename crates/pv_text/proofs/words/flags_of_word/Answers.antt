@@ -1,10 +1,10 @@
 use Rattle.std.proofs.Common.{sym}
-use Rattle.pv_model.specs.Grammar.Arguments.{flags_of}
+use Rattle.pv_model.specs.Grammar.Arguments.{parsed_flags}
 use Rattle.pv_text.proofs.WordsAndTexts.{something_left}
 use Rattle.pv_text.proofs.words.flags_of_word.Goals as goal
 
 pub returns-in_default : goal.returns-in_default
-unfolding flags_of
+unfolding parsed_flags
 returns-in_default c =
     rw (
       c.in_ok-mode.ensures,

@@ -1,5 +1,5 @@
 use Rattle.pv_trace.specs.Words.{flags_bytes}
-use Rattle.pv_trace.proofs.Flags.{eight_joined}
+use Rattle.pv_trace.proofs.JoinedTexts.{eight_joined}
 use Rattle.pv_trace.proofs.calls.put_flags.Goals as goal
 
 pub returns-clause-text : goal.returns-clause-text

@@ -1,7 +1,7 @@
 use Rattle.std.proofs.Common.{◌∙◌, sym, ap, arith}
 use Rattle.std.specs.List.{list_all}
 use Rattle.pv_model.specs.Machine.{is_plain}
-use Rattle.pv_trace.proofs.Fronts.{component_same, after_component}
+use Rattle.pv_trace.proofs.UnescapedFronts.{component_same, after_component}
 use Rattle.pv_trace.proofs.plain.plain_count.Goals as goal
 
 -- a part is removed from the rest

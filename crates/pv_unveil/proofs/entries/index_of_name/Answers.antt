@@ -3,7 +3,7 @@ use Rattle.std.proofs.lemmas.List.{length-map}
 use Rattle.pv_model.specs.declared.target.Target.TheVariants.{Directory, Name}
 use Rattle.pv_model.specs.Machine.{no_permissions}
 use Rattle.pv_unveil.specs.Keys.{key_of}
-use Rattle.pv_unveil.proofs.KeyLemmas.{found-first, found-end, found-here, other-key, other-name}
+use Rattle.pv_unveil.proofs.EntryKeys.{found-first, found-end, found-here, other-key, other-name}
 use Rattle.pv_unveil.proofs.entries.index_of_name.Goals as goal
 use Rattle.pv_unveil.proofs.entries.index_of_name.Goals.{else-is_name_in-via-then-is_name_in+else-has_name, else-is_name_in-via-else-is_name_in}
 

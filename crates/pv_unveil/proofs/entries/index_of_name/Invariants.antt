@@ -1,7 +1,7 @@
 use Rattle.std.proofs.Common.{◌≡◌}
 use Rattle.pv_model.specs.declared.target.Target.TheVariants.{Name}
 use Rattle.pv_model.specs.Machine.{entry_for}
-use Rattle.pv_unveil.proofs.KeyLemmas.{found_from}
+use Rattle.pv_unveil.proofs.EntryKeys.{found_from}
 use Rattle.pv_unveil.proofs.entries.index_of_name.Given as goal
 
 -- the entry is found from here on

@@ -1,4 +1,4 @@
-use Rattle.pv_unveil.proofs.Climbing.{resolve-directory}
+use Rattle.pv_unveil.proofs.ClimbSteps.{resolve-directory}
 use Rattle.pv_unveil.proofs.law.leads_to_directory.Goals as goal
 
 pub returns : goal.returns

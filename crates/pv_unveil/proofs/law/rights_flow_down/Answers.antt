@@ -1,4 +1,4 @@
-use Rattle.pv_model.proofs.Rights.{rights_agree}
+use Rattle.pv_model.proofs.GoverningEntries.{rights_agree}
 use Rattle.pv_unveil.proofs.law.rights_flow_down.Goals as goal
 
 pub returns : goal.returns

@@ -1,5 +1,5 @@
 use Rattle.std.proofs.Common.{sym, ◌∙◌}
-use Rattle.pv_unveil.proofs.Climbing.{height-smaller, climbed-directory, climbed-own, climbed-above, climbed-root}
+use Rattle.pv_unveil.proofs.ClimbSteps.{height-smaller, climbed-directory, climbed-own, climbed-above, climbed-root}
 use Rattle.pv_unveil.proofs.rights.directory_rights.Goals as goal
 
 pub returns-in-Some-clause-value : goal.returns-in-Some-clause-value

@@ -1,5 +1,5 @@
 use Rattle.std.proofs.Common.{suc}
-use Rattle.pv_unveil.proofs.Climbing.{IsClimbed, height}
+use Rattle.pv_unveil.proofs.ClimbSteps.{IsClimbed, height}
 use Rattle.pv_unveil.proofs.rights.directory_rights.Given as goal
 
 abbrev pub invariant-loop-at : goal.invariant-loop-at

@@ -1,5 +1,5 @@
 use Rattle.std.proofs.Common.{sym}
-use Rattle.pv_unveil.proofs.EntryLemmas.{entry_for-set, permissions_at-set, entry_for-push, permissions_at-push}
+use Rattle.pv_unveil.proofs.EntryNumbers.{entry_for-set, permissions_at-set, entry_for-push, permissions_at-push}
 use Rattle.pv_unveil.proofs.table.put.Goals as goal
 
 pub returns-else-not-covers-clause-number : goal.returns-else-not-covers-clause-number

@@ -1,4 +1,4 @@
-use Rattle.pv_answers.proofs.Writing.{writes_both, writes_failed, writes_longer}
+use Rattle.pv_answers.proofs.WriterContracts.{writes_both, writes_failed, writes_longer}
 use Rattle.pv_answers.proofs.fragments.Tuple2Fragment.write.Goals as goal
 
 pub returns-in_err-write : goal.returns-in_err-write

@@ -1,6 +1,6 @@
 use Rattle.std.proofs.Common.{rules}
 use Rattle.pv_model.specs.Machine.{all_promises}
-use Rattle.pv_answers.proofs.Keywords.{whole-plain, prefix-plain}
+use Rattle.pv_answers.proofs.KeywordTexts.{whole-plain, prefix-plain}
 use Rattle.pv_answers.proofs.lines.KeywordsFragment.write.Goals as goal
 
 pub returns : goal.returns

@@ -1,9 +1,9 @@
 use Rattle.std.proofs.Common.{◌∙◌, ◌+◌, [], ◌∷◌, ◌++◌, drop, ap₂, sym, rules}
 use Rattle.pv_model.specs.Machine.{hex_byte}
 use Rattle.pv_model.specs.Trace.{hex}
-use Rattle.pv_streams.proofs.Reporting.{on_err}
-use Rattle.pv_listing.proofs.Rests.{rest_after, rest_begins}
-use Rattle.pv_answers.proofs.Rows.{part-next}
+use Rattle.pv_streams.proofs.OutputTexts.{on_err}
+use Rattle.pv_listing.proofs.TextRemainders.{rest_after, rest_begins}
+use Rattle.pv_answers.proofs.TextParts.{part-next}
 use Rattle.pv_answers.proofs.numbers.HexFragment.write.Goals as goal
 
 pub returns-in_err-write_whole : goal.returns-in_err-write_whole

@@ -1,15 +1,15 @@
 use Rattle.std.proofs.Common.{◌≡◌, ℕ, ◌+◌, ◌<◌, ◌++◌, ◌∙◌, length, Option, ap, refl, sym, subst, arith, rules}
 use Rattle.pv_model.specs.declared.open_flags.Mode.{Mode}
 use Rattle.pv_model.specs.Machine.{Bytes}
-use Rattle.pv_streams.proofs.Reporting.{on_err}
-use Rattle.pv_listing.proofs.Rests.{LeavesRest, rest_all, rest_after, rest_begins, written_text}
+use Rattle.pv_streams.proofs.OutputTexts.{on_err}
+use Rattle.pv_listing.proofs.TextRemainders.{LeavesRest, rest_all, rest_after, rest_begins, written_text}
 use Rattle.pv_answers.specs.declared.reach.reacher.Reacher.{Reacher}
-use Rattle.pv_answers.specs.Reaching.{all_on, opened_at, process_of, words_on}
-use Rattle.pv_answers.proofs.Opened.{words_from, words-next, words-past}
+use Rattle.pv_answers.specs.Reaching.{all_on, opened_at, reacher_process, words_on}
+use Rattle.pv_answers.proofs.OpenDescriptors.{words_from, words-next, words-past}
 use Rattle.pv_answers.proofs.reach.reacher.write_descriptors_on.Goals as goal
 
 -- the words for a descriptor, and for those after it
-words-split : (x : Reacher) (n d : ℕ) (opened : Option (ℕ × Mode)) → d < length (process_of x).descriptors → opened ≡ opened_at x d
+words-split : (x : Reacher) (n d : ℕ) (opened : Option (ℕ × Mode)) → d < length (reacher_process x).descriptors → opened ≡ opened_at x d
     → words_from x n d ≡ words_on n d opened ++ words_from x n (d + 1)
 words-split x n d opened less is = words-next x n d less ∙ ap (λ o. words_on n d o ++ words_from x n (d + 1)) (sym is)
 

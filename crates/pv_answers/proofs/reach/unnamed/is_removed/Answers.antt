@@ -1,5 +1,5 @@
 use Rattle.std.proofs.Common.{◌∙◌, not, ap, refl}
-use Rattle.pv_answers.proofs.Removed.{removed-by}
+use Rattle.pv_answers.proofs.RemovedDirectories.{removed-by}
 use Rattle.pv_answers.proofs.reach.unnamed.is_removed.Goals as goal
 
 pub returns : goal.returns

@@ -1,7 +1,7 @@
 use Rattle.std.proofs.Common.{◌≡◌}
-use Rattle.pv_listing.proofs.Rests.{LeavesRest}
+use Rattle.pv_listing.proofs.TextRemainders.{LeavesRest}
 use Rattle.pv_answers.specs.Reaching.{absent_lines}
-use Rattle.pv_answers.proofs.Absent.{absent_from}
+use Rattle.pv_answers.proofs.AbsentNameEntries.{absent_from}
 use Rattle.pv_answers.proofs.reach.unnamed.write_absents.Given as goal
 
 abbrev pub invariant-loop-number : goal.invariant-loop-number

@@ -1,6 +1,6 @@
 use Rattle.std.proofs.Common.{arith}
 use Rattle.pv_blocks.specs.BlockSet.{is_member}
-use Rattle.pv_blocks.proofs.Bits.{is_set-with_bit}
+use Rattle.pv_blocks.proofs.BitWords.{is_set-with_bit}
 use Rattle.pv_blocks.proofs.block_set.BlockSet.insert.Goals as goal
 
 pub returns : goal.returns

@@ -1,5 +1,5 @@
 use Rattle.pv_blocks.specs.BlockSet.{is_member}
-use Rattle.pv_blocks.proofs.Bits.{is_set-zeros}
+use Rattle.pv_blocks.proofs.BitWords.{is_set-zeros}
 use Rattle.pv_blocks.proofs.block_set.BlockSet.new.Goals as goal
 
 pub returns : goal.returns

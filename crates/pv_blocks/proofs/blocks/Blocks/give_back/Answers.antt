@@ -1,7 +1,7 @@
 use Rattle.std.proofs.Common.{◌≡◌, ◌≢◌, List, Bool, sym, ap, subst, ◌∙◌, arith}
 use Rattle.std.proofs.lemmas.List.Sums.{count_by-le-length}
-use Rattle.pv_blocks.specs.BlockStore.{BlockStore, blocks_of, free_outside, IsTaken, give_back}
-use Rattle.pv_blocks.proofs.Stores.{length-free_outside, GivesBack, gives_back}
+use Rattle.pv_blocks.specs.BlockStore.{BlockStore, blocks_in_bytes, free_outside, IsTaken, give_back}
+use Rattle.pv_blocks.proofs.BlockStores.{length-free_outside, GivesBack, gives_back}
 use Rattle.pv_blocks.proofs.blocks.Blocks.give_back.Goals as goal
 use Rattle.pv_blocks.proofs.blocks.Blocks.give_back.Goals.{After-remove}
 
@@ -31,5 +31,5 @@ invariant_of-self c =
 pub returns : goal.returns
 returns c =
     let after = given (goal.at.returns c).After-remove in
-    ap (λ (flags : List Bool). record { blocks = blocks_of c.self.inside.count c.self.inside.bytes.items; free = flags; first = c.self.inside.first }) after.flags
+    ap (λ (flags : List Bool). record { blocks = blocks_in_bytes c.self.inside.count c.self.inside.bytes.items; free = flags; first = c.self.inside.first }) after.flags
     ∙ ap (λ (s : BlockStore). give_back s c.args.k) c.self.view_is

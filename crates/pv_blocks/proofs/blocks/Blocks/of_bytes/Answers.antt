@@ -1,7 +1,7 @@
 use Rattle.std.proofs.Common.{◌≡◌, ◌/◌, count_by, sym, ap, ◌∙◌, arith}
 use Rattle.std.proofs.lemmas.List.Sums.{count_by-le-length}
 use Rattle.pv_blocks.specs.BlockStore.{free_from}
-use Rattle.pv_blocks.proofs.Stores.{takes_none, takes_more_used, takes_more_free, free_outside_all, first_taken, length-free_from}
+use Rattle.pv_blocks.proofs.BlockStores.{takes_none, takes_more_used, takes_more_free, free_outside_all, first_taken, length-free_from}
 use Rattle.pv_blocks.proofs.blocks.Blocks.of_bytes.Goals as goal
 use Rattle.pv_blocks.proofs.blocks.Blocks.of_bytes.Goals.{then-contains, else-contains}
 

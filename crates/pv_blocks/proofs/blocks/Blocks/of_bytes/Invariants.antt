@@ -1,6 +1,6 @@
 use Rattle.std.proofs.Common.{◌≡◌, ℕ, ltb}
 use Rattle.pv_blocks.specs.BlockSet.{is_member}
-use Rattle.pv_blocks.proofs.Stores.{TakesUpTo}
+use Rattle.pv_blocks.proofs.BlockStores.{TakesUpTo}
 use Rattle.pv_blocks.proofs.blocks.Blocks.of_bytes.Given as goal
 
 -- the blocks below the first are in the set so far

@@ -1,8 +1,8 @@
 use Rattle.std.proofs.Common.{◌≡◌, ℕ, List, Bool, true, sym, ap, subst, ◌∙◌, inl, inr, arith}
 use Rattle.std.proofs.lemmas.Bool.{cases_eq}
 use Rattle.pv_blocks.specs.BlockSet.{is_member}
-use Rattle.pv_blocks.specs.BlockStore.{BlockStore, blocks_of, IsFree, take}
-use Rattle.pv_blocks.proofs.Stores.{Takes, takes_free}
+use Rattle.pv_blocks.specs.BlockStore.{BlockStore, blocks_in_bytes, IsFree, take}
+use Rattle.pv_blocks.proofs.BlockStores.{Takes, takes_free}
 use Rattle.pv_blocks.proofs.blocks.Blocks.reserve.Goals as goal
 use Rattle.pv_blocks.proofs.blocks.Blocks.reserve.Goals.{After-insert}
 
@@ -28,5 +28,5 @@ invariant_of-self c =
 pub returns : goal.returns
 returns c =
     let after = taken (goal.at.returns c).After-insert in
-    ap (λ (flags : List Bool). record { blocks = blocks_of c.self.inside.count c.self.inside.bytes.items; free = flags; first = c.self.inside.first }) after.flags
+    ap (λ (flags : List Bool). record { blocks = blocks_in_bytes c.self.inside.count c.self.inside.bytes.items; free = flags; first = c.self.inside.first }) after.flags
     ∙ ap (λ (s : BlockStore). take s c.args.k) c.self.view_is

@@ -1,7 +1,7 @@
 use Rattle.std.proofs.Common.{refl, sym, ap, subst, ◌∙◌, inl, inr, arith}
 use Rattle.std.proofs.lemmas.Bool.{cases_lt, true≢false}
 use Rattle.pv_blocks.specs.BlockStore.{BlockStore, free_count, IsFree, take}
-use Rattle.pv_blocks.proofs.Stores.{free_flag, some_free, count-all_taken}
+use Rattle.pv_blocks.proofs.BlockStores.{free_flag, some_free, count-all_taken}
 use Rattle.pv_blocks.proofs.blocks.Blocks.take.Goals as goal
 
 -- each block below `least` is in use, so if the search finds none, none is free

@@ -1,4 +1,4 @@
-use Rattle.pv_calls.proofs.Booting.{fetched-callable}
+use Rattle.pv_calls.proofs.FirstStates.{fetched-callable}
 use Rattle.pv_calls.proofs.kernel.Kernel.fetch.Goals as goal
 
 pub returns-clause-callable : goal.returns-clause-callable

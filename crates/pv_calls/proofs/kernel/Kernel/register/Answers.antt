@@ -1,4 +1,4 @@
-use Rattle.pv_calls.proofs.Booting.{registered-one}
+use Rattle.pv_calls.proofs.FirstStates.{registered-one}
 use Rattle.pv_calls.proofs.kernel.Kernel.register.Goals as goal
 
 pub returns-clause-made : goal.returns-clause-made

@@ -6,11 +6,11 @@ use Rattle.std.proofs.lemmas.Result.{err_from_is_err_and}
 use Rattle.pv_files.specs.Descriptors.{descriptor_under}
 use Rattle.pv_model.specs.declared.errno.Errno.TheVariants.{EBADF}
 use Rattle.pv_model.specs.Machine.{without_descriptor, at_number}
-use Rattle.pv_procs.specs.ProcessTable.{update}
+use Rattle.pv_procs.specs.ProcessTable.{updated_table}
 use Rattle.pv_calls_state.specs.Changes.{with_closed_descriptor}
-use Rattle.pv_calls_state.proofs.Collecting.{one_if}
-use Rattle.pv_calls_state.proofs.Counting.{times-one}
-use Rattle.pv_calls_state.proofs.Changing.{before, started, updated}
+use Rattle.pv_calls_state.proofs.CollectionByCounts.{one_if}
+use Rattle.pv_calls_state.proofs.ReferenceCounting.{times-one}
+use Rattle.pv_calls_state.proofs.ProcessChanges.{before, started, updated}
 use Rattle.pv_calls_state.proofs.Descriptors.{ok-descriptor, times-closed, under-opened, exchanged-up, exchanged-state, close-performed, close-refused}
 use Rattle.pv_calls_state.proofs.parts.Parts.close.Goals as goal
 
@@ -28,7 +28,7 @@ invariant_of-self-2 c =
     (ap (λ z. ok_or (option_map (λ e. e.file) (descriptor_under p.0.descriptors z)) EBADF) (sym (to_z-of_z w32 c.args.d c.ranges.d)) ∙ sym (c.in_ok-file.ensures.file p.0 p.1.at)) in
     let gone = c.release.ensures in
     exchanged-up c.self.inside.tree c.self.inside.files c.self.inside.processes c.args.pid p.0 p.1 c.release.new.tree c.release.new.files c.close_descriptor.new.processes (without_descriptor p.0.descriptors c.args.d)
-    (c.in_ok-file.ensures.closed ∙ ap (λ z. update c.self.inside.processes c.args.pid (with_closed_descriptor z)) (to_z-of_z w32 c.args.d c.ranges.d)
+    (c.in_ok-file.ensures.closed ∙ ap (λ z. updated_table c.self.inside.processes c.args.pid (with_closed_descriptor z)) (to_z-of_z w32 c.args.d c.ranges.d)
     ∙ updated c.self.inside.tree c.self.inside.files c.self.inside.processes c.args.pid p.0 p.1 (with_closed_descriptor c.args.d))
     (λ k. omega (arith, gone.users k, times-one k c.in_ok-file.file, times-closed k p.0.descriptors c.args.d found.0 found.1, ap (λ f. one_if f k) found.2))
     gone.holds
@@ -41,7 +41,7 @@ returns-clause-performed c me at =
     let gone = c.release.ensures in
     close-performed c.args.self.now c.args.pid me c.args.d found.0 found.1 _
     (exchanged-state c.self.inside.tree c.self.inside.files c.self.inside.processes c.args.pid me is c.release.new.tree c.release.new.files c.close_descriptor.new.processes (without_descriptor me.descriptors c.args.d)
-    (c.in_ok-file.ensures.closed ∙ ap (λ z. update c.self.inside.processes c.args.pid (with_closed_descriptor z)) (to_z-of_z w32 c.args.d c.ranges.d)
+    (c.in_ok-file.ensures.closed ∙ ap (λ z. updated_table c.self.inside.processes c.args.pid (with_closed_descriptor z)) (to_z-of_z w32 c.args.d c.ranges.d)
     ∙ updated c.self.inside.tree c.self.inside.files c.self.inside.processes c.args.pid me is (with_closed_descriptor c.args.d))
     (λ k. omega (arith, gone.users k, times-one k c.in_ok-file.file, times-closed k me.descriptors c.args.d found.0 found.1, ap (λ f. one_if f k) found.2))
     gone.holds c.args.self.now c.self.view_is c.invariant-3.ensures gone.nodes gone.files)

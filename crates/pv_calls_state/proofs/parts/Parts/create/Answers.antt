@@ -2,13 +2,13 @@
 use Rattle.std.proofs.Common.{ap, sym, subst, ◌∙◌, arith, rules}
 use Rattle.std.proofs.lemmas.Result.{IfErr-weaker}
 use Rattle.pv_model.specs.Machine.{least_free, State, process_at, Tree, new_number, with_new_node, with_open_file, collect}
-use Rattle.pv_calls_state.proofs.Changing.{before, started}
+use Rattle.pv_calls_state.proofs.ProcessChanges.{before, started}
 use Rattle.pv_model.specs.declared.kind.NewNode.TheVariants.{File}
 use Rattle.pv_procs.specs.OfTree.Changes.{new_node}
 use Rattle.pv_calls_state.specs.Opening.{CanOpen, IsLeastDescriptor}
 use Rattle.pv_procs.specs.OfTree.Holding.{HeldTree}
-use Rattle.pv_procs.specs.OfTree.Rooms.{refusal}
-use Rattle.pv_calls_state.proofs.Opening.{made-tree, open-few, opened-up, opened-state}
+use Rattle.pv_procs.specs.OfTree.Rooms.{room_error}
+use Rattle.pv_calls_state.proofs.OpenedNodes.{made-tree, open-few, opened-up, opened-state}
 use Rattle.pv_calls_state.proofs.parts.Parts.create.Goals as goal
 
 pub open_node-number-requires-clause-few : goal.open_node-number-requires-clause-few
@@ -46,8 +46,8 @@ returns-in_err-node-clause-lacks_room c =
     IfErr-weaker c.from_residual.result _ _
     (λ why no_room. record {
       refused = λ me at.
-          ap refusal (made-tree s c.args.pid me c.requires.whole at c.args.flags c.args.directory c.args.name.now c.requires.directory.0 c.requires.absent c.requires.room.file (c.requires.room.descriptor me at))
-          ∙ ap (λ (x : State). refusal (with_new_node x.tree c.args.directory c.args.name.now (new_node File))) (sym c.self.view_is) ∙ no_room;
+          ap room_error (made-tree s c.args.pid me c.requires.whole at c.args.flags c.args.directory c.args.name.now c.requires.directory.0 c.requires.absent c.requires.room.file (c.requires.room.descriptor me at))
+          ∙ ap (λ (x : State). room_error (with_new_node x.tree c.args.directory c.args.name.now (new_node File))) (sym c.self.view_is) ∙ no_room;
       unchanged = rw c.in_err-node.ensures.change.err c.self.view_is;
     })
     (search rules)

@@ -6,13 +6,13 @@ use Rattle.std.proofs.lemmas.Int.{to_z-of_z}
 use Rattle.pv_files.specs.Descriptors.{descriptor_under}
 use Rattle.pv_model.specs.declared.errno.Errno.TheVariants.{EBADF}
 use Rattle.pv_model.specs.Machine.{Numbered, at_number, with_number, least_free, Descriptor}
-use Rattle.pv_procs.specs.ProcessTable.{with_process}
+use Rattle.pv_procs.specs.ProcessTable.{table_with_process}
 use Rattle.pv_calls_state.specs.Changes.{with_opened_descriptor}
 use Rattle.pv_calls_state.specs.Counts.{times, open_nodes}
 use Rattle.pv_procs.specs.OfTree.Holding.{holds_at}
-use Rattle.pv_calls_state.proofs.Collecting.{one_if}
-use Rattle.pv_calls_state.proofs.Changing.{before, started, owned, updated, few-users}
-use Rattle.pv_calls_state.proofs.Sharing.{one-more}
+use Rattle.pv_calls_state.proofs.CollectionByCounts.{one_if}
+use Rattle.pv_calls_state.proofs.ProcessChanges.{before, started, owned, updated, few-users}
+use Rattle.pv_calls_state.proofs.AddedUsers.{one-more}
 use Rattle.pv_calls_state.proofs.Descriptors.{ok-descriptor, times-given, under-opened, exchanged-up, exchanged-state, dup-performed}
 use Rattle.pv_calls_state.proofs.parts.Parts.dup.Goals as goal
 
@@ -42,7 +42,7 @@ invariant_of-self-2 c =
     let given : Numbered Descriptor = with_number p.0.descriptors (least_free p.0.descriptors) (record { file = found.0.file; close_on_exec = false }) in
     exchanged-up c.self.inside.tree c.self.inside.files c.self.inside.processes c.args.pid p.0 p.1 c.self.inside.tree c.dup.new.self c.give_descriptor.new.processes given
     (c.in_ok-number.ensures.given ∙ updated c.self.inside.tree c.self.inside.files c.self.inside.processes c.args.pid p.0 p.1 (with_opened_descriptor c.in_ok-file.file false)
-    ∙ ap (λ f. with_process c.self.inside.processes c.args.pid (with_opened_descriptor f false p.0)) (sym found.2))
+    ∙ ap (λ f. table_with_process c.self.inside.processes c.args.pid (with_opened_descriptor f false p.0)) (sym found.2))
     (λ k. omega (
       arith,
       one-more c.self.inside.files c.dup.new.self c.in_ok-file.file c.invariant-2.ensures there c.dup.ensures k,
@@ -64,7 +64,7 @@ returns-clause-performed c me at =
     (c.in_ok-number.ensures.number me is.at) c.in_ok-number.ensures.in_range c.from.ensures
     (exchanged-state c.self.inside.tree c.self.inside.files c.self.inside.processes c.args.pid me is c.self.inside.tree c.dup.new.self c.give_descriptor.new.processes given
     (c.in_ok-number.ensures.given ∙ updated c.self.inside.tree c.self.inside.files c.self.inside.processes c.args.pid me is (with_opened_descriptor c.in_ok-file.file false)
-    ∙ ap (λ f. with_process c.self.inside.processes c.args.pid (with_opened_descriptor f false me)) (sym found.2))
+    ∙ ap (λ f. table_with_process c.self.inside.processes c.args.pid (with_opened_descriptor f false me)) (sym found.2))
     (λ k. omega (
       arith,
       one-more c.self.inside.files c.dup.new.self c.in_ok-file.file c.invariant-2.ensures there c.dup.ensures k,

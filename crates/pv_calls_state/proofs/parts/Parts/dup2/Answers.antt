@@ -7,12 +7,12 @@ use mir.Val.{of_z}
 use Rattle.pv_files.specs.Descriptors.{descriptor_under}
 use Rattle.pv_model.specs.declared.errno.Errno.TheVariants.{EBADF}
 use Rattle.pv_model.specs.Machine.{within, Numbered, at_number, with_number, Descriptor}
-use Rattle.pv_procs.specs.ProcessTable.{with_process}
+use Rattle.pv_procs.specs.ProcessTable.{table_with_process}
 use Rattle.pv_calls_state.specs.Changes.{with_descriptor_at}
 use Rattle.pv_calls_state.specs.Counts.{times, open_nodes}
-use Rattle.pv_calls_state.proofs.Collecting.{one_if}
-use Rattle.pv_calls_state.proofs.Changing.{before, started, owned, updated, few-users}
-use Rattle.pv_calls_state.proofs.Sharing.{one-more}
+use Rattle.pv_calls_state.proofs.CollectionByCounts.{one_if}
+use Rattle.pv_calls_state.proofs.ProcessChanges.{before, started, owned, updated, few-users}
+use Rattle.pv_calls_state.proofs.AddedUsers.{one-more}
 use Rattle.pv_calls_state.proofs.Descriptors.{ok-descriptor, times-set, under-opened, left-opened, exchanged-up, exchanged-state, dup2-performed, other-number}
 use Rattle.pv_calls_state.proofs.parts.Parts.dup2.Goals as goal
 
@@ -51,7 +51,7 @@ invariant_of-self c =
     let gone = c.release_some.ensures in
     exchanged-up c.self.inside.tree c.self.inside.files c.self.inside.processes c.args.pid p.0 p.1 c.release_some.new.tree c.release_some.new.files c.set_descriptor.new.processes given
     (c.set_descriptor.ensures ∙ updated c.self.inside.tree c.self.inside.files c.self.inside.processes c.args.pid p.0 p.1 (with_descriptor_at c.in-Some.number c.in_ok-file.file)
-    ∙ ap (λ f. with_process c.self.inside.processes c.args.pid (with_descriptor_at c.in-Some.number f p.0)) (sym found.2))
+    ∙ ap (λ f. table_with_process c.self.inside.processes c.args.pid (with_descriptor_at c.in-Some.number f p.0)) (sym found.2))
     (λ k. omega (
       arith,
       one-more c.self.inside.files c.dup.new.self c.in_ok-file.file c.invariant-2.ensures there c.dup.ensures k,
@@ -77,7 +77,7 @@ returns-clause-performed c me at =
     there-number (other-number c.args.d c.args.e c.in-Some.number there-number (λ same. c.if-d-e.false (ap (of_z w32) same))) c.from-2.ensures
     (exchanged-state c.self.inside.tree c.self.inside.files c.self.inside.processes c.args.pid me is c.release_some.new.tree c.release_some.new.files c.set_descriptor.new.processes given
     (c.set_descriptor.ensures ∙ updated c.self.inside.tree c.self.inside.files c.self.inside.processes c.args.pid me is (with_descriptor_at c.in-Some.number c.in_ok-file.file)
-    ∙ ap (λ f. with_process c.self.inside.processes c.args.pid (with_descriptor_at c.in-Some.number f me)) (sym found.2))
+    ∙ ap (λ f. table_with_process c.self.inside.processes c.args.pid (with_descriptor_at c.in-Some.number f me)) (sym found.2))
     (λ k. omega (
       arith,
       one-more c.self.inside.files c.dup.new.self c.in_ok-file.file c.invariant-2.ensures there c.dup.ensures k,

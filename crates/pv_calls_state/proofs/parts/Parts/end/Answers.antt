@@ -4,9 +4,9 @@ use Rattle.pv_procs.specs.OfTree.Holding.{holds_at, collected}
 use Rattle.pv_procs.specs.declared.record.ProcessRecord.{ProcessRecord as Owned}
 use Rattle.pv_calls_state.specs.Counts.{times}
 use Rattle.pv_calls_state.specs.Releasing.{files_on}
-use Rattle.pv_calls_state.proofs.Counting.{one-apart}
-use Rattle.pv_calls_state.proofs.Changing.{before, started, owned}
-use Rattle.pv_calls_state.proofs.Ends.{then-nodes, end-used, end-targets, end-directory, end-holds, ended-up, ended-state}
+use Rattle.pv_calls_state.proofs.ReferenceCounting.{one-apart}
+use Rattle.pv_calls_state.proofs.ProcessChanges.{before, started, owned}
+use Rattle.pv_calls_state.proofs.ProcessEnds.{then-nodes, end-used, end-targets, end-directory, end-holds, ended-up, ended-state}
 use Rattle.pv_calls_state.proofs.parts.Parts.end.Goals as goal
 
 pub release_all-requires-clause-used : goal.release_all-requires-clause-used

@@ -2,9 +2,9 @@
 use Rattle.std.proofs.Common.{refl, sym, subst, ◌∙◌}
 use Rattle.std.specs.Prelude.{IsSome}
 use Rattle.pv_procs.specs.OfTree.Holding.{holds_at}
-use Rattle.pv_calls_state.proofs.Counting.{one-apart}
-use Rattle.pv_calls_state.proofs.Changing.{before, started}
-use Rattle.pv_calls_state.proofs.Ends.{born, child-owned, child-there, child-few, child-targets, child-room, child-opened, child-users, forked-up, fork-performed}
+use Rattle.pv_calls_state.proofs.ReferenceCounting.{one-apart}
+use Rattle.pv_calls_state.proofs.ProcessChanges.{before, started}
+use Rattle.pv_calls_state.proofs.ProcessEnds.{born, child-owned, child-there, child-few, child-targets, child-room, child-opened, child-users, forked-up, fork-performed}
 use Rattle.pv_calls_state.proofs.parts.Parts.fork.Goals as goal
 
 pub record-record-requires : goal.record-record-requires

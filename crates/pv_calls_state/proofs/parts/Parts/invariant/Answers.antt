@@ -1,6 +1,6 @@
 use Rattle.std.proofs.Common.{◌∙◌, ap, sym}
 use Rattle.pv_model.specs.Machine.{collect}
-use Rattle.pv_calls_state.proofs.Collecting.{collect-none}
+use Rattle.pv_calls_state.proofs.CollectionByCounts.{collect-none}
 use Rattle.pv_calls_state.proofs.parts.Parts.invariant.Goals as goal
 
 pub returns-clause-collected : goal.returns-clause-collected

@@ -1,5 +1,5 @@
 use Rattle.pv_model.specs.Machine.{Tree, with_entry}
-use Rattle.pv_calls_state.proofs.Growing.{preserved-seen, ordered-seen, grown-outcome, preserved-entry}
+use Rattle.pv_calls_state.proofs.TreeChanges.{preserved-seen, ordered-seen, grown-outcome, preserved-entry}
 use Rattle.pv_calls_state.proofs.parts.Parts.link.Goals as goal
 
 pub returns : goal.returns

@@ -3,8 +3,8 @@ use Rattle.std.proofs.Common.{ap, sym, ◌∙◌}
 use Rattle.pv_procs.specs.declared.record.ProcessRecord.{ProcessRecord as Owned}
 use Rattle.std.specs.Prelude.{is_some}
 use Rattle.pv_model.specs.Machine.{with_program, collect}
-use Rattle.pv_calls_state.proofs.Changing.{started, owned, updated, state-updated}
-use Rattle.pv_calls_state.proofs.Ends.{load-used, end-targets, load-up, load-state}
+use Rattle.pv_calls_state.proofs.ProcessChanges.{started, owned, updated, state-updated}
+use Rattle.pv_calls_state.proofs.ProcessEnds.{load-used, end-targets, load-up, load-state}
 use Rattle.pv_calls_state.proofs.parts.Parts.load.Goals as goal
 
 pub release_marked-requires-clause-used : goal.release_marked-requires-clause-used

@@ -3,7 +3,7 @@ use Rattle.std.proofs.lemmas.Result.{err_from_is_err_and}
 use Rattle.pv_model.specs.Machine.{Tree, with_new_node}
 use Rattle.pv_procs.specs.OfTree.Changes.{new_node}
 use Rattle.pv_procs.specs.OfTree.Holding.{collected}
-use Rattle.pv_calls_state.proofs.Growing.{preserved-seen, preserved-made, grown-ok, grown-err}
+use Rattle.pv_calls_state.proofs.TreeChanges.{preserved-seen, preserved-made, grown-ok, grown-err}
 use Rattle.pv_calls_state.proofs.parts.Parts.make.Goals as goal
 use Rattle.pv_calls_state.proofs.parts.Parts.make.Goals.{After-make}
 

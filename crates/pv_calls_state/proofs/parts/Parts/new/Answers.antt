@@ -3,7 +3,7 @@ use Rattle.pv_calls_state.specs.Counts.{IsCountedUp}
 use Rattle.pv_files.specs.Counted.{no_files}
 use Rattle.pv_model.specs.Machine.{root}
 use Rattle.pv_procs.specs.OfTree.Holding.{HeldTree, IsUnheld}
-use Rattle.pv_calls_state.proofs.Prefix.{first-counted}
+use Rattle.pv_calls_state.proofs.FirstCounts.{first-counted}
 use Rattle.pv_calls_state.proofs.parts.Parts.new.Goals as goal
 
 pub invariant_of-result : goal.invariant_of-result

@@ -2,10 +2,10 @@
 use Rattle.std.proofs.Common.{ap, sym, subst, ◌∙◌, arith}
 use Rattle.std.specs.Prelude.{IsSome, IsTrue}
 use Rattle.pv_model.specs.Machine.{is_file, least_free, State, process_at, node_at}
-use Rattle.pv_calls_state.proofs.Changing.{before, started}
+use Rattle.pv_calls_state.proofs.ProcessChanges.{before, started}
 use Rattle.pv_calls_state.specs.Changes.{tree_for_open}
 use Rattle.pv_calls_state.specs.Opening.{CanOpen}
-use Rattle.pv_calls_state.proofs.Opening.{cut-there, open-few, opened-up, opened-state}
+use Rattle.pv_calls_state.proofs.OpenedNodes.{cut-there, open-few, opened-up, opened-state}
 use Rattle.pv_calls_state.proofs.parts.Parts.open.Goals as goal
 
 pub open_node-number-requires-clause-there : goal.open_node-number-requires-clause-there

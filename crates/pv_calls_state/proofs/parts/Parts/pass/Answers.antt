@@ -1,4 +1,4 @@
-use Rattle.pv_calls_state.proofs.Alone.{counted-passed, passed-is}
+use Rattle.pv_calls_state.proofs.UncountedChanges.{counted-passed, passed-is}
 use Rattle.pv_calls_state.proofs.parts.Parts.pass.Goals as goal
 
 pub invariant_of-self : goal.invariant_of-self

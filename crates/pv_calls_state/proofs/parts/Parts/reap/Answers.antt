@@ -1,12 +1,12 @@
 use Rattle.std.proofs.Common.{◌≡◌, ◌+◌, Some, is_some, ap, sym, ◌∙◌}
-use Rattle.pv_calls_state.specs.Attempts.{collected}
+use Rattle.pv_calls_state.specs.Attempts.{collected_attempt}
 use Rattle.pv_calls_state.specs.Counts.{state_of, times, open_nodes, IsCountedUp}
 use Rattle.pv_model.specs.Machine.{wait, used_files, held_by_process, Process, State, process_at}
 use Rattle.pv_procs.specs.declared.processes.Reap.TheVariants.{NoChild}
 use Rattle.pv_procs.specs.ProcessTable.{process_in}
-use Rattle.pv_calls_state.proofs.Alone.{some-at}
-use Rattle.pv_calls_state.proofs.Reaping.{reap-same, reap-blocked, collected-waited}
-use Rattle.pv_calls_state.proofs.Collecting.{collect-none}
+use Rattle.pv_calls_state.proofs.UncountedChanges.{some-at}
+use Rattle.pv_calls_state.proofs.ReapedChildren.{reap-same, reap-blocked, collected_attempt-waited}
+use Rattle.pv_calls_state.proofs.CollectionByCounts.{collect-none}
 use Rattle.pv_calls_state.proofs.parts.Parts.reap.Goals as goal
 use Rattle.pv_calls_state.proofs.parts.Parts.reap.Goals.{After-reap}
 
@@ -34,8 +34,8 @@ pub returns-clause-performed : goal.returns-clause-performed
 returns-clause-performed c = λ p at.
     let i = c.self.inside in
     let after = state_of i.tree i.files c.reap.new.self in
-    ap (λ s. collected (wait s c.args.pid p)) (sym c.self.view_is) ∙ ap collected (c.reap.ensures.waited i.tree.tree i.files.files p)
-    ∙ collected-waited c.reap.result after (collect-none i.tree i.files c.reap.new.self (counted c) c.invariant-2.ensures c.invariant.ensures)
+    ap (λ s. collected_attempt (wait s c.args.pid p)) (sym c.self.view_is) ∙ ap collected_attempt (c.reap.ensures.waited i.tree.tree i.files.files p)
+    ∙ collected_attempt-waited c.reap.result after (collect-none i.tree i.files c.reap.new.self (counted c) c.invariant-2.ensures c.invariant.ensures)
 
 pub returns-clause-blocked : goal.returns-clause-blocked
 returns-clause-blocked c = λ none.

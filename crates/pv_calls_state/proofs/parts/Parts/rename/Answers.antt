@@ -1,5 +1,5 @@
 use Rattle.pv_procs.specs.OfTree.Changes.{moved}
-use Rattle.pv_calls_state.proofs.Growing.{after-outcome}
+use Rattle.pv_calls_state.proofs.TreeChanges.{after-outcome}
 use Rattle.pv_calls_state.proofs.parts.Parts.rename.Goals as goal
 
 pub returns : goal.returns

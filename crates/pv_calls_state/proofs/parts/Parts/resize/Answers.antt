@@ -1,12 +1,12 @@
 use Rattle.std.proofs.Common.{◌≡◌}
-use Rattle.pv_procs.specs.OfTree.Changes.{resized}
+use Rattle.pv_procs.specs.OfTree.Changes.{resized_tree}
 use Rattle.pv_model.specs.Machine.{Tree}
 use Rattle.pv_procs.specs.OfTree.Holding.{collected}
-use Rattle.pv_calls_state.proofs.Growing.{preserved-seen, ordered-seen, grown-outcome, preserved-content}
+use Rattle.pv_calls_state.proofs.TreeChanges.{preserved-seen, ordered-seen, grown-outcome, preserved-content}
 use Rattle.pv_calls_state.proofs.parts.Parts.resize.Goals as goal
 
 abbrev change : (c : goal.After-cut) → Tree → Tree
-change c t = resized t c.args.node c.args.size
+change c t = resized_tree t c.args.node c.args.size
 
 preserved : (c : goal.After-cut) → collected (change c c.args.self.now.tree) c.self.inside.tree.holds ≡ change c c.args.self.now.tree
 preserved c =

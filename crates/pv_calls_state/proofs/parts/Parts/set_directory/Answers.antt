@@ -3,8 +3,8 @@ use Rattle.std.proofs.Common.{refl, ap, sym, ◌∙◌, arith}
 use Rattle.pv_model.specs.Machine.{collect}
 use Rattle.pv_procs.specs.OfTree.Holding.{holds_at, collected}
 use Rattle.pv_calls_state.specs.Changes.{with_directory}
-use Rattle.pv_calls_state.proofs.Counting.{one-apart}
-use Rattle.pv_calls_state.proofs.Changing.{started, owned, updated, few-holds, left-held, moved-holds, counted-changed, collected-changed, state-updated}
+use Rattle.pv_calls_state.proofs.ReferenceCounting.{one-apart}
+use Rattle.pv_calls_state.proofs.ProcessChanges.{started, owned, updated, few-holds, left-held, moved-holds, counted-changed, collected-changed, state-updated}
 use Rattle.pv_calls_state.proofs.parts.Parts.set_directory.Goals as goal
 
 pub hold-requires-clause-few : goal.hold-requires-clause-few

@@ -1,5 +1,5 @@
 use Rattle.std.proofs.Common.{refl}
-use Rattle.pv_calls_state.proofs.Alone.{counted-changed}
+use Rattle.pv_calls_state.proofs.UncountedChanges.{counted-changed}
 use Rattle.pv_calls_state.proofs.parts.Parts.set_offset.Goals as goal
 
 pub invariant_of-self : goal.invariant_of-self

@@ -1,4 +1,4 @@
-use Rattle.pv_calls_state.proofs.Alone.{counted-registered, registered-is}
+use Rattle.pv_calls_state.proofs.UncountedChanges.{counted-registered, registered-is}
 use Rattle.pv_calls_state.proofs.parts.Parts.step_or_fetch.Goals as goal
 
 pub invariant_of-self : goal.invariant_of-self

@@ -1,5 +1,5 @@
 use Rattle.pv_model.specs.Machine.{without_entry}
-use Rattle.pv_calls_state.proofs.Growing.{after-changed}
+use Rattle.pv_calls_state.proofs.TreeChanges.{after-changed}
 use Rattle.pv_calls_state.proofs.parts.Parts.unlink.Goals as goal
 
 pub returns : goal.returns

@@ -1,7 +1,7 @@
 -- The directory of a new entry gets one more reference.
 use Rattle.std.proofs.Common.{arith}
-use Rattle.pv_calls_state.proofs.Adding.{added-up, added-state}
-use Rattle.pv_calls_state.proofs.Changing.{before, started, few-holds}
+use Rattle.pv_calls_state.proofs.AddedTableEntries.{added-up, added-state}
+use Rattle.pv_calls_state.proofs.ProcessChanges.{before, started, few-holds}
 use Rattle.pv_calls_state.proofs.parts.Parts.unveil.Goals as goal
 
 pub hold_if-requires-clause-few : goal.hold_if-requires-clause-few

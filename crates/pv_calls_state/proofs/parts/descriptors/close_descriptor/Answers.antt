@@ -6,8 +6,8 @@ use Rattle.pv_files.specs.Descriptors.{descriptor_under}
 use Rattle.pv_model.specs.declared.errno.Errno.TheVariants.{EBADF}
 use Rattle.pv_model.specs.Machine.{without_descriptor}
 use Rattle.pv_procs.specs.ProcessTable.{process_in}
-use Rattle.pv_calls_state.proofs.Alone.{lent-is}
-use Rattle.pv_calls_state.proofs.Owned.{same-owned, other-descriptors}
+use Rattle.pv_calls_state.proofs.UncountedChanges.{lent-is}
+use Rattle.pv_calls_state.proofs.BorrowedRecords.{same-owned, other-descriptors}
 use Rattle.pv_calls_state.proofs.parts.descriptors.close_descriptor.Goals as goal
 
 pub returns-clause-file : goal.returns-clause-file

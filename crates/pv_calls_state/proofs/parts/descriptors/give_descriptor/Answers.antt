@@ -2,8 +2,8 @@ use Rattle.std.proofs.Common.{ap, sym, ◌∙◌}
 use Rattle.std.proofs.lemmas.Result.{IfOk-weaker, on_err_weaker}
 use Rattle.pv_model.specs.Machine.{with_number, least_free}
 use Rattle.pv_procs.specs.ProcessTable.{process_in}
-use Rattle.pv_calls_state.proofs.Alone.{lent-is}
-use Rattle.pv_calls_state.proofs.Owned.{same-owned, other-descriptors, given-least}
+use Rattle.pv_calls_state.proofs.UncountedChanges.{lent-is}
+use Rattle.pv_calls_state.proofs.BorrowedRecords.{same-owned, other-descriptors, given-least}
 use Rattle.pv_calls_state.proofs.parts.descriptors.give_descriptor.Goals as goal
 
 pub returns-clause-number : goal.returns-clause-number

@@ -2,7 +2,7 @@
 use Rattle.std.proofs.Common.{◌≡◌, refl, ap, sym, ◌∙◌, arith}
 use Rattle.pv_procs.specs.OfTree.Holding.{collected}
 use Rattle.std.specs.Prelude.{slice_index}
-use Rattle.pv_calls_state.proofs.Releasing.{open-held, releases-closes}
+use Rattle.pv_calls_state.proofs.RemovedUsers.{open-held, releases-closes}
 use Rattle.pv_calls_state.proofs.parts.descriptors.release.Goals as goal
 
 pub unreference-requires : goal.unreference-requires

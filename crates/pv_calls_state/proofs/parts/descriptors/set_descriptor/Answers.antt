@@ -1,6 +1,6 @@
 use Rattle.std.proofs.Common.{false}
 use Rattle.pv_model.specs.Machine.{with_number}
-use Rattle.pv_calls_state.proofs.Owned.{other-descriptors}
+use Rattle.pv_calls_state.proofs.BorrowedRecords.{other-descriptors}
 use Rattle.pv_calls_state.proofs.parts.descriptors.set_descriptor.Goals as goal
 
 pub returns : goal.returns

@@ -1,6 +1,6 @@
 -- The directory of each target exists and gets one more reference.
 use Rattle.std.proofs.Common.{◌∙◌}
-use Rattle.pv_calls_state.proofs.Targets.{hold-there, hold-few, hold-next}
+use Rattle.pv_calls_state.proofs.TargetDirectories.{hold-there, hold-few, hold-next}
 use Rattle.pv_calls_state.proofs.parts.ending.hold_targets.Goals as goal
 
 pub hold-requires-clause-node : goal.hold-requires-clause-node

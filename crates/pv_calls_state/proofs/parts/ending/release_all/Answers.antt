@@ -1,7 +1,7 @@
 -- The open file of each descriptor has a user, which is removed.
 use Rattle.std.proofs.Common.{◌+◌, drop, sym, ◌∙◌}
 use Rattle.pv_calls_state.specs.Releasing.{files_on}
-use Rattle.pv_calls_state.proofs.Releasing.{still-used, releases-next, releases-nothing, releases-as}
+use Rattle.pv_calls_state.proofs.RemovedUsers.{still-used, releases-next, releases-nothing, releases-as}
 use Rattle.pv_calls_state.proofs.parts.ending.release_all.Goals as goal
 use Rattle.pv_calls_state.proofs.parts.ending.release_all.Goals.{in-Some, in_default}
 

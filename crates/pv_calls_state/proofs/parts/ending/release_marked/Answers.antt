@@ -2,7 +2,7 @@
 use Rattle.std.proofs.Common.{◌+◌, drop, ap, sym, ◌∙◌}
 use Rattle.std.specs.Prelude.{option_map}
 use Rattle.pv_calls_state.specs.Releasing.{files_on, marked_of}
-use Rattle.pv_calls_state.proofs.Releasing.{of_file, marked-at, still-used, releases-next, releases-nothing, releases-as}
+use Rattle.pv_calls_state.proofs.RemovedUsers.{of_file, marked-at, still-used, releases-next, releases-nothing, releases-as}
 use Rattle.pv_calls_state.proofs.parts.ending.release_marked.Goals as goal
 use Rattle.pv_calls_state.proofs.parts.ending.release_marked.Goals.{in-Some, in_default}
 

@@ -2,7 +2,7 @@
 use Rattle.std.proofs.Common.{drop, ◌+◌, sym, subst, ◌∙◌}
 use Rattle.pv_calls_state.specs.Releasing.{files_on, Shares}
 use Rattle.pv_files.specs.Counted.{Counted}
-use Rattle.pv_calls_state.proofs.Sharing.{share-opened, share-room, shares-next, shares-nothing}
+use Rattle.pv_calls_state.proofs.AddedUsers.{share-opened, share-room, shares-next, shares-nothing}
 use Rattle.pv_calls_state.proofs.parts.ending.share.Goals as goal
 use Rattle.pv_calls_state.proofs.parts.ending.share.Goals.{in-Some, in_default}
 

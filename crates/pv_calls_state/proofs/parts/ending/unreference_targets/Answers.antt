@@ -1,7 +1,7 @@
 -- The directory of each target has a reference, which is removed.
 use Rattle.std.proofs.Common.{◌∙◌, ap, sym}
 use Rattle.pv_procs.specs.OfTree.Holding.{collected}
-use Rattle.pv_calls_state.proofs.Targets.{go-held, go-next, go-nodes}
+use Rattle.pv_calls_state.proofs.TargetDirectories.{go-held, go-next, go-nodes}
 use Rattle.pv_calls_state.proofs.parts.ending.unreference_targets.Goals as goal
 
 pub unreference-requires : goal.unreference-requires

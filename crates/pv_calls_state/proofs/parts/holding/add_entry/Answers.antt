@@ -1,6 +1,6 @@
 use Rattle.std.proofs.Common.{ap}
 use Rattle.std.proofs.lemmas.Result.{on_err_weaker}
-use Rattle.pv_calls_state.proofs.Owned.{same-owned}
+use Rattle.pv_calls_state.proofs.BorrowedRecords.{same-owned}
 use Rattle.pv_calls_state.proofs.parts.holding.add_entry.Goals as goal
 
 pub returns-clause-unchanged : goal.returns-clause-unchanged

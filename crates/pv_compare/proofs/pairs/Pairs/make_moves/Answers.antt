@@ -1,7 +1,7 @@
 use Rattle.std.proofs.Common.{◌∙◌, ap, get_or, subst, sym, List, None, ℕ}
-use Rattle.pv_compare.specs.Pairs.{AreMoved, IsMoved, pair_in, pairs_of}
-use Rattle.pv_compare.proofs.Looped.{moves-end, moves-none, moves-some, moves-start, witness-there}
-use Rattle.pv_compare.proofs.Stepped.{counted}
+use Rattle.pv_compare.specs.Pairs.{ComparesSteps, ComparesStep, pair_in, pairs_of}
+use Rattle.pv_compare.proofs.PairLoops.{moves-end, moves-none, moves-some, moves-start, witness-there}
+use Rattle.pv_compare.proofs.StepsOfPairs.{counted}
 use Rattle.pv_model.specs.Machine.{pair_moves, program_of}
 use Rattle.pv_model.specs.Answers.Compare.{live_in_either}
 use Rattle.pv_compare.proofs.pairs.Pairs.make_moves.Goals as goal
@@ -24,8 +24,8 @@ pub returns-then-is_some-clause-moved : goal.returns-then-is_some-clause-moved
 returns-then-is_some-clause-moved c =
     let witness = c.in_ok-witness.witness.items in
     let live_is = c.as_slice-live.ensures.value ∙ c.in_ok-pids.ensures.live ∙ ap (λ (w : List ℕ). live_in_either (pair_in (pairs_of c.args.self.now) w).states) c.deref.ensures.value in
-    let moved = subst (λ (w : List ℕ). IsMoved c.args.limit c.loop-pid.self c.make_move.new.self w (get_or c.as_slice-live.result.now c.loop-pid.pid-index 0) c.in_ok-found.found) c.deref-in-loop-pid.ensures.value c.in_ok-found.ensures.moved in
-    subst (λ (w : List ℕ). AreMoved c.args.limit c.args.self.now c.make_move.new.self (pair_moves program_of (pair_in (pairs_of c.args.self.now) w)) c.in_ok-found.found) c.in_ok-witness.ensures
+    let moved = subst (λ (w : List ℕ). ComparesStep c.args.limit c.loop-pid.self c.make_move.new.self w (get_or c.as_slice-live.result.now c.loop-pid.pid-index 0) c.in_ok-found.found) c.deref-in-loop-pid.ensures.value c.in_ok-found.ensures.moved in
+    subst (λ (w : List ℕ). ComparesSteps c.args.limit c.args.self.now c.make_move.new.self (pair_moves program_of (pair_in (pairs_of c.args.self.now) w)) c.in_ok-found.found) c.in_ok-witness.ensures
     (moves-some c.args.limit c.args.self.now c.loop-pid.self c.make_move.new.self witness c.as_slice-live.result.now live_is c.loop-pid.pid-index c.loop-pid.invariant.left c.loop-pid-test.true c.in_ok-found.found
     (sym c.is_some.ensures ∙ c.if-is_some.true) moved)
 
@@ -33,7 +33,7 @@ pub loop-pid-preserved : goal.loop-pid-preserved
 loop-pid-preserved c =
     let witness = c.in_ok-witness.witness.items in
     let live_is = c.as_slice-live.ensures.value ∙ c.in_ok-pids.ensures.live ∙ ap (λ (w : List ℕ). live_in_either (pair_in (pairs_of c.args.self.now) w).states) c.deref.ensures.value in
-    let moved = subst (λ (w : List ℕ). IsMoved c.args.limit c.loop-pid.self c.make_move.new.self w (get_or c.as_slice-live.result.now c.loop-pid.pid-index 0) c.in_ok-found.found) c.deref-in-loop-pid.ensures.value c.in_ok-found.ensures.moved in
+    let moved = subst (λ (w : List ℕ). ComparesStep c.args.limit c.loop-pid.self c.make_move.new.self w (get_or c.as_slice-live.result.now c.loop-pid.pid-index 0) c.in_ok-found.found) c.deref-in-loop-pid.ensures.value c.in_ok-found.ensures.moved in
     let next = moves-none c.args.limit c.args.self.now c.loop-pid.self c.make_move.new.self witness c.as_slice-live.result.now live_is c.loop-pid.pid-index c.loop-pid.invariant.left c.loop-pid-test.true c.in_ok-found.found
     (sym c.is_some.ensures ∙ c.if-is_some.false) moved in
     record { left = next.0; whole = next.1 }
@@ -45,5 +45,5 @@ pub returns-clause-moved : goal.returns-clause-moved
 returns-clause-moved c =
     let witness = c.in_ok-witness.witness.items in
     let live_is = c.as_slice-live.ensures.value ∙ c.in_ok-pids.ensures.live ∙ ap (λ (w : List ℕ). live_in_either (pair_in (pairs_of c.args.self.now) w).states) c.deref.ensures.value in
-    subst (λ (w : List ℕ). AreMoved c.args.limit c.args.self.now c.loop-pid.self (pair_moves program_of (pair_in (pairs_of c.args.self.now) w)) None) c.in_ok-witness.ensures
+    subst (λ (w : List ℕ). ComparesSteps c.args.limit c.args.self.now c.loop-pid.self (pair_moves program_of (pair_in (pairs_of c.args.self.now) w)) None) c.in_ok-witness.ensures
     (moves-end c.args.limit c.args.self.now c.loop-pid.self c.loop-pid.self witness c.as_slice-live.result.now live_is c.loop-pid.pid-index c.loop-pid.invariant.left c.loop-pid-test.false c.loop-pid.invariant.whole)

@@ -1,8 +1,8 @@
 use Rattle.std.proofs.Common.{◌∙◌, ◌<◌, ◌≤◌, subst, sym, ℕ}
 use Rattle.pv_compare.specs.Pairs.{found_in, pairs_of}
 use Rattle.pv_compare.specs.Plan.{compared_pairs}
-use Rattle.pv_compare.proofs.Looped.{search-end, search-next, search-past, search-some, search-start}
-use Rattle.pv_compare.proofs.Stepped.{counted}
+use Rattle.pv_compare.proofs.PairLoops.{search-end, search-next, search-past, search-some, search-start}
+use Rattle.pv_compare.proofs.StepsOfPairs.{counted}
 use Rattle.pv_model.specs.Machine.{program_of}
 use Rattle.pv_compare.proofs.pairs.Pairs.search.Goals as goal
 

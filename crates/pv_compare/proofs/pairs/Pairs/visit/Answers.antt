@@ -1,7 +1,7 @@
 use Rattle.std.proofs.Common.{◌≡◌, ◌∙◌, ◌<◌, ◌≤◌, ap, sym, subst, bytes_eq, List, ℕ}
 use Rattle.std.specs.List.{list_any}
 use Rattle.pv_compare.specs.Pairs.{pairs_of}
-use Rattle.pv_compare.proofs.Numbered.{numbered-added, visit-added, visit-none, visit-past, visit-there}
+use Rattle.pv_compare.proofs.PairNumbers.{numbered-added, visit-added, visit-none, visit-past, visit-there}
 use Rattle.pv_explore.specs.Witnesses.{longer}
 use Rattle.pv_model.specs.Machine.{Bytes}
 use Rattle.pv_compare.proofs.pairs.Pairs.visit.Goals as goal

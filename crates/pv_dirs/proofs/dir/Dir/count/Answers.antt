@@ -1,6 +1,6 @@
 use Rattle.std.proofs.Common.{◌/◌, ap, ◌∙◌, arith}
 use Rattle.pv_model.specs.Machine.{entry_length}
-use Rattle.pv_dirs.proofs.Strides.{entries_few, entries_within}
+use Rattle.pv_dirs.proofs.EqualParts.{entries_few, entries_within}
 use Rattle.pv_dirs.proofs.dir.Dir.count.Goals as goal
 
 pub returns-clause-few : goal.returns-clause-few

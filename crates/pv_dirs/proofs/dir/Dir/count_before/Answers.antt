@@ -1,7 +1,7 @@
 use Rattle.std.proofs.Common.{◌+◌, ◌/◌, sym, ◌∙◌, arith}
-use Rattle.pv_dirs.specs.Dirs.{bytes_in}
-use Rattle.pv_dirs.proofs.Ascending.{before_until, not_before_from}
-use Rattle.pv_dirs.proofs.Next.{less_from}
+use Rattle.pv_dirs.specs.Dirs.{directory_bytes}
+use Rattle.pv_dirs.proofs.AscendingNames.{before_until, not_before_from}
+use Rattle.pv_dirs.proofs.NextNames.{less_from}
 use Rattle.pv_dirs.proofs.dir.Dir.count_before.Goals as goal
 
 pub loop-from-preserved-then-is_less : goal.loop-from-preserved-then-is_less
@@ -11,7 +11,7 @@ loop-from-preserved-then-is_less c =
       ordered = omega arith;
       within = l.within;
       few = l.few;
-      before = before_until c.args.self.now.inodes.now.version (bytes_in c.args.self.now) c.requires.ascend c.args.name.now ((c.loop-from.from + c.loop-from.to) / 2) (omega arith) (less_from _ (sym c.is_less.ensures ∙ c.if-is_less.true));
+      before = before_until c.args.self.now.inodes.now.version (directory_bytes c.args.self.now) c.requires.ascend c.args.name.now ((c.loop-from.from + c.loop-from.to) / 2) (omega arith) (less_from _ (sym c.is_less.ensures ∙ c.if-is_less.true));
       past = l.past;
     }
 
@@ -23,5 +23,5 @@ loop-from-preserved c =
       within = omega arith;
       few = omega arith;
       before = l.before;
-      past = not_before_from c.args.self.now.inodes.now.version (bytes_in c.args.self.now) c.requires.ascend c.args.name.now ((c.loop-from.from + c.loop-from.to) / 2) (omega arith) (sym c.is_less.ensures ∙ c.if-is_less.false);
+      past = not_before_from c.args.self.now.inodes.now.version (directory_bytes c.args.self.now) c.requires.ascend c.args.name.now ((c.loop-from.from + c.loop-from.to) / 2) (omega arith) (sym c.is_less.ensures ∙ c.if-is_less.false);
     }

@@ -1,7 +1,7 @@
 use Rattle.std.proofs.Common.{is_lt, ap, ◌∙◌}
 use Rattle.pv_model.specs.Machine.{Bytes}
-use Rattle.pv_dirs.proofs.Entries.{by_name}
-use Rattle.pv_dirs.proofs.Next.{bytes_less}
+use Rattle.pv_dirs.proofs.SortedEntries.{by_name}
+use Rattle.pv_dirs.proofs.NextNames.{bytes_less}
 use Rattle.pv_dirs.proofs.dir.Dir.is_less.Goals as goal
 
 pub returns-in-Some : goal.returns-in-Some

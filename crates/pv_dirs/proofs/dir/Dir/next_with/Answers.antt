@@ -1,18 +1,18 @@
 use Rattle.std.proofs.Common.{◌+◌, Option, ap, sym, subst, ◌∙◌}
 use Rattle.std.specs.Option.{option_copied}
 use Rattle.pv_model.specs.Machine.{entry_length, Bytes}
-use Rattle.pv_dirs.specs.Dirs.{bytes_in}
+use Rattle.pv_dirs.specs.Dirs.{directory_bytes}
 use Rattle.pv_dirs.specs.Listing.{IsNextOf}
 use Rattle.pv_dirs.specs.Slots.{IsInSlots}
-use Rattle.pv_dirs.proofs.Named.{next-skipped, next-taken}
-use Rattle.pv_dirs.proofs.Runs.{run_after}
+use Rattle.pv_dirs.proofs.NamedInodes.{next-skipped, next-taken}
+use Rattle.pv_dirs.proofs.SlotRuns.{run_after}
 use Rattle.pv_dirs.proofs.dir.Dir.next_with.Goals as goal
 use Rattle.pv_dirs.proofs.dir.Dir.next_with.Goals.{then-number_in-node, else-number_in-node}
 
 pub loop-k-preserved : goal.loop-k-preserved
 loop-k-preserved c =
     let v = c.args.self.now.inodes.now.version in
-    let bytes = bytes_in c.args.self.now in
+    let bytes = directory_bytes c.args.self.now in
     let last = option_copied c.args.last in
     let whole = c.layout-length.ensures.slot_length ∙ ap entry_length c.version.ensures in
     let is_next = λ (best : Option Bytes). IsNextOf (IsInSlots v bytes (c.loop-k.k + 1) c.args.node) last best in

@@ -1,15 +1,15 @@
 use Rattle.std.proofs.Common.{◌≡◌, length, replicate, take, ap, sym, ◌∙◌, arith}
 use Rattle.std.proofs.lemmas.List.{length-take-le, take_at}
 use Rattle.pv_model.specs.Machine.{entry_length}
-use Rattle.pv_dirs.specs.Dirs.{bytes_in}
+use Rattle.pv_dirs.specs.Dirs.{directory_bytes}
 use Rattle.pv_dirs.proofs.SlotBytes.{slot_taken, length-slot_at}
-use Rattle.pv_dirs.proofs.Strides.{slot_greatest, slot_some, component_within}
+use Rattle.pv_dirs.proofs.EqualParts.{slot_greatest, slot_some, component_within}
 use Rattle.pv_dirs.proofs.dir.Dir.slot.Goals as goal
 
 pub returns : goal.returns
 returns c =
     let v = c.args.self.now.inodes.now.version in
-    let bytes = bytes_in c.args.self.now in
+    let bytes = directory_bytes c.args.self.now in
     let whole = c.layout-length.ensures.slot_length ∙ ap entry_length c.version.ensures in
     let long : length (take c.layout-length.result.slot_length (replicate 260 0)) ≡ entry_length v =
     length-take-le c.layout-length.result.slot_length (replicate 260 0) (omega (arith, whole, slot_greatest v)) ∙ whole in

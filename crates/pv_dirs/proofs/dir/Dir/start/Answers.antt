@@ -1,6 +1,6 @@
 use Rattle.std.proofs.Common.{◌*◌, ap, ◌∙◌, arith}
 use Rattle.pv_model.specs.Machine.{entry_length}
-use Rattle.pv_dirs.proofs.Strides.{start_fits}
+use Rattle.pv_dirs.proofs.EqualParts.{start_fits}
 use Rattle.pv_dirs.proofs.dir.Dir.start.Goals as goal
 
 pub overflow_mul-result : goal.overflow_mul-result

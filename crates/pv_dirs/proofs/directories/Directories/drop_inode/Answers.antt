@@ -1,9 +1,9 @@
 use Rattle.std.proofs.Common.{ap, ◌∙◌}
 use Rattle.pv_model.specs.Machine.{Tree}
-use Rattle.pv_dirs.specs.Trees.{tree_of, without_node}
-use Rattle.pv_dirs.proofs.Indexed.{indexed-without}
-use Rattle.pv_dirs.proofs.TreeOf.{tree_of-without, holding-without}
-use Rattle.pv_dirs.proofs.Viewed.{viewed_used}
+use Rattle.pv_dirs.specs.Trees.{tree_of_files, without_node}
+use Rattle.pv_dirs.proofs.ChangedIndex.{indexed-without}
+use Rattle.pv_dirs.proofs.FileTrees.{tree_of_files-without, holding-without}
+use Rattle.pv_dirs.proofs.TreeViews.{viewed_used}
 use Rattle.pv_dirs.proofs.directories.Directories.drop_inode.Goals as goal
 
 pub drop_inode-requires : goal.drop_inode-requires
@@ -17,4 +17,4 @@ invariant_of-self c =
     }
 
 pub returns : goal.returns
-returns c = ap tree_of c.drop_inode.ensures ∙ tree_of-without c.self.inside.inodes c.args.inode ∙ ap (λ (t : Tree). without_node t c.args.inode) c.self.view_is
+returns c = ap tree_of_files c.drop_inode.ensures ∙ tree_of_files-without c.self.inside.inodes c.args.inode ∙ ap (λ (t : Tree). without_node t c.args.inode) c.self.view_is

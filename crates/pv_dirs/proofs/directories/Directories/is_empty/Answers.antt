@@ -1,6 +1,6 @@
 use Rattle.std.proofs.Common.{sym, ◌∙◌}
 use Rattle.std.proofs.lemmas.Bool.{eqb-true, eq-eqb}
-use Rattle.pv_dirs.proofs.Viewed.{viewed_directory_used, viewed_empty, viewed_none}
+use Rattle.pv_dirs.proofs.TreeViews.{viewed_directory_used, viewed_empty, viewed_none}
 use Rattle.pv_dirs.proofs.directories.Directories.is_empty.Goals as goal
 
 pub invariant_of-dir : goal.invariant_of-dir

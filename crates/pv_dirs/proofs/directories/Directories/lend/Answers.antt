@@ -1,6 +1,6 @@
 use Rattle.std.proofs.Common.{◌≡◌, ◌-◌, ◌%◌, ◌<◌, length, take, drop, sym, subst}
 use Rattle.pv_model.specs.Machine.{Bytes}
-use Rattle.pv_dirs.proofs.Viewed.{viewed_used, viewed_bytes}
+use Rattle.pv_dirs.proofs.TreeViews.{viewed_used, viewed_bytes}
 use Rattle.pv_dirs.proofs.directories.Directories.lend.Goals as goal
 
 pub lend-requires-clause-used : goal.lend-requires-clause-used

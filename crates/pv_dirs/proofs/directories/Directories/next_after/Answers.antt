@@ -1,13 +1,13 @@
 use Rattle.std.proofs.Common.{sym, ap, subst, ◌∙◌}
 use Rattle.std.specs.Option.{option_copied}
 use Rattle.pv_model.specs.Machine.{next_name, Entries}
-use Rattle.pv_inodes.specs.Files.{bytes_at}
+use Rattle.pv_inodes.specs.Files.{inode_bytes_at}
 use Rattle.pv_dirs.specs.Listing.{IsNextName}
 use Rattle.pv_dirs.specs.Slots.{slot_entries, in_order}
-use Rattle.pv_dirs.proofs.Indexed.{directory_led}
-use Rattle.pv_dirs.proofs.Next.{next_name_in_order}
-use Rattle.pv_dirs.proofs.TreeOf.{directory_slotted}
-use Rattle.pv_dirs.proofs.Viewed.{viewed_directory, viewed_directory_used, viewed_entries}
+use Rattle.pv_dirs.proofs.ChangedIndex.{directory_led}
+use Rattle.pv_dirs.proofs.NextNames.{next_name_in_order}
+use Rattle.pv_dirs.proofs.FileTrees.{directory_slotted}
+use Rattle.pv_dirs.proofs.TreeViews.{viewed_directory, viewed_directory_used, viewed_entries}
 use Rattle.pv_dirs.proofs.directories.Directories.next_after.Goals as goal
 
 pub invariant_of-dir : goal.invariant_of-dir
@@ -27,6 +27,6 @@ returns-clause-value c = c.next_name.ensures ∙ ap (next_name (option_copied c.
 
 pub returns-clause-least : goal.returns-clause-least
 returns-clause-least c =
-    let entries = slot_entries c.self.inside.inodes.version (bytes_at c.self.inside.inodes c.args.directory) in
+    let entries = slot_entries c.self.inside.inodes.version (inode_bytes_at c.self.inside.inodes c.args.directory) in
     subst (λ (es : Entries). IsNextName (option_copied c.args.last) es c.next_name.result) (sym (viewed_entries c.self.inside.inodes c.args.self.now c.args.directory c.self.view_is c.requires))
     (subst (IsNextName (option_copied c.args.last) (in_order entries)) (sym c.next_name.ensures) (next_name_in_order (option_copied c.args.last) entries))

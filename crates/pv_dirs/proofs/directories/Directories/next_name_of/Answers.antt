@@ -1,6 +1,6 @@
 use Rattle.std.specs.Option.{option_copied}
-use Rattle.pv_dirs.proofs.Named.{next-viewed}
-use Rattle.pv_dirs.proofs.Viewed.{viewed_directory_used}
+use Rattle.pv_dirs.proofs.NamedInodes.{next-viewed}
+use Rattle.pv_dirs.proofs.TreeViews.{viewed_directory_used}
 use Rattle.pv_dirs.proofs.directories.Directories.next_name_of.Goals as goal
 
 pub invariant_of-dir : goal.invariant_of-dir

@@ -1,6 +1,6 @@
 use Rattle.std.proofs.Common.{◌≡◌, ◌-◌, ◌/◌, ap, sym, subst, ◌∙◌, refl, arith}
-use Rattle.pv_dirs.specs.Trees.{tree_of, IsHolding}
-use Rattle.pv_dirs.proofs.Images.{image-inodes, image-sizes, image-holding, image-tree}
+use Rattle.pv_dirs.specs.Trees.{tree_of_files, IsHolding}
+use Rattle.pv_dirs.proofs.ImageTrees.{image-inodes, image-sizes, image-holding, image-tree}
 use Rattle.pv_dirs.proofs.directories.Directories.of_image.Goals as goal
 use Rattle.pv_dirs.proofs.directories.Directories.of_image.Goals.{After-of_image-inodes}
 
@@ -22,4 +22,4 @@ invariant_of-result c =
     }
 
 pub returns : goal.returns
-returns c = λ t is. ap tree_of c.of_image-inodes.ensures ∙ image-tree c.args.version c.args.inodes c.args.bytes.items c.requires t is
+returns c = λ t is. ap tree_of_files c.of_image-inodes.ensures ∙ image-tree c.args.version c.args.inodes c.args.bytes.items c.requires t is

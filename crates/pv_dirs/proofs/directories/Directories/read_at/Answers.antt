@@ -1,6 +1,6 @@
 use Rattle.std.proofs.Common.{◌≡◌, ◌-◌, ◌++◌, min, length, take, drop, sym, subst}
 use Rattle.pv_model.specs.Machine.{Bytes}
-use Rattle.pv_dirs.proofs.Viewed.{viewed_used, viewed_bytes}
+use Rattle.pv_dirs.proofs.TreeViews.{viewed_used, viewed_bytes}
 use Rattle.pv_dirs.proofs.directories.Directories.read_at.Goals as goal
 
 pub read_at-requires : goal.read_at-requires

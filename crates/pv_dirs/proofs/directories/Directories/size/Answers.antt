@@ -1,10 +1,10 @@
 use Rattle.std.proofs.Common.{subst, sym, ap, ◌∙◌, Some, arith}
 use Rattle.std.specs.Prelude.{option_map, IsSome}
 use Rattle.pv_model.specs.Machine.{size_of, greatest_length, Tree, node_at}
-use Rattle.pv_dirs.proofs.Contents.{size_directory, size_other}
-use Rattle.pv_dirs.proofs.TreeOf.{used_in}
-use Rattle.pv_dirs.proofs.Strides.{few_allowed}
-use Rattle.pv_dirs.proofs.Viewed.{viewed_version}
+use Rattle.pv_dirs.proofs.FileContents.{size_directory, size_other}
+use Rattle.pv_dirs.proofs.FileTrees.{used_in}
+use Rattle.pv_dirs.proofs.EqualParts.{few_allowed}
+use Rattle.pv_dirs.proofs.TreeViews.{viewed_version}
 use Rattle.pv_dirs.proofs.directories.Directories.size.Goals as goal
 
 pub invariant_of-dir : goal.invariant_of-dir

@@ -1,5 +1,5 @@
 use Rattle.std.proofs.Common.{sym, ◌∙◌}
-use Rattle.pv_dirs.proofs.Viewed.{viewed_version}
+use Rattle.pv_dirs.proofs.TreeViews.{viewed_version}
 use Rattle.pv_dirs.proofs.directories.Directories.version.Goals as goal
 
 pub returns : goal.returns

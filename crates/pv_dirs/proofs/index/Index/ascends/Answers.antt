@@ -1,6 +1,6 @@
 use Rattle.std.proofs.Common.{sym, ◌∙◌, arith}
 use Rattle.std.proofs.lemmas.Bool.{le-ltb}
-use Rattle.pv_dirs.proofs.Leading.{known-within, known-past}
+use Rattle.pv_dirs.proofs.IndexedEntries.{known-within, known-past}
 use Rattle.pv_dirs.proofs.index.Index.ascends.Goals as goal
 
 pub returns-then-at-recorded_count : goal.returns-then-at-recorded_count

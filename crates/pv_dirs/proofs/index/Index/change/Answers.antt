@@ -1,9 +1,9 @@
 use Rattle.std.proofs.Common.{◌≡◌, ◌==◌, ℕ, true, get_or, set, refl, sym, ap, ◌∙◌, inl, inr, arith, List}
 use Rattle.std.proofs.lemmas.Bool.{cases_eq, eqb-true, false≢true}
-use Rattle.pv_dirs.specs.Index.{place_of, known}
+use Rattle.pv_dirs.specs.Index.{bucket_of, known}
 use Rattle.pv_dirs.specs.declared.index.Bucket.{Bucket}
 use Rattle.pv_dirs.specs.declared.index.Bucket.TheVariants.{Empty, Slot}
-use Rattle.pv_dirs.proofs.Leading.{said-is, said-at, said-here, leads-slot, leads-others, leads-same, known-same}
+use Rattle.pv_dirs.proofs.IndexedEntries.{bucket_at-is, bucket_at-at, bucket_at-here, leads-slot, leads-others, leads-same, known-same}
 use Rattle.pv_dirs.proofs.index.Index.change.Goals as goal
 use Rattle.pv_dirs.proofs.index.Index.change.Goals.{After-is_slot, then-from-to, else-from-to}
 
@@ -13,20 +13,20 @@ preserved c = ap (λ (ps : List Bucket). get_or ps c.place_of-at.result Empty) c
 
 pub returns-then-is_slot-clause-this : goal.returns-then-is_slot-clause-this
 returns-then-is_slot-clause-this c = λ before.
-    inl (said-here c.know.new.self _ c.place_of-at.result (Slot c.args.directory c.args.to) (omega (arith, c.place_of-at.ensures.within)) refl refl c.args.directory c.args.name.now (sym c.place_of-at.ensures.value))
+    inl (bucket_at-here c.know.new.self _ c.place_of-at.result (Slot c.args.directory c.args.to) (omega (arith, c.place_of-at.ensures.within)) refl refl c.args.directory c.args.name.now (sym c.place_of-at.ensures.value))
 
 pub returns-then-is_slot-clause-others : goal.returns-then-is_slot-clause-others
 returns-then-is_slot-clause-others c = λ d k other apart leads.
     leads-others c.args.self.now _ c.place_of-at.result (Slot c.args.directory c.args.to) (omega (arith, c.place_of-at.ensures.within)) c.know.ensures.mask
     (ap (λ (ps : List Bucket). set ps c.place_of-at.result (Slot c.args.directory c.args.to)) c.know.ensures.places) d other k
     (λ same before.
-    let here = said-at c.args.self.now d other c.place_of-at.result (Slot c.args.directory c.args.from) same (sym (preserved (goal.at.returns-then-is_slot-clause-others c).After-is_slot) ∙ c.is_slot.ensures.0 c.if-is_slot.true) in
+    let here = bucket_at-at c.args.self.now d other c.place_of-at.result (Slot c.args.directory c.args.from) same (sym (preserved (goal.at.returns-then-is_slot-clause-others c).After-is_slot) ∙ c.is_slot.ensures.0 c.if-is_slot.true) in
     let both = leads-slot c.args.self.now d other k c.args.directory c.args.from here before in absurd (apart both.0 both.1)) leads
 
 pub returns-else-is_slot-clause-this : goal.returns-else-is_slot-clause-this
 returns-else-is_slot-clause-this c = λ leads. elim leads [
   | inl slot ↦
-      let here = preserved (goal.at.returns-else-is_slot-clause-this c).After-is_slot ∙ ap (λ i. get_or c.args.self.now.places i Empty) (c.place_of-at.ensures.value ∙ ap (λ m. place_of m c.args.directory c.args.name.now) c.know.ensures.mask) ∙ sym (said-is c.args.self.now c.args.directory c.args.name.now) ∙ slot in
+      let here = preserved (goal.at.returns-else-is_slot-clause-this c).After-is_slot ∙ ap (λ i. get_or c.args.self.now.places i Empty) (c.place_of-at.ensures.value ∙ ap (λ m. bucket_of m c.args.directory c.args.name.now) c.know.ensures.mask) ∙ sym (bucket_at-is c.args.self.now c.args.directory c.args.name.now) ∙ slot in
       absurd (false≢true (sym c.if-is_slot.false ∙ c.is_slot.ensures.1 here))
   | inr shared ↦ leads-same c.args.self.now c.know.new.self c.args.directory c.args.name.now c.args.to c.know.ensures.mask c.know.ensures.places (inr shared)
 ]

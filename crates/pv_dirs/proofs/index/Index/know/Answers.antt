@@ -1,6 +1,6 @@
 use Rattle.std.proofs.Common.{sym, refl, ◌∙◌, arith}
 use Rattle.std.proofs.lemmas.Bool.{false≢true}
-use Rattle.pv_dirs.proofs.Leading.{known-here, known-there, known-past}
+use Rattle.pv_dirs.proofs.IndexedEntries.{known-here, known-there, known-past}
 use Rattle.pv_dirs.proofs.index.Index.know.Goals as goal
 
 pub returns-then-at-recorded_count-clause-this : goal.returns-then-at-recorded_count-clause-this

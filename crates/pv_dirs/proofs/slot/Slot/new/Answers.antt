@@ -1,7 +1,7 @@
 use Rattle.std.proofs.Common.{arith, ◌∙◌}
 use Rattle.std.proofs.lemmas.List.{get_or-take, length-take-le}
 use Rattle.pv_dirs.proofs.SlotBytes.{front_name, front_number}
-use Rattle.pv_dirs.proofs.Strides.{name_fits, name_short, slot_least, slot_greatest}
+use Rattle.pv_dirs.proofs.EqualParts.{name_fits, name_short, slot_least, slot_greatest}
 use Rattle.pv_dirs.proofs.slot.Slot.new.Goals as goal
 
 pub encoded-requires : goal.encoded-requires

@@ -1,11 +1,11 @@
 use Rattle.std.proofs.Common.{◌∙◌, [], refl, sym}
 use Rattle.std.proofs.lemmas.List.{append-nil}
-use Rattle.pv_step_lines.proofs.OfAnswers.Writing.{or_ok, writes_as, writes_both, writes_longer}
+use Rattle.pv_step_lines.proofs.OfAnswers.WriterContracts.{or_ok, writes_as, writes_both, writes_longer}
 use Rattle.pv_step_lines.specs.declared.making.MadeStep.TheVariants.{Gone, Register}
-use Rattle.pv_step_lines.proofs.Made.{left-by}
-use Rattle.pv_explain.proofs.Added.{gone-adds, inside-adds}
-use Rattle.pv_explain.proofs.Made.{step-text}
-use Rattle.pv_step_lines.proofs.Stops.{unwritten}
+use Rattle.pv_step_lines.proofs.StepStates.{left-by}
+use Rattle.pv_explain.proofs.AddedLines.{gone-adds, inside-adds}
+use Rattle.pv_explain.proofs.StepRecords.{step-text}
+use Rattle.pv_step_lines.proofs.StoppedWriters.{unwritten}
 use Rattle.pv_explain.proofs.explain.Explainer.explain_step.Goals as goal
 
 -- ---- a process that is not live

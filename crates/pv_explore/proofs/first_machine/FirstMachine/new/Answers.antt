@@ -1,7 +1,7 @@
 use Rattle.std.proofs.Common.{◌∙◌, ap, refl, sym}
 use Rattle.std.specs.Prelude.{Ok}
-use Rattle.pv_explore.proofs.Booting.{boots-again, mounts-again}
-use Rattle.pv_explore.specs.FirstMachines.{first_of}
+use Rattle.pv_explore.proofs.RebuiltMachines.{boots-again, mounts-again}
+use Rattle.pv_explore.specs.FirstMachines.{first_state_of}
 use Rattle.pv_explore.proofs.first_machine.FirstMachine.new.Goals as goal
 
 pub invariant_of-result : goal.invariant_of-result
@@ -13,7 +13,7 @@ invariant_of-result c =
         mounts = mounts;
         boots = c.in_ok-new.ensures.booted;
       },
-      c.of_session-machine.ensures ∙ boots-again c.in-Ok.image.items c.args.store c.in_ok-new.field-0 (first_of c.in-Ok.image.items) mounts c.in_ok-new.ensures.booted refl,
+      c.of_session-machine.ensures ∙ boots-again c.in-Ok.image.items c.args.store c.in_ok-new.field-0 (first_state_of c.in-Ok.image.items) mounts c.in_ok-new.ensures.booted refl,
     )
 
 pub returns-clause-booted : goal.returns-clause-booted

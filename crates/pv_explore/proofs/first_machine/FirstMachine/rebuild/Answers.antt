@@ -1,5 +1,5 @@
 use Rattle.std.proofs.Common.{◌∙◌, ap, sym}
-use Rattle.pv_explore.proofs.Booting.{boots-again}
+use Rattle.pv_explore.proofs.RebuiltMachines.{boots-again}
 use Rattle.pv_model.specs.Machine.{mounted}
 use Rattle.pv_explore.proofs.first_machine.FirstMachine.rebuild.Goals as goal
 

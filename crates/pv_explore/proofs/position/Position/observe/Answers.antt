@@ -1,5 +1,5 @@
 use Rattle.std.proofs.Common.{◌∙◌}
-use Rattle.pv_explore.proofs.LastNumbers.{gave-known}
+use Rattle.pv_explore.proofs.LastProcessNumbers.{gave-known}
 use Rattle.pv_explore.proofs.position.Position.observe.Goals as goal
 
 pub last_number-last-requires-clause-gave : goal.last_number-last-requires-clause-gave

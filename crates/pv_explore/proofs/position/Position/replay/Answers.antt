@@ -1,4 +1,4 @@
-use Rattle.pv_explore.proofs.Along.{state-next}
+use Rattle.pv_explore.proofs.ScheduleStates.{state-next}
 use Rattle.pv_explore.proofs.position.Position.replay.Goals as goal
 
 pub loop-pid-preserved : goal.loop-pid-preserved

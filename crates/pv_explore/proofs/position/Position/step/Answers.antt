@@ -1,5 +1,5 @@
 use Rattle.std.proofs.Common.{◌∙◌}
-use Rattle.pv_explore.proofs.LastNumbers.{gave-known}
+use Rattle.pv_explore.proofs.LastProcessNumbers.{gave-known}
 use Rattle.pv_explore.proofs.position.Position.step.Goals as goal
 
 pub last_number-self-inside-requires-clause-gave : goal.last_number-self-inside-requires-clause-gave

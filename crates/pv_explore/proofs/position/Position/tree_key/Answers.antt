@@ -1,6 +1,6 @@
 use Rattle.std.proofs.Common.{◌≡◌, ◌∙◌, ap, subst, sym, true}
 use Rattle.pv_explore.specs.Plan.{tree_key}
-use Rattle.pv_explore.proofs.LiveOnes.{end-key}
+use Rattle.pv_explore.proofs.LiveNumbers.{end-key}
 use Rattle.pv_model.specs.Machine.{has_ended, named_tree, State}
 use Rattle.pv_explore.proofs.position.Position.tree_key.Goals as goal
 

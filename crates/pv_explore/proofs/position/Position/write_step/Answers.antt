@@ -1,10 +1,10 @@
 use Rattle.std.proofs.Common.{◌∙◌, ap, subst}
-use Rattle.pv_step_lines.proofs.OfAnswers.Writing.{or_ok, writes_as, writes_both, writes_longer}
+use Rattle.pv_step_lines.proofs.OfAnswers.WriterContracts.{or_ok, writes_as, writes_both, writes_longer}
 use Rattle.pv_step_lines.specs.Made.{IsMade}
-use Rattle.pv_step_lines.proofs.Made.{left-by}
-use Rattle.pv_step_lines.proofs.Stops.{no_memory, unwritten}
-use Rattle.pv_explore.proofs.Explained.{step-bytes}
-use Rattle.pv_explore.proofs.LastNumbers.{gave-known}
+use Rattle.pv_step_lines.proofs.StepStates.{left-by}
+use Rattle.pv_step_lines.proofs.StoppedWriters.{no_memory, unwritten}
+use Rattle.pv_explore.proofs.GraphStepLines.{step-bytes}
+use Rattle.pv_explore.proofs.LastProcessNumbers.{gave-known}
 use Rattle.pv_model.specs.Machine.{State}
 use Rattle.pv_step_cache.specs.OfStateEncoding.Groups.{groups_of, state_groups}
 use Rattle.pv_explore.proofs.position.Position.write_step.Goals as goal

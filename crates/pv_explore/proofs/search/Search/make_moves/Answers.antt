@@ -1,12 +1,12 @@
 use Rattle.std.proofs.Common.{◌∙◌, ℕ, List, [], ap, ap₂, get_or, refl, subst, sym}
 use Rattle.std.proofs.lemmas.Option.{get_or_from_slice_get, slice_get-get_or, slice_get_within}
-use Rattle.pv_step_lines.proofs.OfAnswers.Writing.{but_from, or_as}
-use Rattle.pv_step_lines.proofs.Stops.{but_ends, but_stopped, but_then, no_memory}
+use Rattle.pv_step_lines.proofs.OfAnswers.WriterContracts.{but_from, or_as}
+use Rattle.pv_step_lines.proofs.StoppedWriters.{but_ends, but_stopped, but_then, no_memory}
 use Rattle.pv_explore.specs.VisitedStates.{HasNumber}
-use Rattle.pv_explore.specs.Plan.{bytes_at, move_at, state_at, texts_at, visited_at}
+use Rattle.pv_explore.specs.Plan.{step_bytes_at, move_at, state_at, texts_at, visited_at}
 use Rattle.pv_explore.specs.Searches.{visited_of, witness_at}
-use Rattle.pv_explore.proofs.Finding.{steps-end, steps-next, steps_left, visited-next, visited-witness}
-use Rattle.pv_explore.proofs.Followed.{number-after}
+use Rattle.pv_explore.proofs.SearchSteps.{steps-end, steps-next, steps_left, visited-next, visited-witness}
+use Rattle.pv_explore.proofs.CachedFollowing.{number-after}
 use Rattle.pv_laws_states.specs.States.{IsValid}
 use Rattle.pv_model.specs.Machine.{program_of, State}
 use Rattle.pv_explore.proofs.search.Search.make_moves.Goals as goal
@@ -48,7 +48,7 @@ returns-in_err-make_move-clause-written g c =
     let visited = visited_of c.loop-pid.self in
     let same = get_or_from_slice_get visited.witnesses c.args.number witness [] c.loop-pid.invariant.at in
     let is = steps-next observe c.args.limit s witness pids i visited (visited_at observe c.args.limit program_of s witness (get_or pids i 0) visited) c.loop-pid-test.true refl in
-    let moved = ap₂ (λ (t : State) (w : List ℕ). bytes_at observe c.args.limit program_of t w (get_or pids i 0) visited) c.loop-pid.invariant.same same in
+    let moved = ap₂ (λ (t : State) (w : List ℕ). step_bytes_at observe c.args.limit program_of t w (get_or pids i 0) visited) c.loop-pid.invariant.same same in
     or_as (ap (λ ps. steps_left observe c.args.limit s witness ps (visited_of c.args.self.now)) live)
     (but_stopped c.loop-pid.invariant.left _ c.from_residual-in_err-make_move.ensures.1 is (or_as moved c.in_err-make_move.ensures.written))
 
@@ -65,7 +65,7 @@ loop-pid-preserved g c =
     let same = get_or_from_slice_get visited.witnesses c.args.number witness [] c.loop-pid.invariant.at in
     let reached =
     c.in_ok-make_move.ensures.visited ∙ ap₂ (λ (t : State) (w : List ℕ). visited_at observe c.args.limit program_of t w pid visited) c.loop-pid.invariant.same same in
-    let moved = ap₂ (λ (t : State) (w : List ℕ). bytes_at observe c.args.limit program_of t w pid visited) c.loop-pid.invariant.same same in
+    let moved = ap₂ (λ (t : State) (w : List ℕ). step_bytes_at observe c.args.limit program_of t w pid visited) c.loop-pid.invariant.same same in
     let m = move_at program_of s witness pid in
     let texts = texts_at observe c.args.limit program_of s witness pid in
     record {

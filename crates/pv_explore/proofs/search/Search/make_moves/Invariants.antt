@@ -1,9 +1,9 @@
 use Rattle.std.proofs.Common.{◌≡◌, Some, drop, slice_get}
-use Rattle.pv_step_lines.proofs.OfAnswers.Writing.{WritesBut}
+use Rattle.pv_step_lines.proofs.OfAnswers.WriterContracts.{WritesBut}
 use Rattle.pv_explore.specs.VisitedStates.{HasNumber}
 use Rattle.pv_explore.specs.Plan.{visited_after_steps, state_at}
 use Rattle.pv_explore.specs.Searches.{visited_of, witness_at}
-use Rattle.pv_explore.proofs.Finding.{steps_left}
+use Rattle.pv_explore.proofs.SearchSteps.{steps_left}
 use Rattle.pv_model.specs.Machine.{program_of}
 use Rattle.pv_explore.proofs.search.Search.make_moves.Given as goal
 

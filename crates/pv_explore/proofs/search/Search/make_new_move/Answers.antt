@@ -1,12 +1,12 @@
 use Rattle.std.proofs.Common.{◌≡◌, ◌∙◌, ap, List, subst, sym, ℕ}
 use Rattle.std.specs.Global.{Vec}
-use Rattle.pv_step_lines.proofs.OfAnswers.Writing.{or_as}
-use Rattle.pv_step_lines.proofs.Stops.{no_memory, no_memory_after, still_ok, stopped}
+use Rattle.pv_step_lines.proofs.OfAnswers.WriterContracts.{or_as}
+use Rattle.pv_step_lines.proofs.StoppedWriters.{no_memory, no_memory_after, still_ok, stopped}
 use Rattle.pv_explore.specs.Plan.{Visited, reported_after, reported_bytes}
 use Rattle.pv_explore.specs.Searches.{visited_of}
 use Rattle.pv_explore.specs.VisitedStates.{HasNumber}
 use Rattle.pv_explore.specs.Witnesses.{longer}
-use Rattle.pv_explore.proofs.Finding.{visited-is}
+use Rattle.pv_explore.proofs.SearchSteps.{visited-is}
 use Rattle.pv_model.specs.Machine.{Bytes}
 use Rattle.pv_step_lines.specs.OfSession.Running.{stepped}
 use Rattle.pv_step_cache.specs.Steps.{texts_in}

@@ -1,10 +1,10 @@
 use Rattle.std.proofs.Common.{◌∙◌, refl, subst, sym}
-use Rattle.pv_step_lines.proofs.OfAnswers.Writing.{or_as}
-use Rattle.pv_step_lines.proofs.Stops.{no_memory, still_ok, stopped}
+use Rattle.pv_step_lines.proofs.OfAnswers.WriterContracts.{or_as}
+use Rattle.pv_step_lines.proofs.StoppedWriters.{no_memory, still_ok, stopped}
 use Rattle.pv_explore.specs.Searches.{visited_of, witness_at}
 use Rattle.pv_explore.specs.VisitedStates.{HasNumber}
 use Rattle.pv_explore.specs.Witnesses.{longer}
-use Rattle.pv_explore.proofs.Finding.{bytes-is, visited-at-is}
+use Rattle.pv_explore.proofs.SearchSteps.{bytes-is, visited-at-is}
 use Rattle.pv_model.specs.Machine.{State}
 use Rattle.pv_explore.proofs.search.Search.make_uncached_move.Goals as goal
 

@@ -1,11 +1,11 @@
 use Rattle.std.proofs.Common.{◌≡◌, ◌-◌, arith, List, ◌∙◌, ap, refl, subst, sym}
-use Rattle.pv_step_lines.proofs.OfAnswers.Writing.{but_from, or_as}
-use Rattle.pv_step_lines.proofs.Stops.{but_ends, but_stopped, but_then}
+use Rattle.pv_step_lines.proofs.OfAnswers.WriterContracts.{but_from, or_as}
+use Rattle.pv_step_lines.proofs.StoppedWriters.{but_ends, but_stopped, but_then}
 use Rattle.pv_explore.specs.Plan.{Visited, visited_after_steps, visited_from, live_at, state_at}
 use Rattle.pv_explore.specs.VisitedStates.{HasNumber}
 use Rattle.pv_explore.specs.Searches.{visited_of, witness_at}
-use Rattle.pv_explore.proofs.Finding.{left-next, left-none, reported-next, reported-none, reported-past, reported-start}
-use Rattle.pv_explore.proofs.Followed.{at-after, found-none, found-witness, number-at}
+use Rattle.pv_explore.proofs.SearchSteps.{left-next, left-none, reported-next, reported-none, reported-past, reported-start}
+use Rattle.pv_explore.proofs.CachedFollowing.{at-after, found-none, found-witness, number-at}
 use Rattle.pv_laws_states.specs.States.{IsValid}
 use Rattle.pv_model.specs.Machine.{Bytes, program_of, State}
 use Rattle.pv_explore.proofs.search.Search.search.Goals as goal

@@ -2,7 +2,7 @@ use Rattle.std.proofs.Common.{◌∙◌}
 use Rattle.std.proofs.lemmas.Result.{on_ok_weaker}
 use Rattle.pv_explore.specs.Searches.{visited_of}
 use Rattle.pv_explore.specs.Witnesses.{longer}
-use Rattle.pv_explore.proofs.Followed.{visited-found}
+use Rattle.pv_explore.proofs.CachedFollowing.{visited-found}
 use Rattle.pv_explore.proofs.search.Search.visit.Goals as goal
 
 pub returns : goal.returns

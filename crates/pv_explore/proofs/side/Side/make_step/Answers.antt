@@ -1,7 +1,7 @@
 use Rattle.std.proofs.Common.{◌∙◌, ap, refl, subst}
 use Rattle.pv_explore.specs.Plan.{state_key}
 use Rattle.pv_explore.specs.Sides.{SideStates}
-use Rattle.pv_explore.proofs.Sides.{numbered-by}
+use Rattle.pv_explore.proofs.SideStates.{numbered-by}
 use Rattle.pv_explore.specs.VisitedStates.{IsFoundIn}
 use Rattle.pv_model.specs.Machine.{State}
 use Rattle.pv_step_lines.specs.OfSession.Running.{stepped}

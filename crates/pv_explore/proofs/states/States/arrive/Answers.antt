@@ -2,7 +2,7 @@ use Rattle.std.proofs.Common.{List, subst}
 use Rattle.std.specs.Global.{Vec}
 use Rattle.pv_explore.specs.VisitedStates.{AreStoredAt, MayKeep}
 use Rattle.pv_explore.proofs.VisitedStates.{fine-arrived, fine-grew, fine-made, found-arrived}
-use Rattle.pv_explore.proofs.Afters.{led-to}
+use Rattle.pv_explore.proofs.CellsAfterSteps.{led-to}
 use Rattle.pv_step_cache.specs.declared.cells.Cell.{Cell}
 use Rattle.pv_step_cache.specs.Steps.{texts_in}
 use Rattle.pv_explore.proofs.states.States.arrive.Goals as goal

@@ -7,8 +7,8 @@ use Rattle.pv_explore.proofs.VisitedStates.{fine-placed, found-bytes, recalled-a
 use Rattle.pv_step_cache.specs.declared.cells.Cell.{Cell}
 use Rattle.pv_step_cache.specs.declared.steps.Recalled.{Recalled}
 use Rattle.pv_step_cache.specs.Steps.{texts_in}
-use Rattle.pv_step_cache.proofs.OfLawsRuns.Ranges.{program_of-encodes}
-use Rattle.pv_laws_states.proofs.BySteps.{step-keeps_whole}
+use Rattle.pv_step_cache.proofs.OfLawsRuns.ProgramRanges.{program_of-encodes}
+use Rattle.pv_laws_states.proofs.ValidBySteps.{step-keeps_valid}
 use Rattle.pv_model.specs.Machine.{Bytes, program_of}
 use Rattle.pv_step_lines.specs.OfSession.Running.{stepped}
 use Rattle.pv_explore.proofs.states.States.follow.Goals as goal
@@ -66,6 +66,6 @@ returns g c = λ t whole number.
     let found = found-bytes parts groups rows cells steps c.self.invariant u cs again.cells_are c.args.limit c.place.new.rows c.in_ok-found.found c.in_ok-found.ensures.found in
     record {
       texts_are = again.texts_are;
-      live = some-live parts groups u cs.items again.cells_are (step-keeps_whole program_of program_of-encodes t pid whole) recalled.live;
+      live = some-live parts groups u cs.items again.cells_are (step-keeps_valid program_of program_of-encodes t pid whole) recalled.live;
       found_is = subst (λ (keys : List Bytes). IsFoundIn c.args.limit keys (map (state_bytes parts groups) c.place.new.rows) (state_key u) c.in_ok-found.found) c.self.view_is found;
     }

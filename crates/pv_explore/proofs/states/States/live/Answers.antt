@@ -1,6 +1,6 @@
 use Rattle.std.proofs.Common.{◌∙◌, ap, subst, sym, List, slice_get}
 use Rattle.std.specs.Global.{Vec}
-use Rattle.pv_explore.specs.VisitedStates.{HasNumber, number_of}
+use Rattle.pv_explore.specs.VisitedStates.{HasNumber, group_number}
 use Rattle.pv_explore.proofs.VisitedStates.{cells-at, cells-found, cells-there}
 use Rattle.pv_step_cache.specs.declared.cells.Cell.{Cell}
 use Rattle.pv_step_cache.specs.Edits.{owners}
@@ -19,4 +19,4 @@ returns g c = λ t whole there.
     let some = cells-there before c.is_empty.result c.is_empty.ensures c.if-is_empty.false in
     let is =
     cells-at parts groups c.self.inside.rows c.self.inside.cells.items c.self.inside.steps.steps.items c.self.invariant number before t (subst (λ (keys : List Bytes). HasNumber keys number t) (sym c.self.view_is) there) at some in
-    c.in_ok-live_owners.ensures ∙ ap owners (c.deref-2.ensures.value ∙ is.are) ∙ owners-are (number_of parts groups) t whole
+    c.in_ok-live_owners.ensures ∙ ap owners (c.deref-2.ensures.value ∙ is.are) ∙ owners-are (group_number parts groups) t whole

@@ -1,7 +1,7 @@
 use Rattle.std.proofs.Common.{◌≡◌, ◌∙◌, ℕ, Bool, List}
 use Rattle.pv_explore.specs.Searches.{visited_of}
 use Rattle.pv_explore.specs.Visiting.{visits_of}
-use Rattle.pv_explore.proofs.Visiting.{visits-are}
+use Rattle.pv_explore.proofs.VisitedList.{visits-are}
 use Rattle.pv_explore.proofs.visited.SearchedStates.search.Goals as goal
 
 pub returns : goal.returns

@@ -1,7 +1,7 @@
 use Rattle.std.proofs.Common.{◌∙◌, ◌≤◌, [], ap, get_or, length, subst, sym, List, ℕ}
 use Rattle.pv_explore.specs.declared.witnesses.LastStep.{LastStep}
 use Rattle.pv_explore.specs.Witnesses.{witnesses_of}
-use Rattle.pv_explore.proofs.LastSteps.{witness-within}
+use Rattle.pv_explore.proofs.StoredWitnesses.{witness-within}
 use Rattle.pv_explore.proofs.witnesses.Witnesses.at.Goals as goal
 
 pub witness_back-requires-clause-within : goal.witness_back-requires-clause-within

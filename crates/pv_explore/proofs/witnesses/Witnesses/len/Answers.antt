@@ -1,5 +1,5 @@
 use Rattle.std.proofs.Common.{◌≡◌, ◌+◌, ap, length, rules}
-use Rattle.pv_explore.proofs.LastSteps.{witnesses-many}
+use Rattle.pv_explore.proofs.StoredWitnesses.{witnesses-many}
 use Rattle.pv_explore.proofs.witnesses.Witnesses.len.Goals as goal
 
 pub returns : goal.returns

@@ -1,5 +1,5 @@
 use Rattle.pv_explore.specs.declared.witnesses.LastStep.{LastStep}
-use Rattle.pv_explore.proofs.LastSteps.{pushed-before, pushed-witnesses}
+use Rattle.pv_explore.proofs.StoredWitnesses.{pushed-before, pushed-witnesses}
 use Rattle.pv_explore.proofs.witnesses.Witnesses.push.Goals as goal
 
 pub invariant_of-self-2 : goal.invariant_of-self-2

@@ -1,7 +1,7 @@
 use Rattle.std.proofs.Common.{◌∙◌, ◌<◌, ◌≤◌, [], ap, get_or, length, List, rules}
 use Rattle.pv_explore.specs.declared.witnesses.LastStep.{LastStep}
 use Rattle.pv_explore.specs.Witnesses.{witnesses_of}
-use Rattle.pv_explore.proofs.LastSteps.{witness-none, witness-some}
+use Rattle.pv_explore.proofs.StoredWitnesses.{witness-none, witness-some}
 use Rattle.pv_explore.proofs.witnesses.Witnesses.witness.Goals as goal
 
 pub returns-then-number-len : goal.returns-then-number-len

@@ -4,8 +4,8 @@ use Rattle.pv_model.specs.Machine.{least_free}
 use Rattle.pv_files.specs.declared.opened.Opened.{Opened}
 use Rattle.pv_files.specs.Counted.{Counted, with_opened}
 use Rattle.pv_files.specs.Slots.{file_of, where_used, counted_of, record_at, slots_under}
-use Rattle.pv_files.proofs.Counts.{least_free_slot, is_slot, opened_after}
-use Rattle.pv_files.proofs.Keys.{first_within, records_opened, has_record, record_read, counted_after}
+use Rattle.pv_files.proofs.OpenFileUsers.{least_free_slot, is_slot, opened_after}
+use Rattle.pv_files.proofs.RecordKeys.{first_within, records_opened, has_record, record_read, counted_after}
 use Rattle.pv_files.proofs.open_files.OpenFiles.add.Goals as goal
 
 pub returns-in_default-clause-full : goal.returns-in_default-clause-full

@@ -1,7 +1,7 @@
 use Rattle.std.proofs.Common.{◌<◌, ap, arith}
 use Rattle.pv_files.specs.declared.opened.Opened.{Opened}
 use Rattle.pv_files.specs.Slots.{file_of}
-use Rattle.pv_files.proofs.Keys.{open_below, open_recorded, users_open, used_still, shared}
+use Rattle.pv_files.proofs.RecordKeys.{open_below, open_recorded, users_open, used_still, shared}
 use Rattle.pv_files.proofs.open_files.OpenFiles.dup.Goals as goal
 
 pub offset_bounds-self-inside-file : goal.offset_bounds-self-inside-file

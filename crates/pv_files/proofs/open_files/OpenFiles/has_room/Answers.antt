@@ -1,8 +1,8 @@
 use Rattle.std.proofs.Common.{◌∙◌}
 use Rattle.std.proofs.Math.ListN.{length-map}
 use Rattle.pv_files.specs.Slots.{file_of, record_at, slots_under}
-use Rattle.pv_files.proofs.Seen.{room_found}
-use Rattle.pv_files.proofs.Keys.{first_within}
+use Rattle.pv_files.proofs.ViewedMaps.{room_found}
+use Rattle.pv_files.proofs.RecordKeys.{first_within}
 use Rattle.pv_files.proofs.open_files.OpenFiles.has_room.Goals as goal
 
 pub first_free_from-requires-clause-within : goal.first_free_from-requires-clause-within

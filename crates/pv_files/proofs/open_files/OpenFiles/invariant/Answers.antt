@@ -1,6 +1,6 @@
 use Rattle.std.proofs.Common.{subst}
 use Rattle.pv_files.specs.Counted.{IsCounted}
-use Rattle.pv_files.proofs.Keys.{counted}
+use Rattle.pv_files.proofs.RecordKeys.{counted}
 use Rattle.pv_files.proofs.open_files.OpenFiles.invariant.Goals as goal
 
 pub returns : goal.returns

@@ -3,7 +3,7 @@ use Rattle.std.specs.Option.{option_copied}
 use Rattle.pv_model.specs.Machine.{at_number}
 use Rattle.pv_files.specs.Counted.{Counted}
 use Rattle.pv_files.specs.Slots.{file_of}
-use Rattle.pv_files.proofs.Keys.{slot_under, nothing_past}
+use Rattle.pv_files.proofs.RecordKeys.{slot_under, nothing_past}
 use Rattle.pv_files.proofs.open_files.OpenFiles.lookup.Goals as goal
 
 pub returns-in_err-get-clause-file : goal.returns-in_err-get-clause-file

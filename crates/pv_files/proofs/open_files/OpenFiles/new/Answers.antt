@@ -1,5 +1,5 @@
 use Rattle.std.proofs.Common.{subst, length-set, ◌≡◌, ◌∙◌, arith}
-use Rattle.pv_files.proofs.Keys.{AreFree, one_more, none_open}
+use Rattle.pv_files.proofs.RecordKeys.{AreFree, one_more, none_open}
 use Rattle.pv_files.proofs.open_files.OpenFiles.new.Goals as goal
 
 pub loop-number-preserved : goal.loop-number-preserved

@@ -1,6 +1,6 @@
 use Rattle.std.proofs.Common.{◌≡◌, ◌≤◌, length}
 use Rattle.slab.specs.Slab.{slab_len}
-use Rattle.pv_files.proofs.Keys.{AreFree}
+use Rattle.pv_files.proofs.RecordKeys.{AreFree}
 use Rattle.pv_files.proofs.open_files.OpenFiles.new.Given as goal
 
 -- the free records so far, and capacity for the others

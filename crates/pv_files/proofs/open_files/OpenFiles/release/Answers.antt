@@ -2,7 +2,7 @@ use Rattle.std.proofs.Common.{◌≡◌, ◌≢◌, ◌<◌, Some, refl, ap, sym
 use Rattle.pv_model.specs.Machine.{OpenFile}
 use Rattle.pv_files.specs.declared.opened.Opened.{Opened}
 use Rattle.pv_files.specs.Slots.{file_of}
-use Rattle.pv_files.proofs.Keys.{open_below, open_recorded, users_open, used_open, file_open, users_fewer, used_still, used_before, files_closed, files_preserved}
+use Rattle.pv_files.proofs.RecordKeys.{open_below, open_recorded, users_open, used_open, file_open, users_fewer, used_still, used_before, files_closed, files_preserved}
 use Rattle.pv_files.proofs.open_files.OpenFiles.release.Goals as goal
 
 pub offset_bounds-self-inside-file : goal.offset_bounds-self-inside-file

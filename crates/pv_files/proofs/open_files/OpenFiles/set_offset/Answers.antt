@@ -2,7 +2,7 @@ use Rattle.std.proofs.Common.{◌<◌, ap, arith}
 use Rattle.pv_model.specs.Machine.{OpenFile}
 use Rattle.pv_files.specs.declared.opened.Opened.{Opened}
 use Rattle.pv_files.specs.Slots.{file_of}
-use Rattle.pv_files.proofs.Keys.{open_below, open_recorded, used_open, used_still, changed}
+use Rattle.pv_files.proofs.RecordKeys.{open_below, open_recorded, used_open, used_still, changed}
 use Rattle.pv_files.proofs.open_files.OpenFiles.set_offset.Goals as goal
 
 pub offset_bounds-self-inside-file : goal.offset_bounds-self-inside-file

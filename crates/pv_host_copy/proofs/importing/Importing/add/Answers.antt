@@ -1,7 +1,7 @@
 use Rattle.std.proofs.Common.{ap, refl}
 use Rattle.pv_tree.specs.Holding.{HeldTree}
 use Rattle.pv_image_manifest.specs.Contents.{entry_of_content}
-use Rattle.pv_host_copy.proofs.Stepping.{entry-steps}
+use Rattle.pv_host_copy.proofs.ImportSteps.{entry-steps}
 use Rattle.pv_host_copy.proofs.importing.Importing.add.Goals as goal
 
 pub returns-in-Ok-clause-goes : goal.returns-in-Ok-clause-goes

@@ -1,7 +1,7 @@
 use Rattle.std.proofs.Common.{refl, subst, Ok}
 use Rattle.pv_host_copy.specs.Gathered.{and_file}
 use Rattle.pv_host_copy.specs.Importing.{Settles}
-use Rattle.pv_host_copy.proofs.Stepping.{file-settled, file-stops, goes_if-residual}
+use Rattle.pv_host_copy.proofs.ImportSteps.{file-settled, file-stops, goes_if-residual}
 use Rattle.pv_host_copy.proofs.importing.Importing.keep_file.Goals as goal
 
 pub returns-in_err-settle-clause-goes : goal.returns-in_err-settle-clause-goes

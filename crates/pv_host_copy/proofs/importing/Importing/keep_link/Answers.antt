@@ -3,7 +3,7 @@ use Rattle.pv_model.specs.Machine.{link_node, is_link_text}
 use Rattle.pv_host_copy.specs.declared.fault.SkipReason.TheVariants.{Text}
 use Rattle.pv_host_copy.specs.Gathered.{and_link}
 use Rattle.pv_host_copy.specs.Importing.{Settles}
-use Rattle.pv_host_copy.proofs.Stepping.{goes-residual}
+use Rattle.pv_host_copy.proofs.ImportSteps.{goes-residual}
 use Rattle.pv_host_copy.proofs.importing.Importing.keep_link.Goals as goal
 
 pub returns-in_err-settle-clause-goes : goal.returns-in_err-settle-clause-goes

@@ -2,7 +2,7 @@ use Rattle.std.proofs.Common.{◌∙◌, ap, sym, Ok}
 use Rattle.std.proofs.lemmas.Result.{err_from_is_err_and}
 use Rattle.pv_model.specs.Machine.{lines_of, read_bundle}
 use Rattle.pv_image_manifest.specs.Reading.{manifest_before}
-use Rattle.pv_image_manifest.proofs.Ends.{end_begins}
+use Rattle.pv_image_manifest.proofs.TextEnds.{end_begins}
 use Rattle.pv_image_manifest.proofs.WholeManifests.{refuses_along, bundle_is_read}
 use Rattle.pv_image_manifest.proofs.bundle.Bundle.parse.Goals as goal
 

@@ -3,7 +3,7 @@ use Rattle.pv_blocks.specs.BlockSet.{is_member}
 use Rattle.pv_model.specs.Machine.{block, field, block_number, is_data_block, rounded_up}
 use Rattle.pv_image_mount.specs.Rows.{pointed_row, pointer_row}
 use Rattle.pv_image_mount.proofs.PointerRows.{get_or-row, pointed_end, pointed_from}
-use Rattle.pv_image_mount.proofs.Refusals.{left_less, left_refused, none_left, none_left-taken}
+use Rattle.pv_image_mount.proofs.InvalidBlocks.{left_less, left_refused, none_left, none_left-taken}
 use Rattle.pv_image_mount.proofs.image.Image.claim_pointed.Goals as goal
 use Rattle.pv_image_mount.proofs.image.Image.claim_pointed.Goals.{After-min}
 

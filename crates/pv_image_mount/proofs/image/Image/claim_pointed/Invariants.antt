@@ -2,7 +2,7 @@ use Rattle.std.proofs.Common.{◌*◌, ◌-◌, drop}
 use Rattle.pv_blocks.specs.BlockSet.{is_member}
 use Rattle.pv_model.specs.Machine.{is_data_block, rounded_up}
 use Rattle.pv_image_mount.specs.Rows.{pointed_row, pointer_row}
-use Rattle.pv_image_mount.proofs.Refusals.{IsLeft}
+use Rattle.pv_image_mount.proofs.InvalidBlocks.{IsLeft}
 use Rattle.pv_image_mount.proofs.image.Image.claim_pointed.Given as goal
 
 -- the pointers in the index blocks from here on remain

@@ -3,7 +3,7 @@ use Rattle.pv_blocks.specs.BlockSet.{is_member}
 use Rattle.pv_model.specs.Machine.{is_data_block}
 use Rattle.pv_image_mount.specs.Rows.{pointer_row}
 use Rattle.pv_image_mount.proofs.PointerRows.{row_end, row_from}
-use Rattle.pv_image_mount.proofs.Refusals.{left_less, left_refused, none_left, none_left-taken, one_claimed, one_more, one_taken, one_unusable}
+use Rattle.pv_image_mount.proofs.InvalidBlocks.{left_less, left_refused, none_left, none_left-taken, one_claimed, one_more, one_taken, one_unusable}
 use Rattle.pv_image_mount.proofs.image.Image.claim_row.Goals as goal
 use Rattle.pv_image_mount.proofs.image.Image.claim_row.Goals.{then-not-is_data_block-via-then-not-is_data_block, then-not-is_data_block-via-else-not-is_data_block+then-contains}
 

@@ -4,7 +4,7 @@ use Rattle.pv_model.specs.Machine.{block_count, used_content, used_index, is_dat
 use Rattle.pv_image_mount.specs.Rows.{pointed_row, pointer_row}
 use Rattle.pv_image_mount.proofs.InodeContents.{is_data-within, none_at}
 use Rattle.pv_image_mount.proofs.PointerRows.{length-row, used_rows}
-use Rattle.pv_image_mount.proofs.Refusals.{all_left, free-parts, left_less, left_refused, two_less}
+use Rattle.pv_image_mount.proofs.InvalidBlocks.{all_left, free-parts, left_less, left_refused, two_less}
 use Rattle.pv_image_mount.proofs.image.Image.claim_used.Goals as goal
 
 pub returns-then-claim_row-clause-refused : goal.returns-then-claim_row-clause-refused

@@ -1,6 +1,6 @@
 use Rattle.std.proofs.Common.{◌≡◌, ◌<◌, ◌/◌, length, map, ap, subst, ◌∙◌, arith}
 use Rattle.pv_model.specs.Machine.{slot_name, slots_of, entry_length}
-use Rattle.pv_image_mount.specs.Slots.{name_key, slot_at, slot_key}
+use Rattle.pv_image_mount.specs.Slots.{name_key, slot_of_content, slot_key}
 use Rattle.pv_image_mount.proofs.SlotRows.{keys_more, name_fits}
 use Rattle.pv_image_mount.proofs.image.Image.keys.Goals as goal
 
@@ -14,7 +14,7 @@ pub loop-i-preserved : goal.loop-i-preserved
 loop-i-preserved c =
     let v = c.args.self.now.version in
     let content = c.args.content.now in
-    let key : c.key_of.result ≡ slot_key (slot_at v content c.loop-i.i) = c.key_of.ensures ∙ ap name_key (c.slot_name.ensures ∙ ap slot_name c.slot.ensures.bytes) in
+    let key : c.key_of.result ≡ slot_key (slot_of_content v content c.loop-i.i) = c.key_of.ensures ∙ ap name_key (c.slot_name.ensures ∙ ap slot_name c.slot.ensures.bytes) in
     keys_more v content c.loop-i.i c.loop-i.keys.items c.push.new.self.items c.key_of.result c.loop-i.invariant c.in_ok-push.ensures.items key
 
 pub returns : goal.returns

@@ -2,7 +2,7 @@ use Rattle.std.proofs.Common.{◌≡◌, ◌+◌, ◌≤◌, ◌<◌, ◌++◌, 
 use Rattle.std.proofs.lemmas.List.{append-nil, drop_all, take_all}
 use Rattle.pv_model.specs.Machine.{inode_number}
 use Rattle.pv_image_mount.specs.Places.{targets_of}
-use Rattle.pv_image_mount.proofs.Counting.{counts_all, counts_begin, counts_more, AreCounted, HasNameCounts}
+use Rattle.pv_image_mount.proofs.NameCounts.{counts_all, counts_begin, counts_more, AreCounted, HasNameCounts}
 use Rattle.pv_image_mount.proofs.SlotTargets.{few_targets, target_number}
 use Rattle.pv_image_mount.proofs.image.Image.name_counts.Goals as goal
 

@@ -1,4 +1,4 @@
-use Rattle.pv_image_mount.proofs.Counting.{HasNameCounts}
+use Rattle.pv_image_mount.proofs.NameCounts.{HasNameCounts}
 use Rattle.pv_image_mount.proofs.image.Image.name_counts.Given as goal
 
 -- the slots of the directories so far are counted

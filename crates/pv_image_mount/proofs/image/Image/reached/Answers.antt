@@ -1,10 +1,10 @@
 use Rattle.std.proofs.Common.{◌≡◌, ◌+◌, ◌<◌, ◌++◌, ◌∷◌, [], List, ℕ, length, get_or, ap, sym, subst, ◌∙◌, arith}
 use Rattle.std.proofs.lemmas.List.{get_or_read}
 use Rattle.std.specs.Prelude.{◌||◌, ◌==◌}
-use Rattle.pv_image_mount.specs.Numbers.{IsNumber}
-use Rattle.pv_image_mount.specs.Places.{joined, targets_of, HasEach}
-use Rattle.pv_image_mount.proofs.Joining.{one_each}
-use Rattle.pv_image_mount.proofs.Reaching.{few_visited, visit_begins, visit_more, visited_all, IsVisited}
+use Rattle.pv_image_mount.specs.Numbers.{IsInodeNumber}
+use Rattle.pv_image_mount.specs.Places.{joined_numbers, targets_of, HasEach}
+use Rattle.pv_image_mount.proofs.NumberUnions.{one_each}
+use Rattle.pv_image_mount.proofs.ReachableInodes.{few_visited, visit_begins, visit_more, visited_all, IsVisited}
 use Rattle.pv_image_mount.proofs.image.Image.reached.Goals as goal
 
 pub loop-at-init : goal.loop-at-init
@@ -22,7 +22,7 @@ loop-at-preserved c =
     let below : at < length order = omega (arith, c.loop-at-test.true, c.len.ensures, c.loop-at.order.ok.0) in
     let is : c.index.result.now ≡ get_or order at 0 = get_or_read order at c.index.result.now below c.index.ensures 0 in
     let listed : c.as_slice.result.now ≡ targets_of v bytes (get_or order at 0) = c.as_slice.ensures.value ∙ c.in_ok-targets.ensures ∙ ap (targets_of v bytes) is in
-    let joins : c.add_unseen.new.order.items ≡ joined order (targets_of v bytes (get_or order at 0)) = c.in_ok-add_unseen.ensures.order ∙ ap (joined order) listed in
+    let joins : c.add_unseen.new.order.items ≡ joined_numbers order (targets_of v bytes (get_or order at 0)) = c.in_ok-add_unseen.ensures.order ∙ ap (joined_numbers order) listed in
     let has = subst (λ l. HasEach c.add_unseen.new.seen l) joins c.in_ok-add_unseen.ensures.seen in
     subst (λ l. IsVisited v bytes c.add_unseen.new.seen l (at + 1)) (sym joins)
     (visit_more v bytes c.loop-at.seen c.add_unseen.new.seen order at c.requires.contents c.loop-at.invariant below has)
@@ -38,14 +38,14 @@ targets-requires-clause-number c =
     let order = c.loop-at.order.items in
     let below : c.loop-at.at < length order = omega (arith, c.loop-at-test.true, c.len.ensures, c.loop-at.order.ok.0) in
     let is : c.index.result.now ≡ get_or order c.loop-at.at 0 = get_or_read order c.loop-at.at c.index.result.now below c.index.ensures 0 in
-    subst (IsNumber c.args.self.now.bytes.now) (sym is) (c.loop-at.invariant.reached c.loop-at.at below).1
+    subst (IsInodeNumber c.args.self.now.bytes.now) (sym is) (c.loop-at.invariant.reached c.loop-at.at below).1
 
 pub targets-requires-clause-inode : goal.targets-requires-clause-inode
 targets-requires-clause-inode c =
     let order = c.loop-at.order.items in
     let below : c.loop-at.at < length order = omega (arith, c.loop-at-test.true, c.len.ensures, c.loop-at.order.ok.0) in
     let is : c.index.result.now ≡ get_or order c.loop-at.at 0 = get_or_read order c.loop-at.at c.index.result.now below c.index.ensures 0 in
-    let number = subst (IsNumber c.args.self.now.bytes.now) (sym is) (c.loop-at.invariant.reached c.loop-at.at below).1 in
+    let number = subst (IsInodeNumber c.args.self.now.bytes.now) (sym is) (c.loop-at.invariant.reached c.loop-at.at below).1 in
     c.requires.inodes c.index.result.now number.0 number.1
 
 pub targets-requires-clause-block : goal.targets-requires-clause-block
@@ -53,7 +53,7 @@ targets-requires-clause-block c =
     let order = c.loop-at.order.items in
     let below : c.loop-at.at < length order = omega (arith, c.loop-at-test.true, c.len.ensures, c.loop-at.order.ok.0) in
     let is : c.index.result.now ≡ get_or order c.loop-at.at 0 = get_or_read order c.loop-at.at c.index.result.now below c.index.ensures 0 in
-    let number = subst (IsNumber c.args.self.now.bytes.now) (sym is) (c.loop-at.invariant.reached c.loop-at.at below).1 in
+    let number = subst (IsInodeNumber c.args.self.now.bytes.now) (sym is) (c.loop-at.invariant.reached c.loop-at.at below).1 in
     c.requires.blocks c.index.result.now number.0 number.1
 
 pub add_unseen-requires : goal.add_unseen-requires

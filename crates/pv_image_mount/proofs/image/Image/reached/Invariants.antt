@@ -1,6 +1,6 @@
 use Rattle.std.proofs.Common.{◌+◌, ◌-◌}
 use Rattle.pv_model.specs.Machine.{inode_number}
-use Rattle.pv_image_mount.proofs.Reaching.{IsVisited}
+use Rattle.pv_image_mount.proofs.ReachableInodes.{IsVisited}
 use Rattle.pv_image_mount.proofs.image.Image.reached.Given as goal
 
 abbrev pub invariant-loop-at : goal.invariant-loop-at

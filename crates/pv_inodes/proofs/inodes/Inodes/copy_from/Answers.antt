@@ -3,9 +3,9 @@ use Rattle.pv_model.specs.declared.version.Version.{Version}
 use Rattle.pv_blocks.specs.BlockStore.{BlockStore}
 use Rattle.pv_inodes.specs.Files.{Files, IsUsed}
 use Rattle.pv_inodes.specs.Sound.{IsSound, first_data, files_of}
-use Rattle.pv_inodes.proofs.Copying.{copied_files, copied_sound}
-use Rattle.pv_inodes.proofs.Becoming.{blocks-files_of, version-files_of}
-use Rattle.pv_inodes.proofs.Reading.{length-files_of}
+use Rattle.pv_inodes.proofs.StoreCopies.{copied_files, copied_sound}
+use Rattle.pv_inodes.proofs.ChangedInode.{blocks-files_of, version-files_of}
+use Rattle.pv_inodes.proofs.ReadResults.{length-files_of}
 use Rattle.pv_inodes.proofs.inodes.Inodes.copy_from.Goals as goal
 
 -- the files determine the number of all blocks

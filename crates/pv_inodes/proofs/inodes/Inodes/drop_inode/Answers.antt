@@ -3,11 +3,11 @@ use Rattle.pv_blocks.specs.BlockStore.{BlockStore}
 use Rattle.pv_inodes.specs.Files.{Files, without}
 use Rattle.pv_inodes.specs.Layout.{size_at}
 use Rattle.pv_inodes.specs.Sound.{files_of, rekinded}
-use Rattle.pv_inodes.proofs.Bytes.{length-resize}
-use Rattle.pv_inodes.proofs.Edits.{used-left, bytes_at-left, without-left}
-use Rattle.pv_inodes.proofs.InUse.{InUse, in_use}
-use Rattle.pv_inodes.proofs.Least.{all_used-without}
-use Rattle.pv_inodes.proofs.Making.{sound_dropped, files_of-dropped}
+use Rattle.pv_inodes.proofs.ByteLists.{length-resize}
+use Rattle.pv_inodes.proofs.EditedFiles.{used-left, inode_bytes_at-left, without-left}
+use Rattle.pv_inodes.proofs.UsedInodes.{InUse, in_use}
+use Rattle.pv_inodes.proofs.LeastFreeInode.{all_used-without}
+use Rattle.pv_inodes.proofs.InodeCreation.{sound_dropped, files_of-dropped}
 use Rattle.pv_inodes.proofs.inodes.Inodes.drop_inode.Goals as goal
 use Rattle.pv_inodes.proofs.inodes.Inodes.drop_inode.Goals.{After-slot-slot, After-set_kind}
 
@@ -22,7 +22,7 @@ set_kind-requires c = (known (goal.at.set_kind-requires c).After-slot-slot).home
 
 -- no bytes remain
 empty : (c : After-slot-slot) → size_at c.self.inside.version c.self.inside.blocks.blocks c.slot-slot.result ≡ 0
-empty c = (known c).size ∙ ap length (bytes_at-left _ _ _ _ c.requires c.shrink.ensures) ∙ length-resize _ _
+empty c = (known c).size ∙ ap length (inode_bytes_at-left _ _ _ _ c.requires c.shrink.ensures) ∙ length-resize _ _
 
 -- the kind field of the inode is cleared
 dropped : (c : After-set_kind) → c.set_kind.new.blocks ≡ rekinded c.self.inside.version c.self.inside.blocks c.slot-slot.result 0

@@ -1,9 +1,9 @@
 use Rattle.std.proofs.Common.{◌≡◌, ◌+◌, ◌/◌, ap, ◌∙◌, arith}
-use Rattle.pv_blocks.specs.BlockStore.{blocks_of, free_from}
+use Rattle.pv_blocks.specs.BlockStore.{blocks_in_bytes, free_from}
 use Rattle.pv_inodes.specs.Files.{Files}
 use Rattle.pv_inodes.specs.Sound.{first_data}
-use Rattle.pv_inodes.proofs.Emptiness.{IsEmptyStore, sound_empty, files_of-empty}
-use Rattle.pv_inodes.proofs.Layouts.{first_data-is}
+use Rattle.pv_inodes.proofs.EmptyStore.{IsEmptyStore, sound_empty, files_of-empty}
+use Rattle.pv_inodes.proofs.InodeLayouts.{first_data-is}
 use Rattle.pv_inodes.proofs.inodes.Inodes.empty.Goals as goal
 use Rattle.pv_inodes.proofs.inodes.Inodes.empty.Goals.{After-of_bytes}
 
@@ -17,7 +17,7 @@ over_zeros c =
       zeros = c.requires.zeros;
       none = c.new.ensures.empty;
       fits = omega (arith, c.requires.sizes.some_blocks, first_data-is c.args.version c.args.inodes);
-      blocks = c.of_bytes.ensures.blocks ∙ ap (λ n. blocks_of n c.args.zeros.items) count;
+      blocks = c.of_bytes.ensures.blocks ∙ ap (λ n. blocks_in_bytes n c.args.zeros.items) count;
       free = c.of_bytes.ensures.free ∙ ap (λ n. free_from (c.div_ceil.result + 1) c.new.result n) count ∙ ap (λ n. free_from n c.new.result c.args.blocks) first;
       first = c.of_bytes.ensures.first ∙ first;
     }

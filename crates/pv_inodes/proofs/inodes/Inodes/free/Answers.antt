@@ -1,5 +1,5 @@
 use Rattle.std.proofs.Common.{arith}
-use Rattle.pv_inodes.proofs.InUse.{free_left}
+use Rattle.pv_inodes.proofs.UsedInodes.{free_left}
 use Rattle.pv_inodes.proofs.inodes.Inodes.free.Goals as goal
 
 pub returns : goal.returns

@@ -1,12 +1,12 @@
 use Rattle.std.proofs.Common.{◌≡◌, ◌+◌, ◌<◌, suc, length, refl, sym, ap, ◌∙◌, arith}
 use Rattle.pv_blocks.specs.BlockStore.{BlockStore}
-use Rattle.pv_inodes.specs.Files.{Files, held, sort_of, with_new}
+use Rattle.pv_inodes.specs.Files.{Files, held, kind_of_number, with_new}
 use Rattle.pv_inodes.specs.Layout.{kind_at, with_kind}
-use Rattle.pv_inodes.specs.Sound.{files_of, resized, rekinded}
-use Rattle.pv_inodes.proofs.Becoming.{held-files_of}
-use Rattle.pv_inodes.proofs.Least.{all_used-with_new}
-use Rattle.pv_inodes.proofs.Making.{home_within, sound_made, files_of-made, total_sized}
-use Rattle.pv_inodes.proofs.Reading.{node_none, length-files_of}
+use Rattle.pv_inodes.specs.Sound.{files_of, resized_store, rekinded}
+use Rattle.pv_inodes.proofs.ChangedInode.{held-files_of}
+use Rattle.pv_inodes.proofs.LeastFreeInode.{all_used-with_new}
+use Rattle.pv_inodes.proofs.InodeCreation.{home_within, sound_made, files_of-made, total_sized}
+use Rattle.pv_inodes.proofs.ReadResults.{node_none, length-files_of}
 use Rattle.pv_inodes.proofs.inodes.Inodes.fresh.Goals as goal
 use Rattle.pv_inodes.proofs.inodes.Inodes.fresh.Goals.{In_ok-slot, After-set_kind}
 
@@ -32,18 +32,18 @@ pub overflow_add-result : goal.overflow_add-result
 overflow_add-result c = omega (arith, below (goal.at.overflow_add-result c).In_ok-slot)
 
 -- the length and the kind field of the inode are written
-made : (c : After-set_kind) → c.set_kind.new.blocks ≡ rekinded c.self.inside.version (resized c.self.inside.version c.self.inside.blocks c.in_ok-slot.slot 0) c.in_ok-slot.slot c.number_of.result
-unfolding rekinded resized
+made : (c : After-set_kind) → c.set_kind.new.blocks ≡ rekinded c.self.inside.version (resized_store c.self.inside.version c.self.inside.blocks c.in_ok-slot.slot 0) c.in_ok-slot.slot c.number_of.result
+unfolding rekinded resized_store
 made c = c.set_kind.ensures ∙ ap (λ (st : BlockStore). record st { blocks = with_kind c.self.inside.version st.blocks c.in_ok-slot.slot c.number_of.result }) c.set_size.ensures
 
-taken : (c : After-set_kind) → files_of c.self.inside.version c.set_kind.new.blocks c.self.inside.inodes ≡ with_new c.args.self.now (c.in_ok-slot.slot + 1) (sort_of c.number_of.result)
+taken : (c : After-set_kind) → files_of c.self.inside.version c.set_kind.new.blocks c.self.inside.inodes ≡ with_new c.args.self.now (c.in_ok-slot.slot + 1) (kind_of_number c.number_of.result)
 taken c =
     let start = (goal.at.After-set_kind c).In_ok-slot in
     let next : suc c.in_ok-slot.slot ≡ c.in_ok-slot.slot + 1 = omega arith in
     ap (λ (st : BlockStore). files_of c.self.inside.version st c.self.inside.inodes) (made c)
     ∙ files_of-made c.self.inside.version _ _ _ c.self.invariant.0 (below start) (unused start) c.number_of.result c.number_of.ensures.some c.number_of.ensures.few
-    ∙ ap (λ (f : Files). with_new f (suc c.in_ok-slot.slot) (sort_of c.number_of.result)) c.self.view_is
-    ∙ ap (λ n. with_new c.args.self.now n (sort_of c.number_of.result)) next
+    ∙ ap (λ (f : Files). with_new f (suc c.in_ok-slot.slot) (kind_of_number c.number_of.result)) c.self.view_is
+    ∙ ap (λ n. with_new c.args.self.now n (kind_of_number c.number_of.result)) next
 
 pub invariant_of-self : goal.invariant_of-self
 invariant_of-self c =

@@ -1,17 +1,17 @@
 use Rattle.std.proofs.Common.{◌≤◌, ap, sym, ◌∙◌, arith}
 use Rattle.pv_model.specs.Machine.{resize}
-use Rattle.pv_inodes.specs.Files.{bytes_at, with_bytes}
-use Rattle.pv_inodes.proofs.Bytes.{resize-itself}
-use Rattle.pv_inodes.proofs.Edits.{with_bytes-itself, used-grown, length-grown, grown-more, room-shorter}
+use Rattle.pv_inodes.specs.Files.{inode_bytes_at, files_with_bytes}
+use Rattle.pv_inodes.proofs.ByteLists.{resize-itself}
+use Rattle.pv_inodes.proofs.EditedFiles.{files_with_bytes-itself, used-grown, length-grown, grown-more, room-shorter}
 use Rattle.pv_inodes.proofs.inodes.Inodes.grow.Goals as goal
 
 pub loop-length-init : goal.loop-length-init
 loop-length-init c =
-    let same = ap (resize (bytes_at c.args.self.now c.args.inode)) c.size-length.ensures.value ∙ resize-itself (bytes_at c.args.self.now c.args.inode) in
+    let same = ap (resize (inode_bytes_at c.args.self.now c.args.inode)) c.size-length.ensures.value ∙ resize-itself (inode_bytes_at c.args.self.now c.args.inode) in
     record {
       longer = omega (arith, c.size-length.ensures.value);
       within = omega (arith, c.size-length.ensures.value, c.requires.longer);
-      grown = sym (ap (with_bytes c.args.self.now c.args.inode) same ∙ with_bytes-itself c.args.self.now c.args.inode c.requires.used);
+      grown = sym (ap (files_with_bytes c.args.self.now c.args.inode) same ∙ files_with_bytes-itself c.args.self.now c.args.inode c.requires.used);
     }
 
 pub grow_step-requires-clause-used : goal.grow_step-requires-clause-used

@@ -1,12 +1,12 @@
 use Rattle.std.proofs.Common.{◌≡◌, ◌+◌, length, ap, sym, ◌∙◌, arith}
 use Rattle.pv_model.specs.Machine.{resize}
-use Rattle.pv_inodes.proofs.Bytes.{length-resize}
-use Rattle.pv_inodes.specs.Files.{bytes_at}
+use Rattle.pv_inodes.proofs.ByteLists.{length-resize}
+use Rattle.pv_inodes.specs.Files.{inode_bytes_at}
 use Rattle.pv_inodes.specs.Layout.{owned_count, wanted}
-use Rattle.pv_inodes.proofs.InUse.{InUse, in_use}
-use Rattle.pv_inodes.proofs.Layouts.{greatest_length-most, wanted-most}
-use Rattle.pv_inodes.proofs.Least.{all_used-with_bytes}
-use Rattle.pv_inodes.proofs.Leaving.{Leaves, leaves_by_block, length-pushed, wanted_next, room_enough}
+use Rattle.pv_inodes.proofs.UsedInodes.{InUse, in_use}
+use Rattle.pv_inodes.proofs.InodeLayouts.{greatest_length-most, wanted-most}
+use Rattle.pv_inodes.proofs.LeastFreeInode.{all_used-files_with_bytes}
+use Rattle.pv_inodes.proofs.MethodResults.{Leaves, leaves_by_block, length-pushed, wanted_next, room_enough}
 use Rattle.pv_inodes.proofs.inodes.Inodes.grow_by_block.Goals as goal
 use Rattle.pv_inodes.proofs.inodes.Inodes.grow_by_block.Goals.{After-slot-slot, After-room-owned, After-set_size}
 
@@ -20,16 +20,16 @@ pub room-owned-requires : goal.room-owned-requires
 room-owned-requires c = let k = known (goal.at.room-owned-requires c).After-slot-slot in omega (arith, c.size_of.ensures, k.allowed, greatest_length-most c.self.inside.version)
 
 -- one more block is needed
-owned_is : (c : After-room-owned) → c.room-owned.result ≡ wanted (length (bytes_at c.args.self.now c.args.inode))
+owned_is : (c : After-room-owned) → c.room-owned.result ≡ wanted (length (inode_bytes_at c.args.self.now c.args.inode))
 owned_is c = c.room-owned.ensures ∙ ap wanted (c.size_of.ensures ∙ (known (goal.at.After-room-owned c).After-slot-slot).size)
 
-more : (c : After-slot-slot) → wanted c.args.size ≡ wanted (length (bytes_at c.args.self.now c.args.inode)) + 1
-more c = omega (arith, wanted_next (length (bytes_at c.args.self.now c.args.inode)) c.args.size c.requires.full c.requires.longer c.requires.within, c.requires.next)
+more : (c : After-slot-slot) → wanted c.args.size ≡ wanted (length (inode_bytes_at c.args.self.now c.args.inode)) + 1
+more c = omega (arith, wanted_next (length (inode_bytes_at c.args.self.now c.args.inode)) c.args.size c.requires.full c.requires.longer c.requires.within, c.requires.next)
 
 pub push_block-block-requires-clause-free : goal.push_block-block-requires-clause-free
 push_block-block-requires-clause-free c none =
     let k = known (goal.at.push_block-block-requires-clause-free c).After-slot-slot in
-    let long = length-resize (bytes_at c.args.self.now c.args.inode) c.args.size in
+    let long = length-resize (inode_bytes_at c.args.self.now c.args.inode) c.args.size in
     let allowed = rw k.same_version at c.requires.allowed in
     let enough = room_enough c.self.inside.version _ _ _ _ _ _ c.self.invariant.0 c.self.view_is c.requires.used k (rw long allowed) c.requires.room in
     omega (arith, rw long at enough, more (goal.at.push_block-block-requires-clause-free c).After-slot-slot)
@@ -55,14 +55,14 @@ set_size-requires c =
     let k = known (goal.at.set_size-requires c).After-slot-slot in
     rw (length-pushed c.self.inside.version _ _ _ _ _ c.push_block-block.ensures.after) k.home_within
 
-left : (c : After-set_size) → Leaves c.self.inside.version c.set_size.new.blocks c.self.inside.inodes c.args.self.now c.args.inode (resize (bytes_at c.args.self.now c.args.inode) c.args.size)
+left : (c : After-set_size) → Leaves c.self.inside.version c.set_size.new.blocks c.self.inside.inodes c.args.self.now c.args.inode (resize (inode_bytes_at c.args.self.now c.args.inode) c.args.size)
 left c =
     let k = known (goal.at.After-set_size c).After-slot-slot in
     leaves_by_block c.self.inside.version _ _ _ _ _ _ c.slot-slot.result _ _ c.push_block-block.result c.self.invariant.0 k (rw k.same_version at c.requires.allowed) c.requires.longer c.requires.full c.requires.within c.requires.next
     (owned_is (goal.at.After-set_size c).After-room-owned) c.push_block-block.type_inv c.push_block-block.ensures.free c.push_block-block.ensures.after c.set_size.ensures
 
 pub invariant_of-self : goal.invariant_of-self
-invariant_of-self c = ((left c).sound, all_used-with_bytes _ _ _ _ _ _ c.self.invariant.1 c.self.view_is (left c).files)
+invariant_of-self c = ((left c).sound, all_used-files_with_bytes _ _ _ _ _ _ c.self.invariant.1 c.self.view_is (left c).files)
 
 pub returns : goal.returns
 returns c = (left c).files

@@ -1,13 +1,13 @@
 use Rattle.std.proofs.Common.{◌≡◌, ◌≤◌, ◌+◌, suc, length, sym, ap, ◌∙◌, arith}
 use Rattle.pv_blocks.specs.BlockStore.{free_count}
 use Rattle.pv_model.specs.Machine.{resize}
-use Rattle.pv_inodes.proofs.Bytes.{length-resize}
-use Rattle.pv_inodes.specs.Files.{bytes_at}
+use Rattle.pv_inodes.proofs.ByteLists.{length-resize}
+use Rattle.pv_inodes.specs.Files.{inode_bytes_at}
 use Rattle.pv_inodes.specs.Layout.{most_owned, wanted}
-use Rattle.pv_inodes.proofs.InUse.{InUse, in_use}
-use Rattle.pv_inodes.proofs.Layouts.{greatest_length-most, index_pointers-few, wanted-most}
-use Rattle.pv_inodes.proofs.Least.{all_used-with_bytes}
-use Rattle.pv_inodes.proofs.Leaving.{Leaves, TakesIndex, takes_index, leaves_by_index, length-pushed, free_count-pushed, wanted_next, room_enough}
+use Rattle.pv_inodes.proofs.UsedInodes.{InUse, in_use}
+use Rattle.pv_inodes.proofs.InodeLayouts.{greatest_length-most, index_pointers-few, wanted-most}
+use Rattle.pv_inodes.proofs.LeastFreeInode.{all_used-files_with_bytes}
+use Rattle.pv_inodes.proofs.MethodResults.{Leaves, TakesIndex, takes_index, leaves_by_index, length-pushed, free_count-pushed, wanted_next, room_enough}
 use Rattle.pv_inodes.proofs.inodes.Inodes.grow_by_index.Goals as goal
 use Rattle.pv_inodes.proofs.inodes.Inodes.grow_by_index.Goals.{After-slot-slot, After-room-owned, After-push_block-index, After-set_size}
 
@@ -20,17 +20,17 @@ size_of-requires c = (known (goal.at.size_of-requires c).After-slot-slot).home_w
 pub room-owned-requires : goal.room-owned-requires
 room-owned-requires c = let k = known (goal.at.room-owned-requires c).After-slot-slot in omega (arith, c.size_of.ensures, k.allowed, greatest_length-most c.self.inside.version)
 
-owned_is : (c : After-room-owned) → c.room-owned.result ≡ wanted (length (bytes_at c.args.self.now c.args.inode))
+owned_is : (c : After-room-owned) → c.room-owned.result ≡ wanted (length (inode_bytes_at c.args.self.now c.args.inode))
 owned_is c = c.room-owned.ensures ∙ ap wanted (c.size_of.ensures ∙ (known (goal.at.After-room-owned c).After-slot-slot).size)
 
 -- two more blocks are needed
 more : (c : After-room-owned) → wanted c.args.size ≡ c.room-owned.result + 2
-more c = omega (arith, owned_is c, wanted_next (length (bytes_at c.args.self.now c.args.inode)) c.args.size c.requires.full c.requires.longer c.requires.within, c.requires.next)
+more c = omega (arith, owned_is c, wanted_next (length (inode_bytes_at c.args.self.now c.args.inode)) c.args.size c.requires.full c.requires.longer c.requires.within, c.requires.next)
 
 enough : (c : After-room-owned) → 2 ≤ free_count c.self.inside.blocks
 enough c =
     let k = known (goal.at.After-room-owned c).After-slot-slot in
-    let long = length-resize (bytes_at c.args.self.now c.args.inode) c.args.size in
+    let long = length-resize (inode_bytes_at c.args.self.now c.args.inode) c.args.size in
     let allowed = rw k.same_version at c.requires.allowed in
     let room = room_enough c.self.inside.version _ _ _ _ _ _ c.self.invariant.0 c.self.view_is c.requires.used k (rw long allowed) c.requires.room in
     omega (arith, rw long at room, more c, owned_is c)
@@ -92,7 +92,7 @@ set_size-requires c =
     let taken = index (goal.at.set_size-requires c).After-push_block-index in
     rw (length-pushed c.self.inside.version _ _ _ _ _ c.push_block-block.ensures.after, taken.total) k.home_within
 
-left : (c : After-set_size) → Leaves c.self.inside.version c.set_size.new.blocks c.self.inside.inodes c.args.self.now c.args.inode (resize (bytes_at c.args.self.now c.args.inode) c.args.size)
+left : (c : After-set_size) → Leaves c.self.inside.version c.set_size.new.blocks c.self.inside.inodes c.args.self.now c.args.inode (resize (inode_bytes_at c.args.self.now c.args.inode) c.args.size)
 left c =
     let k = known (goal.at.After-set_size c).After-slot-slot in
     let next : c.room-owned.result + 1 ≡ suc c.room-owned.result = omega arith in
@@ -102,7 +102,7 @@ left c =
     c.push_block-block.type_inv c.push_block-block.ensures.free (rw next at c.push_block-block.ensures.after) c.set_size.ensures
 
 pub invariant_of-self : goal.invariant_of-self
-invariant_of-self c = ((left c).sound, all_used-with_bytes _ _ _ _ _ _ c.self.invariant.1 c.self.view_is (left c).files)
+invariant_of-self c = ((left c).sound, all_used-files_with_bytes _ _ _ _ _ _ c.self.invariant.1 c.self.view_is (left c).files)
 
 pub returns : goal.returns
 returns c = (left c).files

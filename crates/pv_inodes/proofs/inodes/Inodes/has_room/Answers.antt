@@ -1,10 +1,10 @@
 use Rattle.std.proofs.Common.{◌≡◌, length, ap, ◌∙◌, arith}
 use Rattle.std.proofs.lemmas.Bool.{leb-true, leb-false}
-use Rattle.pv_inodes.specs.Files.{bytes_at}
+use Rattle.pv_inodes.specs.Files.{inode_bytes_at}
 use Rattle.pv_inodes.specs.Layout.{wanted}
-use Rattle.pv_inodes.proofs.InUse.{InUse, in_use}
-use Rattle.pv_inodes.proofs.Layouts.{greatest_length-most}
-use Rattle.pv_inodes.proofs.Reading.{has_room_if, lacks_room_if}
+use Rattle.pv_inodes.proofs.UsedInodes.{InUse, in_use}
+use Rattle.pv_inodes.proofs.InodeLayouts.{greatest_length-most}
+use Rattle.pv_inodes.proofs.ReadResults.{has_room_if, lacks_room_if}
 use Rattle.pv_inodes.proofs.inodes.Inodes.has_room.Goals as goal
 use Rattle.pv_inodes.proofs.inodes.Inodes.has_room.Goals.{After-self, After-room-owned}
 
@@ -20,7 +20,7 @@ room-owned-requires c = let k = known (goal.at.room-owned-requires c).After-self
 pub room-requires : goal.room-requires
 room-requires c = omega (arith, c.requires.allowed, greatest_length-most c.args.self.now.version)
 
-owned_is : (c : After-room-owned) → c.room-owned.result ≡ wanted (length (bytes_at c.args.self.now c.args.inode))
+owned_is : (c : After-room-owned) → c.room-owned.result ≡ wanted (length (inode_bytes_at c.args.self.now c.args.inode))
 owned_is c = c.room-owned.ensures ∙ ap wanted (c.size_of.ensures ∙ (known (goal.at.After-room-owned c).After-self).size)
 
 pub returns-clause-enough : goal.returns-clause-enough

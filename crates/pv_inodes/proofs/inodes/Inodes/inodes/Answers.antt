@@ -1,6 +1,6 @@
 use Rattle.std.proofs.Common.{length, sym, ap, ◌∙◌}
 use Rattle.pv_inodes.specs.Files.{Files}
-use Rattle.pv_inodes.proofs.Reading.{length-files_of}
+use Rattle.pv_inodes.proofs.ReadResults.{length-files_of}
 use Rattle.pv_inodes.proofs.inodes.Inodes.inodes.Goals as goal
 
 pub returns : goal.returns

@@ -1,9 +1,9 @@
 use Rattle.std.proofs.Common.{◌≡◌, ◌-◌, suc, eqb, not, sym, ap, subst, ◌∙◌, arith}
 use Rattle.std.proofs.lemmas.Bool.{not-true, eqb-false, ne_eqb, false≢true}
 use Rattle.pv_inodes.specs.Files.{Files, IsUsed}
-use Rattle.pv_inodes.proofs.Becoming.{used_slot}
-use Rattle.pv_inodes.proofs.Making.{home_within}
-use Rattle.pv_inodes.proofs.Reading.{used_from}
+use Rattle.pv_inodes.proofs.ChangedInode.{used_slot}
+use Rattle.pv_inodes.proofs.InodeCreation.{home_within}
+use Rattle.pv_inodes.proofs.ReadResults.{used_from}
 use Rattle.pv_inodes.proofs.inodes.Inodes.is_used.Goals as goal
 use Rattle.pv_inodes.proofs.inodes.Inodes.is_used.Goals.{then-inode-eq0-via-then-inode-eq0, then-inode-eq0-via-else-inode-eq0+then-inode-self}
 

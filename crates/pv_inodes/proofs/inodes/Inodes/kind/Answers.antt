@@ -1,6 +1,6 @@
 use Rattle.std.proofs.Common.{Some, ap, sym, ◌∙◌}
-use Rattle.pv_inodes.specs.Files.{sort_of}
-use Rattle.pv_inodes.proofs.InUse.{InUse, in_use, sort_in_use}
+use Rattle.pv_inodes.specs.Files.{kind_of_number}
+use Rattle.pv_inodes.proofs.UsedInodes.{InUse, in_use, sort_in_use}
 use Rattle.pv_inodes.proofs.inodes.Inodes.kind.Goals as goal
 use Rattle.pv_inodes.proofs.inodes.Inodes.kind.Goals.{After-self}
 
@@ -11,4 +11,4 @@ pub kind_of-requires : goal.kind_of-requires
 kind_of-requires c = (known (goal.at.kind_of-requires c).After-self).home_within
 
 pub returns : goal.returns
-returns c = sort_in_use c.self.inside.version _ _ _ _ _ (known (goal.at.returns c).After-self) ∙ ap Some (ap sort_of (sym c.kind_of.ensures) ∙ sym c.sort_from.ensures)
+returns c = sort_in_use c.self.inside.version _ _ _ _ _ (known (goal.at.returns c).After-self) ∙ ap Some (ap kind_of_number (sym c.kind_of.ensures) ∙ sym c.sort_from.ensures)

@@ -3,8 +3,8 @@ use Rattle.pv_blocks.specs.BlockStore.{free_from}
 use Rattle.pv_model.specs.Machine.{Bytes}
 use Rattle.pv_inodes.specs.Layout.{owned_count}
 use Rattle.pv_inodes.specs.Sound.{first_data}
-use Rattle.pv_inodes.proofs.Layouts.{first_data-is}
-use Rattle.pv_inodes.proofs.Mounting.{over_none, home_over, size_over, most_over, index_over, free_over, over_more, over_next, sound_over, files_of-over}
+use Rattle.pv_inodes.proofs.InodeLayouts.{first_data-is}
+use Rattle.pv_inodes.proofs.MountedStore.{over_none, home_over, size_over, most_over, index_over, free_over, over_more, over_next, sound_over, files_of-over}
 use Rattle.pv_inodes.proofs.inodes.Inodes.of_image.Goals as goal
 use Rattle.pv_inodes.proofs.inodes.Inodes.of_image.Goals.{In-loop-i}
 

@@ -1,5 +1,5 @@
 use Rattle.std.proofs.Common.{◌/◌, vec_len}
-use Rattle.pv_inodes.proofs.Mounting.{IsOver}
+use Rattle.pv_inodes.proofs.MountedStore.{IsOver}
 use Rattle.pv_inodes.proofs.inodes.Inodes.of_image.Given as goal
 
 -- the blocks of the inodes so far are in use

@@ -1,16 +1,16 @@
 use Rattle.std.proofs.Common.{◌≡◌, ◌+◌, ◌-◌, ◌≤◌, length, drop, ap, sym, ◌∙◌, arith}
 use Rattle.std.proofs.lemmas.List.{length-take-le, length-drop}
-use Rattle.pv_inodes.specs.Files.{bytes_at, with_bytes}
-use Rattle.pv_inodes.proofs.Layouts.{greatest_length-small}
-use Rattle.pv_inodes.proofs.Edits.{with_bytes-itself, overwrite-nothing, used-written, length-written, written-more}
+use Rattle.pv_inodes.specs.Files.{inode_bytes_at, files_with_bytes}
+use Rattle.pv_inodes.proofs.InodeLayouts.{greatest_length-small}
+use Rattle.pv_inodes.proofs.EditedFiles.{files_with_bytes-itself, overwrite-nothing, used-written_files, length-written_files, written_files-more}
 use Rattle.pv_inodes.proofs.inodes.Inodes.overwrite.Goals as goal
 
 pub loop-done-init : goal.loop-done-init
 loop-done-init c =
-    let place : c.args.at ≤ length (bytes_at c.args.self.now c.args.inode) = omega (arith, c.requires.within) in
+    let place : c.args.at ≤ length (inode_bytes_at c.args.self.now c.args.inode) = omega (arith, c.requires.within) in
     record {
       within = omega arith;
-      written = sym (ap (with_bytes c.args.self.now c.args.inode) (overwrite-nothing (bytes_at c.args.self.now c.args.inode) c.args.at place) ∙ with_bytes-itself c.args.self.now c.args.inode c.requires.used);
+      written = sym (ap (files_with_bytes c.args.self.now c.args.inode) (overwrite-nothing (inode_bytes_at c.args.self.now c.args.inode) c.args.at place) ∙ files_with_bytes-itself c.args.self.now c.args.inode c.requires.used);
     }
 
 pub overflow_cast-from : goal.overflow_cast-from
@@ -21,11 +21,11 @@ overflow_add-from c = omega (arith, c.requires.allowed, greatest_length-small c.
 
 pub write_part-requires-clause-used : goal.write_part-requires-clause-used
 write_part-requires-clause-used c =
-    used-written c.args.self.now c.loop-done.self c.args.inode c.args.at c.loop-done.done c.args.bytes.now c.requires.used c.loop-done.invariant.within c.requires.within c.loop-done.invariant.written
+    used-written_files c.args.self.now c.loop-done.self c.args.inode c.args.at c.loop-done.done c.args.bytes.now c.requires.used c.loop-done.invariant.within c.requires.within c.loop-done.invariant.written
 
 pub write_part-requires-clause-within : goal.write_part-requires-clause-within
 write_part-requires-clause-within c =
-    let long = length-written c.args.self.now c.loop-done.self c.args.inode c.args.at c.loop-done.done c.args.bytes.now c.requires.used c.loop-done.invariant.within c.requires.within c.loop-done.invariant.written in
+    let long = length-written_files c.args.self.now c.loop-done.self c.args.inode c.args.at c.loop-done.done c.args.bytes.now c.requires.used c.loop-done.invariant.within c.requires.within c.loop-done.invariant.written in
     let size : c.loop-done.done + c.min-count.result - c.loop-done.done ≡ c.min-count.result = omega arith in
     let part = length-take-le c.min-count.result (drop c.loop-done.done c.args.bytes.now) (omega (arith, length-drop c.loop-done.done c.args.bytes.now)) in
     rw (size, part, long) (omega (arith, c.requires.within))
@@ -36,5 +36,5 @@ loop-done-preserved c =
     let more : c.loop-done.done + c.min-count.result ≤ length c.args.bytes.now = omega arith in
     record {
       within = more;
-      written = rw size at c.write_part.ensures ∙ written-more c.args.self.now c.loop-done.self c.args.inode c.args.at c.loop-done.done c.args.bytes.now c.requires.used c.loop-done.invariant.within c.requires.within c.loop-done.invariant.written c.min-count.result more;
+      written = rw size at c.write_part.ensures ∙ written_files-more c.args.self.now c.loop-done.self c.args.inode c.args.at c.loop-done.done c.args.bytes.now c.requires.used c.loop-done.invariant.within c.requires.within c.loop-done.invariant.written c.min-count.result more;
     }

@@ -1,12 +1,12 @@
 use Rattle.std.proofs.Common.{◌≡◌, ◌-◌, suc, List, length, refl, ap, sym, subst, ◌∙◌, arith}
 use Rattle.pv_model.specs.Machine.{Bytes, resize}
-use Rattle.pv_inodes.specs.Files.{bytes_at}
+use Rattle.pv_inodes.specs.Files.{inode_bytes_at}
 use Rattle.pv_inodes.specs.Layout.{owned_at, owned_count, wanted}
-use Rattle.pv_inodes.proofs.Growth.{Reduced, reduced_none, reduced_more, MayGiveBack, may_give_back, reduced-index}
-use Rattle.pv_inodes.proofs.InUse.{InUse, in_use}
-use Rattle.pv_inodes.proofs.Layouts.{greatest_length-most, wanted-mono}
-use Rattle.pv_inodes.proofs.Least.{all_used-with_bytes}
-use Rattle.pv_inodes.proofs.Leaving.{Leaves, leaves_reduced}
+use Rattle.pv_inodes.proofs.ContentGrowth.{Reduced, reduced_none, reduced_more, MayGiveBack, may_give_back, reduced-index}
+use Rattle.pv_inodes.proofs.UsedInodes.{InUse, in_use}
+use Rattle.pv_inodes.proofs.InodeLayouts.{greatest_length-most, wanted-mono}
+use Rattle.pv_inodes.proofs.LeastFreeInode.{all_used-files_with_bytes}
+use Rattle.pv_inodes.proofs.MethodResults.{Leaves, leaves_reduced}
 use Rattle.pv_inodes.proofs.inodes.Inodes.shrink.Goals as goal
 use Rattle.pv_inodes.proofs.inodes.Inodes.shrink.Goals.{After-slot-slot, After-room-owned, In-loop-owned, After-owned_by-block, After-set_size}
 
@@ -32,7 +32,7 @@ pub loop-owned-init : goal.loop-owned-init
 loop-owned-init c =
     let k = known (goal.at.loop-owned-init c).After-slot-slot in
     let owned = owned_is (goal.at.loop-owned-init c).After-room-owned in
-    let fewer = wanted-mono c.args.size (length (bytes_at c.args.self.now c.args.inode)) c.requires.shorter in
+    let fewer = wanted-mono c.args.size (length (inode_bytes_at c.args.self.now c.args.inode)) c.requires.shorter in
     let all = ap wanted k.size in
     record {
       least = omega (arith, c.room-preserved.ensures, owned, k.count, fewer, all);
@@ -88,7 +88,7 @@ loop-owned-preserved c =
 pub set_size-requires : goal.set_size-requires
 set_size-requires c = rw (c.loop-owned.invariant.version, c.loop-owned.invariant.reduced.blocks) (known (goal.at.set_size-requires c).After-slot-slot).home_within
 
-left : (c : After-set_size) → Leaves c.self.inside.version c.set_size.new.blocks c.self.inside.inodes c.args.self.now c.args.inode (resize (bytes_at c.args.self.now c.args.inode) c.args.size)
+left : (c : After-set_size) → Leaves c.self.inside.version c.set_size.new.blocks c.self.inside.inodes c.args.self.now c.args.inode (resize (inode_bytes_at c.args.self.now c.args.inode) c.args.size)
 left c =
     let k = known (goal.at.After-set_size c).After-slot-slot in
     let all : c.loop-owned.owned ≡ wanted c.args.size = omega (arith, c.room-preserved.ensures, c.loop-owned.invariant.least) in
@@ -96,7 +96,7 @@ left c =
 
 pub invariant_of-self : goal.invariant_of-self
 invariant_of-self c =
-    rw (c.loop-owned.invariant.inodes, c.loop-owned.invariant.version, c.loop-owned.invariant.start) ((left c).sound, all_used-with_bytes _ _ _ _ _ _ c.self.invariant.1 c.self.view_is (left c).files)
+    rw (c.loop-owned.invariant.inodes, c.loop-owned.invariant.version, c.loop-owned.invariant.start) ((left c).sound, all_used-files_with_bytes _ _ _ _ _ _ c.self.invariant.1 c.self.view_is (left c).files)
 
 pub returns : goal.returns
 returns c = rw (c.loop-owned.invariant.inodes, c.loop-owned.invariant.version) (left c).files

@@ -1,6 +1,6 @@
 use Rattle.std.proofs.Common.{◌≡◌, ◌-◌, ◌≤◌}
 use Rattle.pv_inodes.specs.Layout.{most_owned}
-use Rattle.pv_inodes.proofs.Growth.{Reduced}
+use Rattle.pv_inodes.proofs.ContentGrowth.{Reduced}
 use Rattle.pv_inodes.proofs.inodes.Inodes.shrink.Given as goal
 
 -- all blocks except the remaining ones are freed

@@ -1,5 +1,5 @@
 use Rattle.std.proofs.Common.{◌∙◌, arith}
-use Rattle.pv_inodes.proofs.InUse.{InUse, in_use}
+use Rattle.pv_inodes.proofs.UsedInodes.{InUse, in_use}
 use Rattle.pv_inodes.proofs.inodes.Inodes.size.Goals as goal
 use Rattle.pv_inodes.proofs.inodes.Inodes.size.Goals.{After-self}
 

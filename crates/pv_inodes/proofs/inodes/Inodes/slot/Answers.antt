@@ -1,6 +1,6 @@
 use Rattle.std.proofs.Common.{◌≤◌, sym, subst, arith}
 use Rattle.pv_inodes.specs.Files.{Files, IsUsed}
-use Rattle.pv_inodes.proofs.Becoming.{used_slot}
+use Rattle.pv_inodes.proofs.ChangedInode.{used_slot}
 use Rattle.pv_inodes.proofs.inodes.Inodes.slot.Goals as goal
 
 pub overflow_sub-result : goal.overflow_sub-result

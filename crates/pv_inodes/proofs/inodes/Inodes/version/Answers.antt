@@ -1,6 +1,6 @@
 use Rattle.std.proofs.Common.{sym, ap, ◌∙◌}
 use Rattle.pv_inodes.specs.Files.{Files}
-use Rattle.pv_inodes.proofs.Becoming.{version-files_of}
+use Rattle.pv_inodes.proofs.ChangedInode.{version-files_of}
 use Rattle.pv_inodes.proofs.inodes.Inodes.version.Goals as goal
 
 pub returns : goal.returns

@@ -1,5 +1,5 @@
 use Rattle.std.proofs.Common.{◌∙◌, rules}
-use Rattle.pv_listing.proofs.Parts.{line-is}
+use Rattle.pv_listing.proofs.LineParts.{line-is}
 use Rattle.pv_listing.proofs.line.NodeLinesRemarks.write.Goals as goal
 
 pub returns : goal.returns

@@ -1,4 +1,4 @@
-use Rattle.pv_namei.proofs.Preserved.{entries-taken, preserved-taken, fits-taken, others-preserved}
+use Rattle.pv_namei.proofs.CachedAnswers.{entries-taken, preserved-taken, fits-taken, others-preserved}
 use Rattle.pv_namei.proofs.cached.CachedLookupLookup.changed.Goals as goal
 
 pub returns-then-name-le-NAME_V2-clause-agrees : goal.returns-then-name-le-NAME_V2-clause-agrees

@@ -1,7 +1,7 @@
 use Rattle.std.proofs.Common.{arith, sym, subst, ◌∙◌, Some}
 use Rattle.pv_model.specs.Machine.{find_entry}
 use Rattle.pv_namei.specs.Cached.{IsPut}
-use Rattle.pv_namei.proofs.Preserved.{pair-preserved, put-by-use, put-by-asking, fits-by-put, preserved-by-put}
+use Rattle.pv_namei.proofs.CachedAnswers.{pair-preserved, put-by-use, put-by-asking, fits-by-put, preserved-by-put}
 use Rattle.pv_namei.proofs.cached.CachedLookupLookup.look.Goals as goal
 
 -- if the answer is cached

@@ -2,7 +2,7 @@ use Rattle.std.proofs.Common.{◌≡◌, ◌++◌, length, ap, ◌∙◌, arith}
 use Rattle.std.proofs.lemmas.Result.{on_ok_weaker, on_err_weaker}
 use Rattle.pv_model.specs.Machine.{components, weight}
 use Rattle.pv_namei.specs.Components.{with_slashes}
-use Rattle.pv_namei.proofs.Encoding.{length-with_slashes, components-slash, weight-append, weight-components, components-joined}
+use Rattle.pv_namei.proofs.JoinedComponents.{length-with_slashes, components-slash, weight-append, weight-components, components-joined}
 use Rattle.pv_namei.proofs.joined.Joined.join.Goals as goal
 use Rattle.pv_namei.proofs.joined.Joined.join.Goals.{After-push_components-2}
 

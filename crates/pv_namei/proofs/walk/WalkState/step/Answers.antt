@@ -1,7 +1,7 @@
 use Rattle.std.proofs.Common.{Ok, Err, ap, ◌∙◌}
 use Rattle.std.proofs.lemmas.Result.{err_from_is_err_and}
 use Rattle.pv_namei.specs.Onward.{following, led}
-use Rattle.pv_namei.proofs.Steps.{remaining-led}
+use Rattle.pv_namei.proofs.WalkSteps.{remaining-led}
 use Rattle.pv_namei.proofs.walk.WalkState.step.Goals as goal
 
 pub returns-in_err-directory-clause-onward : goal.returns-in_err-directory-clause-onward

@@ -1,7 +1,7 @@
 use Rattle.std.proofs.Common.{◌∙◌, ap, slice_set, subst}
 use Rattle.std.proofs.lemmas.Result.{on_ok_weaker}
 use Rattle.pv_needs.specs.ProcessImages.{IsProcessMore, process_more}
-use Rattle.pv_needs.proofs.Keeping.{process-set}
+use Rattle.pv_needs.proofs.RecordLists.{process-set}
 use Rattle.pv_needs.proofs.process_images.Recorded.keep.Goals as goal
 
 pub returns : goal.returns

@@ -1,11 +1,11 @@
 use Rattle.std.proofs.Common.{sym, refl, subst, arith}
 use Rattle.pv_model.specs.Machine.{at_next_line, Program}
 use Rattle.pv_script.specs.Context.{Changes}
-use Rattle.pv_procs.specs.Slots.{process_of, program_at}
-use Rattle.pv_procs.proofs.Finding.{found-at, live-slot, status-at}
-use Rattle.pv_procs.proofs.Keeping.{preserved-set, roomy-set}
-use Rattle.pv_procs.proofs.Ends.{program-within}
-use Rattle.pv_procs.proofs.Turning.{program-read, context-changed}
+use Rattle.pv_procs.specs.Slots.{process_of, shared_program_at}
+use Rattle.pv_procs.proofs.SlotLookups.{found-at, live-slot, status-at}
+use Rattle.pv_procs.proofs.SlotInvariant.{preserved-set, roomy-set}
+use Rattle.pv_procs.proofs.EndedSlots.{program-within}
+use Rattle.pv_procs.proofs.ContextSteps.{program-read, context-changed}
 use Rattle.pv_procs.proofs.processes.Processes.advance.Goals as goal
 
 pub live_index-k-requires-clause-ascends : goal.live_index-k-requires-clause-ascends
@@ -38,4 +38,4 @@ returns c =
     let below = program-within i.slots.items i.programs.items i.last c.self.invariant.0 c.args.pid k slot at lives in
     let program = program-read i.programs.items slot.program c.index-shared.result.now (omega (arith, below, table)) c.index-shared.ensures in
     rw c.get_mut.ensures.value (context-changed i.slots.items i.programs.items i.last c.args.self.now c.self.view_is c.args.pid c.self.invariant.0.ascending k slot at c.requires c.advance.new.self at_next_line
-    (subst (λ (instructions : Program). Changes at_next_line instructions slot.record.context c.advance.new.self) (sym program) (rw c.get_mut.ensures.value at c.advance.ensures) (process_of (program_at i.programs.items slot.program) slot)))
+    (subst (λ (instructions : Program). Changes at_next_line instructions slot.record.context c.advance.new.self) (sym program) (rw c.get_mut.ensures.value at c.advance.ensures) (process_of (shared_program_at i.programs.items slot.program) slot)))

@@ -3,11 +3,11 @@ use Rattle.std.proofs.lemmas.List.{with_items_is}
 use Rattle.pv_model.specs.Machine.{end_process}
 use Rattle.pv_procs.specs.declared.slot.ProcessSlot.{ProcessSlot}
 use Rattle.pv_procs.specs.declared.shared.Shared.{Shared}
-use Rattle.pv_procs.specs.Slots.{IsConsistent, table_of, ascends, program_at}
+use Rattle.pv_procs.specs.Slots.{AreConsistentSlots, process_table_of, ascends, shared_program_at}
 use Rattle.pv_procs.specs.ProcessTable.{ProcessTable, state_with}
-use Rattle.pv_procs.proofs.Finding.{found-at, live-slot, status-at, process-at}
-use Rattle.pv_procs.proofs.Keeping.{ascends-set}
-use Rattle.pv_procs.proofs.Ends.{has-users, preserved-gone, preserved-claimed, end-is, parent-is}
+use Rattle.pv_procs.proofs.SlotLookups.{found-at, live-slot, status-at, process-at}
+use Rattle.pv_procs.proofs.SlotInvariant.{ascends-set}
+use Rattle.pv_procs.proofs.EndedSlots.{has-users, preserved-gone, preserved-claimed, end-is, parent-is}
 use Rattle.pv_procs.proofs.processes.Processes.end.Goals as goal
 
 pub live_index-k-requires-clause-ascends : goal.live_index-k-requires-clause-ascends
@@ -52,8 +52,8 @@ invariant_of-self c =
     let gone = preserved-gone i.slots.items i.programs.items i.last c.self.invariant.0 c.args.pid k slot at lives other long fewer rest c.args.status in
     let preserved = preserved-claimed _ other i.last c.args.pid c.adopter-heir.result gone in
     let same = with_items_is i.programs other (omega (arith, long, i.programs.ok.0)) in (
-      subst (λ (gs : List Shared). IsConsistent c.settle.new.slots.items gs i.last) (sym same)
-          (subst (λ (ps : List ProcessSlot). IsConsistent ps other i.last) (sym c.settle.ensures.slots) preserved),
+      subst (λ (gs : List Shared). AreConsistentSlots c.settle.new.slots.items gs i.last) (sym same)
+          (subst (λ (ps : List ProcessSlot). AreConsistentSlots ps other i.last) (sym c.settle.ensures.slots) preserved),
       record {
         full = omega (arith, c.self.invariant.1.full, c.settle.ensures.all, c.settle.new.slots.ok.0, c.settle.new.spare.ok.0, i.slots.ok.0, i.spare.ok.0);
         room = omega (arith, c.self.invariant.1.room, c.settle.ensures.room);
@@ -77,7 +77,7 @@ returns c = λ t files me is.
     let programs = rw c.deref_mut.ensures.value at c.unreference.ensures.programs in
     let same = with_items_is i.programs other (omega (arith, long, i.programs.ok.0)) in
     let heir = rw c.deref-2.ensures.value at (c.adopter-heir.ensures other) in
-    let parent = parent-is c.args.self.now c.args.pid (program_at i.programs.items slot.program) slot me process is in
-    ap₂ (λ (ps : List ProcessSlot) (gs : List Shared). state_with t files (table_of ps gs i.last)) c.settle.ensures.slots same
+    let parent = parent-is c.args.self.now c.args.pid (shared_program_at i.programs.items slot.program) slot me process is in
+    ap₂ (λ (ps : List ProcessSlot) (gs : List Shared). state_with t files (process_table_of ps gs i.last)) c.settle.ensures.slots same
     ∙ end-is i.slots.items i.programs.items i.last c.self.invariant.0 c.args.pid k slot at lives other long fewer rest c.args.status programs c.adopter-heir.result t files me parent heir
     ∙ ap (λ (v : ProcessTable). end_process (state_with t files v) c.args.pid me c.args.status) c.self.view_is

@@ -1,7 +1,7 @@
 use Rattle.std.proofs.Common.{◌∙◌, sym, ap, Some}
 use Rattle.pv_procs.specs.ProcessTable.{ended_process}
-use Rattle.pv_procs.specs.Slots.{program_at}
-use Rattle.pv_procs.proofs.Finding.{found-at, seen-none, seen-at, ended-entry}
+use Rattle.pv_procs.specs.Slots.{shared_program_at}
+use Rattle.pv_procs.proofs.SlotLookups.{found-at, seen-none, seen-at, ended-entry}
 use Rattle.pv_procs.proofs.processes.Processes.ended.Goals as goal
 
 pub returns-in-Some : goal.returns-in-Some
@@ -12,7 +12,7 @@ returns-in-Some c =
     let at = found-at i.slots.items c.args.pid c.in-Some.k slot found c.index.ensures in
     c.left_of.ensures
     ∙ sym (ap ended_process (seen-at i.slots.items i.programs.items i.last c.args.self.now c.self.view_is c.args.pid c.self.invariant.0.ascending c.in-Some.k slot at)
-    ∙ ended-entry slot (program_at i.programs.items slot.program) slot.status)
+    ∙ ended-entry slot (shared_program_at i.programs.items slot.program) slot.status)
 
 pub returns-in-None : goal.returns-in-None
 returns-in-None c =

@@ -1,5 +1,5 @@
 use Rattle.std.proofs.Common.{◌∙◌, ap, option_copied}
-use Rattle.pv_procs.proofs.Turning.{fetched-call, fetched-register, gone-by, lives-by}
+use Rattle.pv_procs.proofs.ContextSteps.{fetched-call, fetched-register, gone-by, lives-by}
 use Rattle.pv_procs.specs.ProcessTable.{process_in}
 use Rattle.pv_procs.proofs.processes.Processes.fetch.Goals as goal
 

@@ -4,10 +4,10 @@ use Rattle.pv_model.specs.Machine.{fork, answers}
 use Rattle.pv_procs.specs.declared.slot.ProcessSlot.{ProcessSlot}
 use Rattle.pv_procs.specs.declared.shared.Shared.{Shared}
 use Rattle.pv_procs.specs.Children.{child_slot}
-use Rattle.pv_procs.specs.Slots.{IsConsistent, table_of, users_at, program_at}
+use Rattle.pv_procs.specs.Slots.{AreConsistentSlots, process_table_of, users_at, shared_program_at}
 use Rattle.pv_procs.specs.ProcessTable.{ProcessTable, state_with}
-use Rattle.pv_procs.proofs.Finding.{found-at, live-slot, process-at}
-use Rattle.pv_procs.proofs.Forks.{preserved-new, fork-is, mine-is}
+use Rattle.pv_procs.proofs.SlotLookups.{found-at, live-slot, process-at}
+use Rattle.pv_procs.proofs.ForkedSlots.{preserved-new, fork-is, mine-is}
 use Rattle.pv_procs.proofs.processes.Processes.fork.Goals as goal
 
 pub live_index-k-requires-clause-ascends : goal.live_index-k-requires-clause-ascends
@@ -37,9 +37,9 @@ invariant_of-self-2 c =
     let same = with_items_is i.programs other (omega (arith, long, i.programs.ok.0)) in
     let items = c.push_reserved.ensures.items ∙ ap (λ (p : ProcessSlot). i.slots.items ++ p ∷ []) new_is in
     let low : i.last < 99999 = omega (arith, preserved.last, c.if-self-eq-LAST_PROCESS.false) in (
-      subst (λ (gs : List Shared). IsConsistent c.push_reserved.new.self.items gs (i.last + 1)) (sym same)
-          (subst (λ (n : ℕ). IsConsistent c.push_reserved.new.self.items other n) (sym (add-one i.last))
-          (subst (λ (ps : List ProcessSlot). IsConsistent ps other (suc i.last)) (sym items) (preserved-new i.slots.items i.programs.items i.last preserved c.args.pid k slot at other long more rest low))),
+      subst (λ (gs : List Shared). AreConsistentSlots c.push_reserved.new.self.items gs (i.last + 1)) (sym same)
+          (subst (λ (n : ℕ). AreConsistentSlots c.push_reserved.new.self.items other n) (sym (add-one i.last))
+          (subst (λ (ps : List ProcessSlot). AreConsistentSlots ps other (suc i.last)) (sym items) (preserved-new i.slots.items i.programs.items i.last preserved c.args.pid k slot at other long more rest low))),
       record {
         full = omega (arith, c.self.invariant.1.full, c.push_reserved.ensures.len, c.in-Some.ensures.cases, c.push_reserved.new.self.ok.0, c.pop.new.self.ok.0, i.slots.ok.0, i.spare.ok.0);
         room = omega (arith, c.self.invariant.1.room, c.push_reserved.ensures.capacity);
@@ -66,11 +66,11 @@ returns-clause-forked c = λ t files me is.
     let same = with_items_is i.programs other (omega (arith, long, i.programs.ok.0)) in
     let items = c.push_reserved.ensures.items ∙ ap (λ (p : ProcessSlot). i.slots.items ++ p ∷ []) new_is in
     let low : i.last < 99999 = omega (arith, preserved.last, c.if-self-eq-LAST_PROCESS.false) in
-    let programs : (j : ℕ) → program_at other j ≡ program_at i.programs.items j = λ j. c.take_up.ensures.programs j ∙ ap (λ (gs : List Shared). program_at gs j) listed in
+    let programs : (j : ℕ) → shared_program_at other j ≡ shared_program_at i.programs.items j = λ j. c.take_up.ensures.programs j ∙ ap (λ (gs : List Shared). shared_program_at gs j) listed in
     let process = process-at i.slots.items i.programs.items i.last c.args.self.now c.self.view_is c.args.pid preserved.ascending k slot at c.requires in
     let mine = mine-is c.args.self.now c.args.pid _ me process is in
     let few : length i.slots.items < 32 = omega (arith, c.self.invariant.1.full, c.in-Some.ensures.cases, i.spare.ok.0) in
     ap (λ (v : ProcessTable). fork (state_with t files v) c.args.pid me) (sym c.self.view_is)
     ∙ fork-is i.slots.items i.programs.items i.last preserved c.args.pid k slot at other long more rest programs t files me mine few low
-    ∙ ap (λ (n : ℕ). answers (state_with t files (table_of (i.slots.items ++ child_slot (suc i.last) slot ∷ []) other n)) n) (sym (add-one i.last))
-    ∙ ap₂ (λ (ps : List ProcessSlot) (gs : List Shared). answers (state_with t files (table_of ps gs (i.last + 1))) (i.last + 1)) (sym items) (sym same)
+    ∙ ap (λ (n : ℕ). answers (state_with t files (process_table_of (i.slots.items ++ child_slot (suc i.last) slot ∷ []) other n)) n) (sym (add-one i.last))
+    ∙ ap₂ (λ (ps : List ProcessSlot) (gs : List Shared). answers (state_with t files (process_table_of ps gs (i.last + 1))) (i.last + 1)) (sym items) (sym same)

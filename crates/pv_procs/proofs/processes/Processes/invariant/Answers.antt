@@ -1,6 +1,6 @@
 use Rattle.std.proofs.Common.{subst}
 use Rattle.pv_procs.specs.ProcessTable.{IsProcessTable}
-use Rattle.pv_procs.proofs.Forks.{reported}
+use Rattle.pv_procs.proofs.ForkedSlots.{reported}
 use Rattle.pv_procs.proofs.processes.Processes.invariant.Goals as goal
 
 pub returns : goal.returns

@@ -1,7 +1,7 @@
 use Rattle.std.proofs.Common.{◌∙◌, sym, ap, is_some}
 use Rattle.pv_model.specs.Machine.{live_process}
-use Rattle.pv_procs.specs.Slots.{program_at}
-use Rattle.pv_procs.proofs.Finding.{found-at, seen-none, seen-at, live_test}
+use Rattle.pv_procs.specs.Slots.{shared_program_at}
+use Rattle.pv_procs.proofs.SlotLookups.{found-at, seen-none, seen-at, live_test}
 use Rattle.pv_procs.proofs.processes.Processes.live.Goals as goal
 
 pub returns-in-Some : goal.returns-in-Some
@@ -10,7 +10,7 @@ returns-in-Some c =
     let found = rw c.deref.ensures.value at (sym c.index_of.ensures ∙ c.in-Some.is) in
     let slot = c.index.result.now in
     let at = found-at i.slots.items c.args.pid c.in-Some.k slot found c.index.ensures in
-    live_test slot (program_at i.programs.items slot.program) slot.status c.is_none.result c.is_none.ensures
+    live_test slot (shared_program_at i.programs.items slot.program) slot.status c.is_none.result c.is_none.ensures
     ∙ sym (ap (λ o. is_some (live_process o)) (seen-at i.slots.items i.programs.items i.last c.args.self.now c.self.view_is c.args.pid c.self.invariant.0.ascending c.in-Some.k slot at))
 
 pub returns-in-None : goal.returns-in-None

@@ -1,6 +1,6 @@
 use Rattle.std.proofs.Common.{◌∙◌, ap, option_map}
 use Rattle.pv_procs.specs.Parts.{record_of}
-use Rattle.pv_procs.proofs.Finding.{found-at, gone-in, living}
+use Rattle.pv_procs.proofs.SlotLookups.{found-at, gone-in, living}
 use Rattle.pv_procs.proofs.processes.Processes.live_record.Goals as goal
 
 pub index_of_live-requires : goal.index_of_live-requires

@@ -5,11 +5,11 @@ use Rattle.pv_procs.specs.declared.slot.ProcessSlot.{ProcessSlot}
 use Rattle.pv_procs.specs.declared.record.ProcessRecord.{ProcessRecord}
 use Rattle.pv_procs.specs.declared.shared.Shared.{Shared}
 use Rattle.pv_procs.specs.Parts.{after_exec}
-use Rattle.pv_procs.specs.Slots.{IsConsistent, table_of}
-use Rattle.pv_procs.proofs.Finding.{found-at, live-slot, status-at, process-at}
-use Rattle.pv_procs.proofs.Keeping.{roomy-set}
-use Rattle.pv_procs.proofs.Ends.{has-users}
-use Rattle.pv_procs.proofs.Loads.{has_user, some-free, free-users, preserved-loaded, load-is}
+use Rattle.pv_procs.specs.Slots.{AreConsistentSlots, process_table_of}
+use Rattle.pv_procs.proofs.SlotLookups.{found-at, live-slot, status-at, process-at}
+use Rattle.pv_procs.proofs.SlotInvariant.{roomy-set}
+use Rattle.pv_procs.proofs.EndedSlots.{has-users}
+use Rattle.pv_procs.proofs.LoadedPrograms.{has_user, some-free, free-users, preserved-loaded, load-is}
 use Rattle.pv_procs.proofs.processes.Processes.load.Goals as goal
 
 pub live_index-k-requires-clause-ascends : goal.live_index-k-requires-clause-ascends
@@ -69,7 +69,7 @@ invariant_of-self c =
     let loaded = preserved-loaded i.slots.items i.programs.items i.last preserved c.args.pid k slot at lives go long fewer rest free unused.0 unused.1 c.args.program in
     let changed : List ProcessSlot = slice_set i.slots.items k (record slot { program = free; «record» = after_exec slot.record }) in
     let listed : List Shared = slice_set (with_items i.programs go).items free (record { program = c.args.program; users = 1 }) in (
-      subst (λ (ps : List ProcessSlot). IsConsistent ps listed i.last) (sym slots) (subst (λ (gs : List Shared). IsConsistent changed gs i.last) (sym programs) loaded),
+      subst (λ (ps : List ProcessSlot). AreConsistentSlots ps listed i.last) (sym slots) (subst (λ (gs : List Shared). AreConsistentSlots changed gs i.last) (sym programs) loaded),
       roomy-set i.slots.items i.spare.items k _ _ _ c.self.invariant.1,
     )
 
@@ -94,5 +94,5 @@ returns c = λ s.
     let programs = ap (λ (gs : List Shared). slice_set gs free (record { program = c.args.program; users = 1 })) same in
     let program = rw c.deref_mut.ensures.value at c.unreference.ensures.programs in
     let process = process-at i.slots.items i.programs.items i.last c.args.self.now c.self.view_is c.args.pid preserved.ascending k slot at c.requires in
-    ap₂ (λ (ps : List ProcessSlot) (gs : List Shared). table_of ps gs i.last) slots programs
+    ap₂ (λ (ps : List ProcessSlot) (gs : List Shared). process_table_of ps gs i.last) slots programs
     ∙ load-is i.slots.items i.programs.items i.last preserved c.args.pid k slot at lives go long fewer rest free unused.0 unused.1 c.args.program program s c.args.self.now c.self.view_is process

@@ -1,6 +1,6 @@
 use Rattle.std.proofs.Common.{◌∙◌, ap}
 use Rattle.pv_procs.specs.ProcessTable.{ProcessTable, number_after}
-use Rattle.pv_procs.proofs.Finding.{number-seen}
+use Rattle.pv_procs.proofs.SlotLookups.{number-seen}
 use Rattle.pv_procs.proofs.processes.Processes.next_number.Goals as goal
 
 pub returns : goal.returns

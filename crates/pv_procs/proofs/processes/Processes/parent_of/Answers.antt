@@ -1,7 +1,7 @@
 use Rattle.std.proofs.Common.{◌∙◌, sym, ap, Some, option_map}
 use Rattle.pv_model.specs.Machine.{parent_of}
-use Rattle.pv_procs.specs.Slots.{program_at}
-use Rattle.pv_procs.proofs.Finding.{found-at, seen-none, seen-at, parent-entry}
+use Rattle.pv_procs.specs.Slots.{shared_program_at}
+use Rattle.pv_procs.proofs.SlotLookups.{found-at, seen-none, seen-at, parent-entry}
 use Rattle.pv_procs.proofs.processes.Processes.parent_of.Goals as goal
 
 pub returns-in-Some : goal.returns-in-Some
@@ -11,7 +11,7 @@ returns-in-Some c =
     let slot = c.index.result.now in
     let at = found-at i.slots.items c.args.pid c.in-Some.k slot found c.index.ensures in
     sym (ap (option_map parent_of) (seen-at i.slots.items i.programs.items i.last c.args.self.now c.self.view_is c.args.pid c.self.invariant.0.ascending c.in-Some.k slot at)
-    ∙ ap Some (parent-entry slot (program_at i.programs.items slot.program) slot.status))
+    ∙ ap Some (parent-entry slot (shared_program_at i.programs.items slot.program) slot.status))
 
 pub returns-in-None : goal.returns-in-None
 returns-in-None c =

@@ -2,9 +2,9 @@ use Rattle.std.proofs.Common.{◌≡◌, false, refl, subst, sym}
 use Rattle.pv_model.specs.Machine.{Process, Program}
 use Rattle.pv_script.specs.Context.{in_context, is_inside}
 use Rattle.pv_script.specs.Passing.{Passes}
-use Rattle.pv_procs.specs.Slots.{process_of, program_at}
-use Rattle.pv_procs.proofs.Keeping.{preserved-set, roomy-set}
-use Rattle.pv_procs.proofs.Turning.{Appears, awaiting, passed, appears}
+use Rattle.pv_procs.specs.Slots.{process_of, shared_program_at}
+use Rattle.pv_procs.proofs.SlotInvariant.{preserved-set, roomy-set}
+use Rattle.pv_procs.proofs.ContextSteps.{Appears, awaiting, passed, appears}
 use Rattle.pv_procs.proofs.processes.Processes.pass.Goals as goal
 
 -- the slot of the process
@@ -25,7 +25,7 @@ returns-clause-made c =
     let i = c.self.inside in
     let slot = c.index_mut-slot.result.now in
     let context = c.pass.new.self in
-    let me : Process = process_of (program_at i.programs.items slot.program) slot in
+    let me : Process = process_of (shared_program_at i.programs.items slot.program) slot in
     let made = rw c.get_mut.ensures.value at c.pass.ensures.made in
     let steps = subst (λ (instructions : Program). (p : Process) → Passes c.pass.result (in_context p instructions slot.record.context) (in_context p instructions context)) (sym (appeared c).program) made in
     rw c.get_mut.ensures.value

@@ -1,8 +1,8 @@
 use Rattle.std.proofs.Common.{◌∙◌, ap, Some, option_map, arith}
 use Rattle.pv_model.specs.Machine.{Process}
-use Rattle.pv_procs.proofs.Finding.{found-at, live-slot, process-at, status-at}
-use Rattle.pv_procs.proofs.Ends.{program-within}
-use Rattle.pv_procs.proofs.Turning.{program-read}
+use Rattle.pv_procs.proofs.SlotLookups.{found-at, live-slot, process-at, status-at}
+use Rattle.pv_procs.proofs.EndedSlots.{program-within}
+use Rattle.pv_procs.proofs.ContextSteps.{program-read}
 use Rattle.pv_procs.proofs.processes.Processes.program.Goals as goal
 
 pub live_index-k-requires-clause-ascends : goal.live_index-k-requires-clause-ascends

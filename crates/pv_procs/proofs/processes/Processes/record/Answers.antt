@@ -1,6 +1,6 @@
 use Rattle.std.proofs.Common.{ap, option_map}
 use Rattle.pv_procs.specs.Parts.{record_of}
-use Rattle.pv_procs.proofs.Finding.{found-at, live-slot, process-at}
+use Rattle.pv_procs.proofs.SlotLookups.{found-at, live-slot, process-at}
 use Rattle.pv_procs.proofs.processes.Processes.record.Goals as goal
 
 pub live_index-k-requires-clause-ascends : goal.live_index-k-requires-clause-ascends

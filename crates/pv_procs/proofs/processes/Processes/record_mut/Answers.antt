@@ -1,7 +1,7 @@
 use Rattle.std.proofs.Common.{ap, refl, option_map}
 use Rattle.pv_procs.specs.Parts.{record_of, with_record}
-use Rattle.pv_procs.proofs.Finding.{found-at, live-slot, status-at, process-at, changed-at}
-use Rattle.pv_procs.proofs.Keeping.{preserved-set, roomy-set}
+use Rattle.pv_procs.proofs.SlotLookups.{found-at, live-slot, status-at, process-at, changed-at}
+use Rattle.pv_procs.proofs.SlotInvariant.{preserved-set, roomy-set}
 use Rattle.pv_procs.proofs.processes.Processes.record_mut.Goals as goal
 
 pub live_index-k-requires-clause-ascends : goal.live_index-k-requires-clause-ascends

@@ -1,10 +1,10 @@
 use Rattle.std.proofs.Common.{refl, w32}
 use Rattle.std.proofs.lemmas.Int.{to_z-of_z}
 use Rattle.pv_model.specs.Machine.{with_result}
-use Rattle.pv_procs.specs.Slots.{process_of, program_at}
-use Rattle.pv_procs.proofs.Finding.{found-at, live-slot, status-at}
-use Rattle.pv_procs.proofs.Keeping.{preserved-set, roomy-set}
-use Rattle.pv_procs.proofs.Turning.{context-changed}
+use Rattle.pv_procs.specs.Slots.{process_of, shared_program_at}
+use Rattle.pv_procs.proofs.SlotLookups.{found-at, live-slot, status-at}
+use Rattle.pv_procs.proofs.SlotInvariant.{preserved-set, roomy-set}
+use Rattle.pv_procs.proofs.ContextSteps.{context-changed}
 use Rattle.pv_procs.proofs.processes.Processes.report.Goals as goal
 
 pub live_index-k-requires-clause-ascends : goal.live_index-k-requires-clause-ascends
@@ -34,4 +34,4 @@ returns c =
     let at = found-at i.slots.items c.args.pid k slot found c.index_mut-slot.ensures.value in
     let lives = status-at i.slots.items i.programs.items i.last c.args.self.now c.self.view_is c.args.pid c.self.invariant.0.ascending k slot at c.requires in
     rw c.get_mut.ensures.value (context-changed i.slots.items i.programs.items i.last c.args.self.now c.self.view_is c.args.pid c.self.invariant.0.ascending k slot at c.requires c.report.new.self (λ p. with_result p c.args.value c.args.error)
-    (rw (to_z-of_z w32 c.args.value c.ranges.value) at (rw c.get_mut.ensures.value at (c.report.ensures (program_at i.programs.items slot.program) (process_of (program_at i.programs.items slot.program) slot)))))
+    (rw (to_z-of_z w32 c.args.value c.ranges.value) at (rw c.get_mut.ensures.value at (c.report.ensures (shared_program_at i.programs.items slot.program) (process_of (shared_program_at i.programs.items slot.program) slot)))))

@@ -2,12 +2,12 @@ use Rattle.std.proofs.Common.{◌≡◌, sym, subst, refl, slice_set}
 use Rattle.pv_model.specs.Machine.{call_of, inside, calls_for, next, Program, Process}
 use Rattle.pv_script.specs.Context.{in_context}
 use Rattle.pv_procs.specs.declared.processes.Fetched.{Fetched}
-use Rattle.pv_procs.specs.Slots.{process_of, program_at, table_of}
+use Rattle.pv_procs.specs.Slots.{process_of, shared_program_at, process_table_of}
 use Rattle.pv_procs.specs.ProcessTable.{ProcessTable}
 use Rattle.pv_procs.specs.Turns.{Registered}
-use Rattle.pv_procs.proofs.Finding.{found-at}
-use Rattle.pv_procs.proofs.Keeping.{preserved-set, roomy-set}
-use Rattle.pv_procs.proofs.Turning.{at-call, moved, appears}
+use Rattle.pv_procs.proofs.SlotLookups.{found-at}
+use Rattle.pv_procs.proofs.SlotInvariant.{preserved-set, roomy-set}
+use Rattle.pv_procs.proofs.ContextSteps.{at-call, moved, appears}
 use Rattle.pv_procs.proofs.processes.Processes.step_or_fetch.Goals as goal
 use Rattle.pv_procs.proofs.processes.Processes.step_or_fetch.Goals.{in-Some-step_or_fetch, in-None}
 
@@ -29,9 +29,9 @@ returns c =
     let slot = c.index_mut-slot.result.now in
     let appeared = appears i.slots.items i.programs.items i.last c.self.invariant.0 c.args.pid k slot c.index-shared.result.now
     (rw c.deref.ensures.value at c.in-Some.ensures.slot) (rw c.deref.ensures.value at c.in-Some.ensures.live) c.index_mut-slot.ensures.value c.index-shared.ensures in
-    let me : Process = process_of (program_at i.programs.items slot.program) slot in
+    let me : Process = process_of (shared_program_at i.programs.items slot.program) slot in
     let context = c.step_or_fetch.new.self in
-    let turned : ProcessTable = table_of (slice_set i.slots.items k (record slot { «record» = record slot.record { context = context } })) i.programs.items i.last in
+    let turned : ProcessTable = process_table_of (slice_set i.slots.items k (record slot { «record» = record slot.record { context = context } })) i.programs.items i.last in
     rw c.get_mut.ensures.value (elim c.match-step_or_fetch.branch [
       | in-Some-step_or_fetch w ↦
           let call = w.in-Some-step_or_fetch.call in

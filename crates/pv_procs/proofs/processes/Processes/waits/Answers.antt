@@ -1,5 +1,5 @@
 use Rattle.std.proofs.Common.{◌∙◌, ◌&&◌, not, refl, sym, ap}
-use Rattle.pv_procs.proofs.Reaps.{ended_in, waits-tested}
+use Rattle.pv_procs.proofs.ReapedSlots.{ended_in, waits-tested}
 use Rattle.pv_procs.proofs.processes.Processes.waits.Goals as goal
 
 pub returns-then-has_child : goal.returns-then-has_child

@@ -1,4 +1,4 @@
-use Rattle.pv_reduced.proofs.Lively.{lines-there, number-within}
+use Rattle.pv_reduced.proofs.LivenessComputation.{lines-there, number-within}
 use Rattle.pv_reduced.proofs.live_tables.LiveTables.live_line.Goals as goal
 
 pub line_at-requires : goal.line_at-requires

@@ -2,7 +2,7 @@ use Rattle.std.proofs.Common.{◌∙◌, sym, ap, subst, bytes_eq, List, ℕ, �
 use Rattle.std.specs.List.{list_any}
 use Rattle.pv_explore.specs.Rows.{parts_in}
 use Rattle.pv_reduced.specs.Lists.{AreRows}
-use Rattle.pv_reduced.proofs.Lists.{list-known, lists-added, lists-counted, lists-now, rows-added, rows-grew}
+use Rattle.pv_reduced.proofs.ListSets.{list-known, lists-added, lists-counted, lists-now, rows-added, rows-grew}
 use Rattle.pv_reduced.proofs.part_lists.PartLists.add.Goals as goal
 
 pub invariant_of-self : goal.invariant_of-self

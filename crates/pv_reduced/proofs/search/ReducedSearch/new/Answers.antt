@@ -1,5 +1,5 @@
 use Rattle.std.proofs.Common.{refl}
-use Rattle.pv_reduced.proofs.Finding.{first-is}
+use Rattle.pv_reduced.proofs.ReducedSearchSteps.{first-is}
 use Rattle.pv_reduced.proofs.search.ReducedSearch.new.Goals as goal
 
 pub returns : goal.returns

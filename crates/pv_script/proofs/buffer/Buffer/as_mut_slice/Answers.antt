@@ -1,5 +1,5 @@
 use Rattle.std.proofs.Common.{◌∙◌, sym}
-use Rattle.pv_script.proofs.Buffers.{lent}
+use Rattle.pv_script.proofs.BufferBytes.{lent}
 use Rattle.pv_script.proofs.buffer.Buffer.as_mut_slice.Goals as goal
 
 pub invariant_of-self-lent : goal.invariant_of-self-lent

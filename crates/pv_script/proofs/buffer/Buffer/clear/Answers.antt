@@ -1,7 +1,7 @@
 use Rattle.std.proofs.Common.{◌∙◌, ◌++◌, ap, drop}
 use Rattle.std.specs.Prelude.{replicate}
 use Rattle.std.proofs.lemmas.List.{take_at}
-use Rattle.pv_script.proofs.Buffers.{cleared, unwritten}
+use Rattle.pv_script.proofs.BufferBytes.{cleared, unwritten}
 use Rattle.pv_script.proofs.buffer.Buffer.clear.Goals as goal
 
 pub returns : goal.returns

@@ -2,7 +2,7 @@ use Rattle.std.proofs.Common.{◌∙◌, ◌++◌, ap₂, drop, length, subst, s
 use Rattle.std.proofs.lemmas.List.{take_at}
 use Rattle.pv_model.specs.Machine.{Bytes}
 use Rattle.pv_script.specs.Written.{IsZeroAfter}
-use Rattle.pv_script.proofs.Buffers.{copied}
+use Rattle.pv_script.proofs.BufferBytes.{copied}
 use Rattle.pv_script.proofs.buffer.Buffer.copy_from.Goals as goal
 
 pub returns : goal.returns

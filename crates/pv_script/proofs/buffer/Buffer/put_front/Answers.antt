@@ -1,7 +1,7 @@
 use Rattle.std.proofs.Common.{◌∙◌, ◌++◌, ap, arith, drop, length, subst, sym}
 use Rattle.std.proofs.lemmas.List.{take_at}
 use Rattle.pv_script.specs.Written.{IsZeroAfter}
-use Rattle.pv_script.proofs.Buffers.{put}
+use Rattle.pv_script.proofs.BufferBytes.{put}
 use Rattle.pv_script.proofs.buffer.Buffer.put_front.Goals as goal
 
 pub invariant_of-self : goal.invariant_of-self

@@ -1,12 +1,12 @@
 use Rattle.std.proofs.Common.{arith}
-use Rattle.pv_script.specs.Context.{at_line}
-use Rattle.pv_script.proofs.Contexts.{pass-more}
+use Rattle.pv_script.specs.Context.{context_at_line}
+use Rattle.pv_script.proofs.ContextEffects.{pass-more}
 use Rattle.pv_script.proofs.context.Context.pass.Goals as goal
 
 pub loop-made-preserved : goal.loop-made-preserved
 loop-made-preserved c = record {
   few = omega (arith, c.loop-made-test.true);
-  passed = pass-more c.args.program.now c.args.self.now (at_line c.loop-made.line c.loop-made.self) (at_line c.make-line.result c.make-line.new.self) c.loop-made.made c.loop-made.invariant.passed
+  passed = pass-more c.args.program.now c.args.self.now (context_at_line c.loop-made.line c.loop-made.self) (context_at_line c.make-line.result c.make-line.new.self) c.loop-made.made c.loop-made.invariant.passed
       (λ p. rw c.in-Some.ensures.there (c.make-line.ensures p));
 }
 

@@ -1,4 +1,4 @@
-use Rattle.pv_script.proofs.Contexts.{one_passed}
+use Rattle.pv_script.proofs.ContextEffects.{one_passed}
 use Rattle.pv_script.proofs.context.Context.step_or_fetch.Goals as goal
 
 pub returns-in-None-clause-made : goal.returns-in-None-clause-made

@@ -5,7 +5,7 @@ use Rattle.pv_model.specs.declared.verdict.Verdict.{Verdict}
 use Rattle.pv_model.specs.Sealed.{audit}
 use Rattle.pv_model.specs.Machine.{State}
 use Rattle.pv_session.specs.Audits.{KeepsSecret}
-use Rattle.pv_session.proofs.Audited.{audit-keeps_secret}
+use Rattle.pv_session.proofs.AuditMeaning.{audit-keeps_secret}
 use Rattle.pv_calls.specs.Kernel.{Running}
 use Rattle.pv_session.proofs.session.Session.audit.Goals as goal
 

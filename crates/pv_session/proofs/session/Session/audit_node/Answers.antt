@@ -4,7 +4,7 @@ use Rattle.pv_model.specs.declared.verdict.AuditFault.{AuditFault}
 use Rattle.pv_model.specs.declared.verdict.Verdict.{Verdict}
 use Rattle.pv_model.specs.Machine.{audit_node, State}
 use Rattle.pv_session.specs.Audits.{KeepsSecretAt}
-use Rattle.pv_session.proofs.Audited.{audit_node-keeps_secret}
+use Rattle.pv_session.proofs.AuditMeaning.{audit_node-keeps_secret}
 use Rattle.pv_calls.specs.Kernel.{Running}
 use Rattle.pv_session.proofs.session.Session.audit_node.Goals as goal
 

@@ -1,7 +1,7 @@
 use Rattle.std.proofs.Common.{ap, sym, subst, ◌∙◌}
 use Rattle.pv_model.specs.Machine.{State, Run}
 use Rattle.pv_calls.specs.OfCallsState.Changes.{PassesInside}
-use Rattle.pv_session.proofs.Passing.{passed-is}
+use Rattle.pv_session.proofs.InsideRuns.{passed-is}
 use Rattle.pv_calls.specs.Kernel.{Running}
 use Rattle.pv_session.proofs.session.Session.pass.Goals as goal
 

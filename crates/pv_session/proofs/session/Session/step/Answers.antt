@@ -3,9 +3,9 @@ use Rattle.std.specs.Prelude.{IfOk, OnOk}
 use Rattle.pv_model.specs.Machine.{call_of, program_of, State, Stepped}
 use Rattle.pv_session.specs.Running.{stepped}
 use Rattle.pv_calls.proofs.OfLawsAccess.JustifiedReads.{all-justified}
-use Rattle.pv_session.proofs.Restrained.{child, others, own}
-use Rattle.pv_session.proofs.Stopped.{called-loads}
-use Rattle.pv_session.proofs.Stepping.{Asks, called-after, called-outcome, step-gone, inside-after, inside-outcome}
+use Rattle.pv_session.proofs.StepRestraints.{child, others, own}
+use Rattle.pv_session.proofs.StoppedRuns.{called-loads}
+use Rattle.pv_session.proofs.MachineSteps.{Asks, called-after, called-outcome, step-gone, inside-after, inside-outcome}
 use Rattle.pv_calls.specs.Kernel.{Running}
 use Rattle.pv_session.proofs.session.Session.step.Goals as goal
 use Rattle.pv_session.proofs.session.Session.step.Goals.{in-Gone, in-Register, in-Call}

@@ -1,8 +1,8 @@
 use Rattle.std.proofs.Common.{ap, sym, ◌∙◌, refl, subst, length, List, rules}
 use Rattle.pv_model.specs.Machine.{Stepped, Line}
-use Rattle.pv_streams.proofs.Reporting.{on_err}
+use Rattle.pv_streams.proofs.OutputTexts.{on_err}
 use Rattle.pv_session.specs.Running.{BeginsLines, WrittenLines, stepped}
-use Rattle.pv_session.proofs.Stepping.{step-gone, gone-lines, inside-is, inside-after, written-none}
+use Rattle.pv_session.proofs.MachineSteps.{step-gone, gone-lines, inside-is, inside-after, written-none}
 use Rattle.pv_calls.specs.Kernel.{Running}
 use Rattle.pv_session.proofs.session.Session.trace_step.Goals as goal
 

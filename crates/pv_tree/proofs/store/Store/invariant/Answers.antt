@@ -1,7 +1,7 @@
 use Rattle.std.proofs.Common.{ap, sym, subst, ◌∙◌}
 use Rattle.pv_tree.specs.Holding.{HeldTree, IsUnheld}
 use Rattle.pv_tree.specs.Present.{IsAtRest}
-use Rattle.pv_tree.proofs.Keeping.{unheld-named}
+use Rattle.pv_tree.proofs.CollectedNodes.{unheld-named}
 use Rattle.pv_tree.proofs.store.Store.invariant.Goals as goal
 
 pub returns : goal.returns

@@ -1,7 +1,7 @@
 use Rattle.std.proofs.Common.{ap, ◌∙◌}
 use Rattle.std.specs.Prelude.{slice_index}
 use Rattle.pv_tree.specs.Holding.{HeldTree}
-use Rattle.pv_tree.proofs.Prefix.{zeros-at}
+use Rattle.pv_tree.proofs.RootTree.{zeros-at}
 use Rattle.pv_tree.proofs.store.Store.of_image.Goals as goal
 
 pub invariant_of-result : goal.invariant_of-result

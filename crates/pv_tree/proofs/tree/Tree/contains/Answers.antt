@@ -1,7 +1,7 @@
 use Rattle.std.proofs.Common.{◌≡◌, ℕ, suc, ◌+◌, ◌-◌, ◌<◌, true, ap, sym, subst, ◌∙◌, arith}
 use Rattle.std.specs.Prelude.{IfSome}
 use Rattle.pv_model.specs.Machine.{is_directory_at, IsWellFormed}
-use Rattle.pv_tree.proofs.Parents.{is_among, among-all, among-itself, among-above, among-top, among-removed}
+use Rattle.pv_tree.proofs.ParentChanges.{is_among, among-all, among-itself, among-above, among-top, among-removed}
 use Rattle.pv_tree.proofs.tree.Tree.contains.Goals as goal
 
 -- the number of steps that remain includes this one

@@ -1,6 +1,6 @@
 use Rattle.std.proofs.Common.{◌≡◌, ◌+◌, ◌-◌, true}
 use Rattle.pv_model.specs.Machine.{contains_directory, is_directory_at}
-use Rattle.pv_tree.proofs.Parents.{is_among}
+use Rattle.pv_tree.proofs.ParentChanges.{is_among}
 use Rattle.pv_tree.proofs.tree.Tree.contains.Given as goal
 
 abbrev pub invariant-loop-step : goal.invariant-loop-step

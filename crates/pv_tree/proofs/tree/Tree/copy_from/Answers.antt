@@ -1,6 +1,6 @@
 use Rattle.std.proofs.Common.{◌≡◌, ◌+◌, length, ap, arith}
 use Rattle.pv_tree.specs.Holding.{HeldTree}
-use Rattle.pv_tree.proofs.Copying.{copied-tied, copied-holds}
+use Rattle.pv_tree.proofs.TreeCopies.{copied-tied, copied-holds}
 use Rattle.pv_tree.proofs.tree.Tree.copy_from.Goals as goal
 use Rattle.pv_tree.proofs.tree.Tree.copy_from.Goals.{After-copy_from_slice-3}
 

@@ -1,7 +1,7 @@
 use Rattle.std.proofs.Common.{◌≡◌, ◌+◌, ◌-◌, is_some, ap, ◌∙◌, arith}
 use Rattle.pv_model.specs.Machine.{inode_blocks}
 use Rattle.pv_tree.specs.Changes.{root_alone}
-use Rattle.pv_tree.proofs.Prefix.{empty-tied, first-number, first-below, rooted-is}
+use Rattle.pv_tree.proofs.RootTree.{empty-tied, first-number, first-below, rooted-is}
 use Rattle.pv_tree.proofs.tree.Tree.empty.Goals as goal
 
 pub unreachable-requires : goal.unreachable-requires

@@ -1,7 +1,7 @@
 use Rattle.std.proofs.Common.{is_some, ap, ◌+◌, ◌∙◌}
 use Rattle.std.specs.Prelude.{slice_index}
 use Rattle.pv_model.specs.Machine.{node_at}
-use Rattle.pv_tree.proofs.Counting.{below-seen, read-same, place, tied-more}
+use Rattle.pv_tree.proofs.CollectionCounts.{below-seen, read-same, place, tied-more}
 use Rattle.pv_tree.proofs.tree.Tree.hold.Goals as goal
 
 pub bounds-self-inside-node : goal.bounds-self-inside-node

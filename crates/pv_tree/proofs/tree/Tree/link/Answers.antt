@@ -4,11 +4,11 @@ use Rattle.pv_laws_trees.specs.Tree.{Appears}
 use Rattle.pv_model.specs.Machine.{Tree, node_at, find_entry, is_directory_at, is_name, with_entry}
 use Rattle.pv_tree.specs.Present.{IsTied}
 use Rattle.pv_laws_trees.proofs.TreeBytes.{bytes-all}
-use Rattle.pv_laws_trees.proofs.Lookups.{alike-with}
-use Rattle.pv_tree.proofs.Counting.{below-seen}
-use Rattle.pv_tree.proofs.Elsewhere.{but-along}
-use Rattle.pv_tree.proofs.Linking.{count-fits, linked-tied}
-use Rattle.pv_tree.proofs.Rooms.{shaped}
+use Rattle.pv_laws_trees.proofs.LookupsAfterChanges.{alike-with}
+use Rattle.pv_tree.proofs.CollectionCounts.{below-seen}
+use Rattle.pv_tree.proofs.UnaffectedLookups.{but-along}
+use Rattle.pv_tree.proofs.LinkCounts.{count-fits, linked-tied}
+use Rattle.pv_tree.proofs.RoomForEntries.{shaped}
 use Rattle.pv_tree.proofs.tree.Tree.link.Goals as goal
 
 pub bounds-self-inside-node : goal.bounds-self-inside-node

@@ -5,8 +5,8 @@ use Rattle.pv_laws_trees.specs.Tree.{Appears}
 use Rattle.pv_tree.specs.Changes.{new_node}
 use Rattle.pv_tree.specs.Present.{IsTied}
 use Rattle.pv_laws_trees.proofs.TreeBytes.{bytes-all}
-use Rattle.pv_tree.proofs.Elsewhere.{but-along, alike-made, there-made}
-use Rattle.pv_tree.proofs.Made.{made-tied}
+use Rattle.pv_tree.proofs.UnaffectedLookups.{but-along, alike-made, there-made}
+use Rattle.pv_tree.proofs.NewNodeData.{made-tied}
 use Rattle.pv_tree.proofs.tree.Tree.make.Goals as goal
 
 pub invariant_of-self-2 : goal.invariant_of-self-2

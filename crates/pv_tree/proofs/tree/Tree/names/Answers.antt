@@ -1,5 +1,5 @@
 use Rattle.std.proofs.Common.{ap}
-use Rattle.pv_tree.proofs.Counting.{below-seen}
+use Rattle.pv_tree.proofs.CollectionCounts.{below-seen}
 use Rattle.pv_tree.proofs.tree.Tree.names.Goals as goal
 
 pub bounds-self-inside-node : goal.bounds-self-inside-node

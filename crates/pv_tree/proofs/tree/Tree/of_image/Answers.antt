@@ -1,8 +1,8 @@
 use Rattle.std.proofs.Common.{◌≡◌, length, sym, subst, ◌∙◌, arith}
 use Rattle.pv_model.specs.Machine.{IsImageOf, Tree}
-use Rattle.pv_laws_trees.proofs.Changes.{some-below}
-use Rattle.pv_tree.proofs.Gathering.{gathered_none, gathered_few, gathered_other, gathered_more, image-short, image-tied}
-use Rattle.pv_tree.proofs.Encoding.{bytes-within, image-bytes}
+use Rattle.pv_laws_trees.proofs.TreeChanges.{some-below}
+use Rattle.pv_tree.proofs.GatheredNames.{gathered_none, gathered_few, gathered_other, gathered_more, image-short, image-tied}
+use Rattle.pv_tree.proofs.ImageByteLists.{bytes-within, image-bytes}
 use Rattle.pv_tree.proofs.tree.Tree.of_image.Goals as goal
 use Rattle.pv_tree.proofs.tree.Tree.of_image.Goals.{In_ok-directories, then-is_directory, else-is_directory}
 

@@ -1,4 +1,4 @@
-use Rattle.pv_tree.proofs.Gathering.{IsGathered}
+use Rattle.pv_tree.proofs.GatheredNames.{IsGathered}
 use Rattle.pv_tree.proofs.tree.Tree.of_image.Given as goal
 
 -- the entries of the directories so far are counted

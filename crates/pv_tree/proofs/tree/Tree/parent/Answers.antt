@@ -1,5 +1,5 @@
 use Rattle.std.proofs.Common.{ap}
-use Rattle.pv_tree.proofs.Counting.{directory-below-seen, parent-none, stored-directory}
+use Rattle.pv_tree.proofs.CollectionCounts.{directory-below-seen, parent-none, stored-directory}
 use Rattle.pv_tree.proofs.tree.Tree.parent.Goals as goal
 
 pub bounds-self-inside-directory : goal.bounds-self-inside-directory

@@ -2,17 +2,17 @@ use Rattle.std.proofs.Common.{◌≡◌, ℕ, ◌-◌, None, Some, is_some, refl
 use Rattle.std.specs.Prelude.{slice_index, slice_set}
 use Rattle.std.proofs.lemmas.Result.{err_from_is_err_and}
 use Rattle.pv_model.specs.Machine.{Tree, node_at, find_entry, is_directory_at, with_entry, without_entry}
-use Rattle.pv_tree.specs.Changes.{moved, settled}
+use Rattle.pv_tree.specs.Changes.{moved, without_if_unreferenced}
 use Rattle.pv_tree.specs.Holding.{collected}
-use Rattle.pv_tree.specs.Rooms.{refusal}
+use Rattle.pv_tree.specs.Rooms.{room_error}
 use Rattle.pv_tree.specs.Present.{IsTied}
-use Rattle.pv_laws_trees.proofs.Lookups.{alike-moved}
+use Rattle.pv_laws_trees.proofs.LookupsAfterChanges.{alike-moved}
 use Rattle.pv_laws_trees.proofs.TreeBytes.{bytes-all}
-use Rattle.pv_tree.proofs.Counting.{collected-tied}
-use Rattle.pv_tree.proofs.Elsewhere.{two-along, alike-refused, alike-renamed}
-use Rattle.pv_tree.proofs.Linking.{found-place}
-use Rattle.pv_tree.proofs.Moving.{value-of, IsMove, is-move, moved-is, moved-tied, moved-collected, moved-allowed, gone-there, gone-named, replaced-counted, settled-replaced}
-use Rattle.pv_tree.proofs.Rooms.{shaped, collected-allowed}
+use Rattle.pv_tree.proofs.CollectionCounts.{collected-tied}
+use Rattle.pv_tree.proofs.UnaffectedLookups.{two-along, alike-refused, alike-renamed}
+use Rattle.pv_tree.proofs.LinkCounts.{found-place}
+use Rattle.pv_tree.proofs.EntryMoves.{value-of, IsMove, is-move, moved-is, moved-tied, moved-collected, moved-allowed, gone-there, gone-named, replaced-counted, without_if_unreferenced-replaced}
+use Rattle.pv_tree.proofs.RoomForEntries.{shaped, collected-allowed}
 use Rattle.pv_tree.proofs.tree.Tree.rename.Goals as goal
 use Rattle.pv_tree.proofs.tree.Tree.rename.Goals.{After-from_residual, In_ok-moved, In-Some, After-settle}
 
@@ -27,9 +27,9 @@ entered : (c : In_ok-moved) → c.move_entry.new.directories ≡ with_entry (wit
 entered c =
     c.in_ok-moved.ensures.change.ok ∙ sym (moved-is c.self.inside.directories c.self.inside.directories refl c.args.from c.args.name.now c.args.to c.args.other.now c.in_ok-moved.moved.node c.in_ok-moved.ensures.nodes.node)
 
-fits : (c : In_ok-moved) → refusal (with_entry (without_entry c.self.inside.directories c.args.from c.args.name.now) c.args.to c.args.other.now c.in_ok-moved.moved.node) ≡ None
+fits : (c : In_ok-moved) → room_error (with_entry (without_entry c.self.inside.directories c.args.from c.args.name.now) c.args.to c.args.other.now c.in_ok-moved.moved.node) ≡ None
 fits c =
-    ap refusal (moved-is c.self.inside.directories c.self.inside.directories refl c.args.from c.args.name.now c.args.to c.args.other.now c.in_ok-moved.moved.node c.in_ok-moved.ensures.nodes.node) ∙ c.in_ok-moved.ensures.change.allowed
+    ap room_error (moved-is c.self.inside.directories c.self.inside.directories refl c.args.from c.args.name.now c.args.to c.args.other.now c.in_ok-moved.moved.node c.in_ok-moved.ensures.nodes.node) ∙ c.in_ok-moved.ensures.change.allowed
 
 -- the same for the tree that a caller sees
 seen : (c : In_ok-moved) → collected (with_entry (without_entry c.self.inside.directories c.args.from c.args.name.now) c.args.to c.args.other.now c.in_ok-moved.moved.node) c.self.inside.holds ≡ collected (moved c.args.self.now.tree c.args.from c.args.name.now c.args.to c.args.other.now) c.args.self.now.holds
@@ -48,12 +48,12 @@ move_entry-requires-clause-shaped c =
 named : (c : After-from_residual) → (m : ℕ) × (find_entry c.self.inside.directories c.args.from c.args.name.now ≡ Some m)
 named c = value-of (find_entry c.self.inside.directories c.args.from c.args.name.now) (ap (λ h. is_some (find_entry h.tree c.args.from c.args.name.now)) c.self.view_is ∙ c.requires.entry.present)
 
-refused : (c : After-from_residual) (m : ℕ) → find_entry c.self.inside.directories c.args.from c.args.name.now ≡ Some m → refusal (collected (moved c.args.self.now.tree c.args.from c.args.name.now c.args.to c.args.other.now) c.args.self.now.holds) ≡ Some c.in_err-moved.field-0.0
+refused : (c : After-from_residual) (m : ℕ) → find_entry c.self.inside.directories c.args.from c.args.name.now ≡ Some m → room_error (collected (moved c.args.self.now.tree c.args.from c.args.name.now c.args.to c.args.other.now) c.args.self.now.holds) ≡ Some c.in_err-moved.field-0.0
 refused c m found =
     let view = ap (λ h. h.tree) c.self.view_is in
     let move = is-move c.self.inside.directories c.args.self.now.tree view c.args.from c.args.name.now c.args.to c.args.other.now m found c.requires.to c.requires.entry.name (bytes-all c.args.other.now (λ i. (c.type_inv.other i).fits)) c.requires.clear c.requires.entry.apart c.requires.empty in
     let seen = ap (λ (t : Tree). collected t c.self.inside.holds) (moved-is c.self.inside.directories c.args.self.now.tree view c.args.from c.args.name.now c.args.to c.args.other.now m found) ∙ ap (λ holds. collected (moved c.args.self.now.tree c.args.from c.args.name.now c.args.to c.args.other.now) holds) (ap (λ h. h.holds) c.self.view_is) in
-    ap refusal (sym seen ∙ moved-collected c.self.inside.directories c.self.inside.parents c.self.inside.names c.self.inside.holds c.self.invariant c.args.from c.args.name.now c.args.to c.args.other.now m move c.in_err-moved.ensures.free
+    ap room_error (sym seen ∙ moved-collected c.self.inside.directories c.self.inside.parents c.self.inside.names c.self.inside.holds c.self.invariant c.args.from c.args.name.now c.args.to c.args.other.now m move c.in_err-moved.ensures.free
     ∙ moved-is c.self.inside.directories c.self.inside.directories refl c.args.from c.args.name.now c.args.to c.args.other.now m found)
     ∙ c.in_err-moved.ensures.change.refused
 
@@ -86,7 +86,7 @@ returns-in_default-clause-change c = record {
   ok = ap (λ (t : Tree). record { tree = t; holds = c.self.inside.holds }) (entered (goal.at.returns-in_default-clause-change c).In_ok-moved ∙ sym (moved-collected c.self.inside.directories c.self.inside.parents c.self.inside.names c.self.inside.holds c.self.invariant c.args.from c.args.name.now c.args.to c.args.other.now c.in_ok-moved.moved.node (move (goal.at.returns-in_default-clause-change c).In_ok-moved) (sym c.in_ok-moved.ensures.nodes.gone ∙ c.in_default.is)) ∙ seen (goal.at.returns-in_default-clause-change c).In_ok-moved)
       ∙ ap (λ holds. record { tree = collected (moved c.args.self.now.tree c.args.from c.args.name.now c.args.to c.args.other.now) c.args.self.now.holds; holds = holds }) (ap (λ h. h.holds) c.self.view_is);
   err = tt;
-  allowed = ap refusal (sym (seen (goal.at.returns-in_default-clause-change c).In_ok-moved) ∙ moved-collected c.self.inside.directories c.self.inside.parents c.self.inside.names c.self.inside.holds c.self.invariant c.args.from c.args.name.now c.args.to c.args.other.now c.in_ok-moved.moved.node (move (goal.at.returns-in_default-clause-change c).In_ok-moved) (sym c.in_ok-moved.ensures.nodes.gone ∙ c.in_default.is)) ∙ (fits (goal.at.returns-in_default-clause-change c).In_ok-moved);
+  allowed = ap room_error (sym (seen (goal.at.returns-in_default-clause-change c).In_ok-moved) ∙ moved-collected c.self.inside.directories c.self.inside.parents c.self.inside.names c.self.inside.holds c.self.invariant c.args.from c.args.name.now c.args.to c.args.other.now c.in_ok-moved.moved.node (move (goal.at.returns-in_default-clause-change c).In_ok-moved) (sym c.in_ok-moved.ensures.nodes.gone ∙ c.in_default.is)) ∙ (fits (goal.at.returns-in_default-clause-change c).In_ok-moved);
   refused = tt;
 }
 
@@ -131,8 +131,8 @@ settle-requires c =
 left : (c : After-settle) → c.settle.new.directories ≡ collected (with_entry (without_entry c.self.inside.directories c.args.from c.args.name.now) c.args.to c.args.other.now c.in_ok-moved.moved.node) c.self.inside.holds
 left c =
     c.settle.ensures
-    ∙ ap (λ (t : Tree). settled t c.in-Some.gone (slice_index (slice_set c.self.inside.names c.in-Some.gone (slice_index c.self.inside.names c.in-Some.gone - 1)) c.in-Some.gone) (slice_index c.self.inside.holds c.in-Some.gone)) (entered (goal.at.invariant_of-self-2 c).In_ok-moved)
-    ∙ settled-replaced c.self.inside.directories c.self.inside.parents c.self.inside.names c.self.inside.holds c.self.invariant c.args.from c.args.name.now c.args.to c.args.other.now c.in_ok-moved.moved.node (move (goal.at.invariant_of-self-2 c).In_ok-moved) c.in-Some.gone (was (goal.at.invariant_of-self-2 c).In-Some)
+    ∙ ap (λ (t : Tree). without_if_unreferenced t c.in-Some.gone (slice_index (slice_set c.self.inside.names c.in-Some.gone (slice_index c.self.inside.names c.in-Some.gone - 1)) c.in-Some.gone) (slice_index c.self.inside.holds c.in-Some.gone)) (entered (goal.at.invariant_of-self-2 c).In_ok-moved)
+    ∙ without_if_unreferenced-replaced c.self.inside.directories c.self.inside.parents c.self.inside.names c.self.inside.holds c.self.invariant c.args.from c.args.name.now c.args.to c.args.other.now c.in_ok-moved.moved.node (move (goal.at.invariant_of-self-2 c).In_ok-moved) c.in-Some.gone (was (goal.at.invariant_of-self-2 c).In-Some)
 
 pub invariant_of-self-2 : goal.invariant_of-self-2
 invariant_of-self-2 c =
@@ -146,7 +146,7 @@ returns-clause-change c = record {
   ok = ap (λ (t : Tree). record { tree = t; holds = c.self.inside.holds }) (left c ∙ seen (goal.at.returns-clause-change c).In_ok-moved)
       ∙ ap (λ holds. record { tree = collected (moved c.args.self.now.tree c.args.from c.args.name.now c.args.to c.args.other.now) c.args.self.now.holds; holds = holds }) (ap (λ h. h.holds) c.self.view_is);
   err = tt;
-  allowed = ap refusal (sym (seen (goal.at.returns-clause-change c).In_ok-moved))
+  allowed = ap room_error (sym (seen (goal.at.returns-clause-change c).In_ok-moved))
       ∙ collected-allowed (with_entry (without_entry c.self.inside.directories c.args.from c.args.name.now) c.args.to c.args.other.now c.in_ok-moved.moved.node) c.self.inside.holds (moved-allowed c.self.inside.directories c.self.inside.parents c.self.inside.names c.self.inside.holds c.self.invariant c.args.from c.args.name.now c.args.to c.args.other.now c.in_ok-moved.moved.node (move (goal.at.returns-clause-change c).In_ok-moved) c.in-Some.gone (was (goal.at.returns-clause-change c).In-Some));
   refused = tt;
 }

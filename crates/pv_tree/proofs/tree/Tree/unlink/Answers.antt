@@ -1,12 +1,12 @@
 use Rattle.std.proofs.Common.{◌≡◌, ◌-◌, [], Some, ap, subst, sym, ◌∙◌, arith}
 use Rattle.std.specs.Prelude.{slice_index, slice_set, is_some}
 use Rattle.pv_model.specs.Machine.{Tree, node_at, entries_at, find_entry, is_directory_at, without_entry}
-use Rattle.pv_tree.specs.Changes.{settled}
+use Rattle.pv_tree.specs.Changes.{without_if_unreferenced}
 use Rattle.pv_tree.specs.Holding.{after, collected}
 use Rattle.pv_tree.specs.Present.{IsTied}
-use Rattle.pv_tree.proofs.Counting.{collected-tied}
-use Rattle.pv_tree.proofs.Elsewhere.{but-along, alike-unlinked}
-use Rattle.pv_tree.proofs.Linking.{found-place, emptied, has-name, still-there, unlinked-counted, settled-unlinked}
+use Rattle.pv_tree.proofs.CollectionCounts.{collected-tied}
+use Rattle.pv_tree.proofs.UnaffectedLookups.{but-along, alike-unlinked}
+use Rattle.pv_tree.proofs.LinkCounts.{found-place, emptied, has-name, still-there, unlinked-counted, without_if_unreferenced-unlinked}
 use Rattle.pv_tree.proofs.tree.Tree.unlink.Goals as goal
 use Rattle.pv_tree.proofs.tree.Tree.unlink.Goals.{In-Some, After-settle}
 
@@ -47,17 +47,17 @@ settle-requires c =
     ap (λ (t : Tree). is_some (node_at t c.in-Some.node)) c.in-Some.ensures.left
     ∙ still-there c.self.inside.directories c.self.inside.parents c.self.inside.names c.self.inside.holds c.self.invariant c.args.directory c.args.name.now c.in-Some.node (found w) (empty w)
 
-settled-there : (c : In-Some) → settled (without_entry c.self.inside.directories c.args.directory c.args.name.now) c.in-Some.node
+settled-there : (c : In-Some) → without_if_unreferenced (without_entry c.self.inside.directories c.args.directory c.args.name.now) c.in-Some.node
     (slice_index (slice_set c.self.inside.names c.in-Some.node (slice_index c.self.inside.names c.in-Some.node - 1)) c.in-Some.node) (slice_index c.self.inside.holds c.in-Some.node)
     ≡ collected (without_entry c.self.inside.directories c.args.directory c.args.name.now) c.self.inside.holds
 settled-there c =
-    settled-unlinked c.self.inside.directories c.self.inside.parents c.self.inside.names c.self.inside.holds c.self.invariant c.args.directory c.args.name.now c.in-Some.node (found c) (empty c)
+    without_if_unreferenced-unlinked c.self.inside.directories c.self.inside.parents c.self.inside.names c.self.inside.holds c.self.invariant c.args.directory c.args.name.now c.in-Some.node (found c) (empty c)
 
 gone : (c : After-settle) → c.settle.new.directories ≡ collected (without_entry c.self.inside.directories c.args.directory c.args.name.now) c.self.inside.holds
 gone c =
     let w = (goal.at.returns-clause-tree c).In-Some in
     c.settle.ensures
-    ∙ ap (λ (t : Tree). settled t c.in-Some.node (slice_index (slice_set c.self.inside.names c.in-Some.node (slice_index c.self.inside.names c.in-Some.node - 1)) c.in-Some.node)
+    ∙ ap (λ (t : Tree). without_if_unreferenced t c.in-Some.node (slice_index (slice_set c.self.inside.names c.in-Some.node (slice_index c.self.inside.names c.in-Some.node - 1)) c.in-Some.node)
     (slice_index c.self.inside.holds c.in-Some.node)) c.in-Some.ensures.left
     ∙ settled-there w
 

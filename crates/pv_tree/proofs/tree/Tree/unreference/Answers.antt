@@ -1,11 +1,11 @@
 use Rattle.std.proofs.Common.{◌≡◌, ◌<◌, subst, ap, sym, ◌∙◌}
 use Rattle.std.specs.Prelude.{slice_index}
 use Rattle.pv_model.specs.Machine.{Tree}
-use Rattle.pv_tree.specs.Holding.{held_less, held_numbers, collected}
+use Rattle.pv_tree.specs.Holding.{held_less, referenced_numbers, collected}
 use Rattle.pv_tree.specs.Present.{IsTied}
-use Rattle.pv_tree.proofs.Counting.{settled-less, counted-less, collected-tied}
-use Rattle.pv_laws_trees.proofs.Lookups.{alike-preserved}
-use Rattle.pv_tree.proofs.Elsewhere.{alike-along}
+use Rattle.pv_tree.proofs.CollectionCounts.{without_if_unreferenced-less, counted-less, collected-tied}
+use Rattle.pv_laws_trees.proofs.LookupsAfterChanges.{alike-preserved}
+use Rattle.pv_tree.proofs.UnaffectedLookups.{alike-along}
 use Rattle.pv_tree.proofs.tree.Tree.unreference.Goals as goal
 use Rattle.pv_tree.proofs.tree.Tree.unreference.Goals.{After-settle}
 
@@ -13,7 +13,7 @@ held : (c : After-settle) → 0 < slice_index c.self.inside.holds c.args.node
 held c = subst (λ n. 0 < n) (sym (ap (λ h. slice_index h.holds c.args.node) c.self.view_is)) c.requires
 
 gone : (c : After-settle) → c.settle.new.directories ≡ collected c.self.inside.directories (held_less c.self.inside.holds c.args.node)
-gone c = c.settle.ensures ∙ settled-less c.self.inside.directories c.self.inside.parents c.self.inside.names c.self.inside.holds c.self.invariant c.args.node (held c)
+gone c = c.settle.ensures ∙ without_if_unreferenced-less c.self.inside.directories c.self.inside.parents c.self.inside.names c.self.inside.holds c.self.invariant c.args.node (held c)
 
 pub invariant_of-self : goal.invariant_of-self
 invariant_of-self c =
@@ -29,4 +29,4 @@ returns-clause-found c =
     let t = c.self.inside.directories in
     let holds = held_less c.self.inside.holds c.args.node in
     alike-along t c.args.self.now.tree (collected t holds) c.settle.new.directories (ap (λ h. h.tree) c.self.view_is) (gone c)
-    (alike-preserved t c.self.invariant.counted.well_formed (held_numbers holds))
+    (alike-preserved t c.self.invariant.counted.well_formed (referenced_numbers holds))

@@ -3,11 +3,11 @@ use Rattle.std.specs.Prelude.{OnOk, IfErr}
 use Rattle.std.proofs.lemmas.Result.{on_ok_weaker, on_err_weaker}
 use Rattle.pv_model.specs.Machine.{greatest_length, is_file, Tree, node_at}
 use Rattle.pv_tree.specs.Changes.{overwritten}
-use Rattle.pv_tree.specs.Holding.{HeldTree, with_tree}
-use Rattle.pv_tree.specs.Rooms.{refusal}
+use Rattle.pv_tree.specs.Holding.{HeldTree, held_with_tree}
+use Rattle.pv_tree.specs.Rooms.{room_error}
 use Rattle.pv_laws_trees.proofs.TreeBytes.{bytes-all}
-use Rattle.pv_tree.proofs.Contents.{IsAnswer, file-of, write-answer, write-ends}
-use Rattle.pv_tree.proofs.Elsewhere.{alike-along, alike-answered, alike-overwritten}
+use Rattle.pv_tree.proofs.ContentChanges.{IsAnswer, file-of, write-answer, write-ends}
+use Rattle.pv_tree.proofs.UnaffectedLookups.{alike-along, alike-answered, alike-overwritten}
 use Rattle.pv_tree.proofs.tree.Tree.write_at.Goals as goal
 use Rattle.pv_tree.proofs.tree.Tree.write_at.Goals.{After-write_at}
 
@@ -24,10 +24,10 @@ invariant_of-self c = (answer c).tied
 pub returns-clause-change : goal.returns-clause-change
 returns-clause-change c = record {
   ok = on_ok_weaker c.write_at.result
-      (λ same. ap (λ (t : Tree). record { tree = t; holds = c.self.inside.holds }) same ∙ ap (λ (h : HeldTree). with_tree h (overwritten h.tree c.args.node c.args.at c.args.bytes.now)) c.self.view_is) (answer c).ok;
+      (λ same. ap (λ (t : Tree). record { tree = t; holds = c.self.inside.holds }) same ∙ ap (λ (h : HeldTree). held_with_tree h (overwritten h.tree c.args.node c.args.at c.args.bytes.now)) c.self.view_is) (answer c).ok;
   err = on_err_weaker c.write_at.result (λ same. ap (λ (t : Tree). record { tree = t; holds = c.self.inside.holds }) same ∙ c.self.view_is) c.write_at.ensures.err;
-  allowed = subst (λ (t : Tree). OnOk c.write_at.result (refusal (overwritten t c.args.node c.args.at c.args.bytes.now) ≡ None)) (ap (λ h. h.tree) c.self.view_is) (answer c).allowed;
-  refused = subst (λ (t : Tree). IfErr c.write_at.result (λ why. refusal (overwritten t c.args.node c.args.at c.args.bytes.now) ≡ Some why)) (ap (λ h. h.tree) c.self.view_is) (answer c).refused;
+  allowed = subst (λ (t : Tree). OnOk c.write_at.result (room_error (overwritten t c.args.node c.args.at c.args.bytes.now) ≡ None)) (ap (λ h. h.tree) c.self.view_is) (answer c).allowed;
+  refused = subst (λ (t : Tree). IfErr c.write_at.result (λ why. room_error (overwritten t c.args.node c.args.at c.args.bytes.now) ≡ Some why)) (ap (λ h. h.tree) c.self.view_is) (answer c).refused;
 }
 
 pub returns-clause-found : goal.returns-clause-found

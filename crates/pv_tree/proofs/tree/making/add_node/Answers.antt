@@ -1,11 +1,11 @@
 use Rattle.std.proofs.Common.{◌≡◌, ◌<◌, is_some, length, refl, ap, sym, subst, ◌∙◌, arith}
 use Rattle.pv_model.specs.Machine.{greatest_entries, Tree, node_at, entries_at, with_node, with_entry, with_new_node}
-use Rattle.pv_dirs.specs.Trees.{new_node as empty_node, without_node}
-use Rattle.pv_laws_trees.proofs.Changes.{node_at-same}
-use Rattle.pv_tree.specs.Changes.{new_node, sort_of, IsNewName}
-use Rattle.pv_tree.specs.Rooms.{refusal}
+use Rattle.pv_dirs.specs.Trees.{empty_node, without_node}
+use Rattle.pv_laws_trees.proofs.TreeChanges.{node_at-same}
+use Rattle.pv_tree.specs.Changes.{new_node, kind_of_new, IsNewName}
+use Rattle.pv_tree.specs.Rooms.{room_error}
 use Rattle.pv_tree.specs.Present.{IsShaped}
-use Rattle.pv_tree.proofs.Making.{fresh-is, furnished-is, entered-is, taken_away, size-entries, directory-one, absent-one, few-one, refused-long, refused-crowded, shaped-one}
+use Rattle.pv_tree.proofs.NodeCreation.{fresh-is, furnished-is, entered-is, taken_away, size-entries, directory-one, absent-one, few-one, refused-long, refused-crowded, shaped-one}
 use Rattle.pv_tree.proofs.tree.making.add_node.Goals as goal
 use Rattle.pv_tree.proofs.tree.making.add_node.Goals.{After-furnish}
 
@@ -36,7 +36,7 @@ returns-in_default-clause-change c =
 pub furnish-requires-clause-fresh : goal.furnish-requires-clause-fresh
 furnish-requires-clause-fresh c =
     ap (λ (t : Tree). node_at t c.in-Some.node) (fresh-is c.args.directories.now c.fresh.new.self c.in-Some.node c.args.kind c.sort_of.result c.in-Some.ensures.after c.sort_of.ensures c.in-Some.ensures.within c.in-Some.ensures.least)
-    ∙ node_at-same c.args.directories.now c.in-Some.node (empty_node (sort_of c.args.kind)) c.in-Some.ensures.within
+    ∙ node_at-same c.args.directories.now c.in-Some.node (empty_node (kind_of_new c.args.kind)) c.in-Some.ensures.within
 
 pub furnish-requires-clause-shaped : goal.furnish-requires-clause-shaped
 furnish-requires-clause-shaped c =
@@ -71,9 +71,9 @@ pub returns-in-Err-clause-change : goal.returns-in-Err-clause-change
 returns-in-Err-clause-change c = record {
   ok = tt;
   err = c.in-Err.ensures.change.err ∙ ap (λ (t : Tree). without_node t c.in-Some.node) (fresh-is c.args.directories.now c.fresh.new.self c.in-Some.node c.args.kind c.sort_of.result c.in-Some.ensures.after c.sort_of.ensures c.in-Some.ensures.within c.in-Some.ensures.least)
-      ∙ taken_away c.args.directories.now c.in-Some.node (empty_node (sort_of c.args.kind)) c.in-Some.ensures.free c.in-Some.ensures.within;
+      ∙ taken_away c.args.directories.now c.in-Some.node (empty_node (kind_of_new c.args.kind)) c.in-Some.ensures.free c.in-Some.ensures.within;
   allowed = tt;
-  refused = ap refusal (sym (made (goal.at.returns-in-Err-clause-change c).After-furnish)) ∙ c.in-Err.ensures.change.refused;
+  refused = ap room_error (sym (made (goal.at.returns-in-Err-clause-change c).After-furnish)) ∙ c.in-Err.ensures.change.refused;
 }
 
 pub returns-clause-change : goal.returns-clause-change
@@ -82,6 +82,6 @@ returns-clause-change c =
     record {
       ok = c.in_default-furnish.ensures.change.ok ∙ made;
       err = tt;
-      allowed = ap refusal (sym made) ∙ c.in_default-furnish.ensures.change.allowed;
+      allowed = ap room_error (sym made) ∙ c.in_default-furnish.ensures.change.allowed;
       refused = tt;
     }

@@ -1,4 +1,4 @@
-use Rattle.pv_tree.proofs.Rooms.{add-allowed, add-refused}
+use Rattle.pv_tree.proofs.RoomForEntries.{add-allowed, add-refused}
 use Rattle.pv_tree.proofs.tree.making.enter.Goals as goal
 
 pub returns : goal.returns

@@ -1,10 +1,10 @@
 use Rattle.std.proofs.Common.{◌≡◌, is_some, ap, sym, ◌∙◌}
 use Rattle.pv_model.specs.Machine.{Tree, node_at, with_node, with_entry}
-use Rattle.pv_dirs.specs.Trees.{new_node as empty_node, without_node}
-use Rattle.pv_tree.specs.Changes.{new_node, sort_of}
-use Rattle.pv_tree.specs.Rooms.{refusal}
-use Rattle.pv_tree.proofs.Making.{at-err, at-ok, there-filled, emptied-again}
-use Rattle.pv_tree.proofs.Rooms.{refused-before}
+use Rattle.pv_dirs.specs.Trees.{empty_node, without_node}
+use Rattle.pv_tree.specs.Changes.{new_node, kind_of_new}
+use Rattle.pv_tree.specs.Rooms.{room_error}
+use Rattle.pv_tree.proofs.NodeCreation.{at-err, at-ok, there-filled, emptied-again}
+use Rattle.pv_tree.proofs.RoomForEntries.{refused-before}
 use Rattle.pv_tree.proofs.tree.making.furnish.Goals as goal
 
 pub returns-then-is_err-clause-change : goal.returns-then-is_err-clause-change
@@ -23,7 +23,7 @@ drop_inode-requires-in-Err c =
     let same : c.enter.new.directories ≡ with_node c.args.directories.now c.args.node (new_node c.args.kind) =
     c.in-Err.ensures.err ∙ at-ok c.fill.result (sym c.is_err.ensures.value ∙ c.if-is_err.false) c.fill.ensures.ok in
     ap (λ (t : Tree). is_some (node_at t c.args.node)) same
-    ∙ there-filled c.args.directories.now c.args.node (empty_node (sort_of c.args.kind)) (new_node c.args.kind) c.requires.fresh
+    ∙ there-filled c.args.directories.now c.args.node (empty_node (kind_of_new c.args.kind)) (new_node c.args.kind) c.requires.fresh
 
 pub returns-in-Err-clause-change : goal.returns-in-Err-clause-change
 returns-in-Err-clause-change c =
@@ -32,7 +32,7 @@ returns-in-Err-clause-change c =
     record {
       ok = tt;
       err = c.drop_inode-in-Err.ensures ∙ ap (λ (t : Tree). without_node t c.args.node) same
-          ∙ emptied-again c.args.directories.now c.args.node (empty_node (sort_of c.args.kind)) (new_node c.args.kind) c.requires.fresh;
+          ∙ emptied-again c.args.directories.now c.args.node (empty_node (kind_of_new c.args.kind)) (new_node c.args.kind) c.requires.fresh;
       allowed = tt;
-      refused = ap (λ (t : Tree). refusal (with_entry t c.args.directory c.args.name.now c.args.node)) (sym filled) ∙ c.in-Err.ensures.refused;
+      refused = ap (λ (t : Tree). room_error (with_entry t c.args.directory c.args.name.now c.args.node)) (sym filled) ∙ c.in-Err.ensures.refused;
     }

@@ -2,9 +2,9 @@ use Rattle.std.proofs.Common.{◌≡◌, ◌≢◌, Some, refl, ap, subst, sym, 
 use Rattle.std.specs.Prelude.{IfSome, IfNone}
 use Rattle.pv_model.specs.Machine.{Tree, find_entry, is_directory_at, with_entry, without_entry}
 use Rattle.pv_tree.specs.Changes.{moved, IsNewName}
-use Rattle.pv_tree.specs.Rooms.{refusal}
+use Rattle.pv_tree.specs.Rooms.{room_error}
 use Rattle.pv_tree.specs.Present.{IsShaped}
-use Rattle.pv_tree.proofs.Moving.{between-directory, found-between, bared-by, bared-shaped, bared-directory, bared-from, bared-absent, bared-first, bared-back, bared-allowed, name-good, replaced-is, refused-free, done, moved-is}
+use Rattle.pv_tree.proofs.EntryMoves.{between-directory, found-between, bared-by, bared-shaped, bared-directory, bared-from, bared-absent, bared-first, bared-back, bared-allowed, name-good, replaced-is, refused-free, done, moved-is}
 use Rattle.pv_tree.proofs.tree.names.move_entry.Goals as goal
 use Rattle.pv_tree.proofs.tree.names.move_entry.Goals.{After-remove-gone}
 
@@ -69,21 +69,21 @@ renamed c =
 pub returns-in-Err-clause-change : goal.returns-in-Err-clause-change
 returns-in-Err-clause-change c =
     let w = (goal.at.returns-in-Err-clause-change c).After-remove-gone in
-    let free = refused-free c.args.directories.now c.requires.well_formed c.requires.shaped c.requires.fits c.args.from c.args.name.now c.args.to c.args.other.now c.in-Some.node (has w) c.requires.to c.in-Err.why (apart w) (ap (λ (t : Tree). refusal (with_entry t c.args.to c.args.other.now c.in-Some.node)) (sym (bared w)) ∙ c.in-Err.ensures.refused) in
+    let free = refused-free c.args.directories.now c.requires.well_formed c.requires.shaped c.requires.fits c.args.from c.args.name.now c.args.to c.args.other.now c.in-Some.node (has w) c.requires.to c.in-Err.why (apart w) (ap (λ (t : Tree). room_error (with_entry t c.args.to c.args.other.now c.in-Some.node)) (sym (bared w)) ∙ c.in-Err.ensures.refused) in
     let entered = ap (λ (t : Tree). with_entry t c.args.from c.args.name.now c.in-Some.node) (c.in-Err.ensures.err ∙ bared w) in
     record {
       ok = tt;
-      err = done (with_entry c.enter.new.directories c.args.from c.args.name.now c.in-Some.node) c.enter-in-Err.result (ap refusal entered ∙ bared-allowed c.args.directories.now c.requires.well_formed c.requires.shaped c.requires.fits c.args.from c.args.name.now c.args.to c.args.other.now c.in-Some.node (has w) c.requires.to free)
+      err = done (with_entry c.enter.new.directories c.args.from c.args.name.now c.in-Some.node) c.enter-in-Err.result (ap room_error entered ∙ bared-allowed c.args.directories.now c.requires.well_formed c.requires.shaped c.requires.fits c.args.from c.args.name.now c.args.to c.args.other.now c.in-Some.node (has w) c.requires.to free)
           c.enter-in-Err.ensures.refused c.enter-in-Err.ensures.ok
           ∙ entered ∙ bared-back c.args.directories.now c.requires.well_formed c.requires.shaped c.requires.fits c.args.from c.args.name.now c.args.to c.args.other.now c.in-Some.node (has w) c.requires.to free;
       allowed = tt;
-      refused = ap refusal (sym (renamed w)) ∙ c.in-Err.ensures.refused;
+      refused = ap room_error (sym (renamed w)) ∙ c.in-Err.ensures.refused;
     }
 
 pub returns-in-Err-clause-free : goal.returns-in-Err-clause-free
 returns-in-Err-clause-free c =
     let w = (goal.at.returns-in-Err-clause-free c).After-remove-gone in
-    refused-free c.args.directories.now c.requires.well_formed c.requires.shaped c.requires.fits c.args.from c.args.name.now c.args.to c.args.other.now c.in-Some.node (has w) c.requires.to c.in-Err.why (apart w) (ap (λ (t : Tree). refusal (with_entry t c.args.to c.args.other.now c.in-Some.node)) (sym (bared w)) ∙ c.in-Err.ensures.refused)
+    refused-free c.args.directories.now c.requires.well_formed c.requires.shaped c.requires.fits c.args.from c.args.name.now c.args.to c.args.other.now c.in-Some.node (has w) c.requires.to c.in-Err.why (apart w) (ap (λ (t : Tree). room_error (with_entry t c.args.to c.args.other.now c.in-Some.node)) (sym (bared w)) ∙ c.in-Err.ensures.refused)
 
 pub returns-clause-nodes : goal.returns-clause-nodes
 returns-clause-nodes c =
@@ -99,6 +99,6 @@ returns-clause-change c =
     record {
       ok = c.in_default-enter.ensures.ok ∙ renamed w;
       err = tt;
-      allowed = ap refusal (sym (renamed w)) ∙ c.in_default-enter.ensures.allowed;
+      allowed = ap room_error (sym (renamed w)) ∙ c.in_default-enter.ensures.allowed;
       refused = tt;
     }

@@ -1,7 +1,7 @@
 use Rattle.std.proofs.Common.{◌∙◌, ap, sym}
 use Rattle.pv_model.specs.declared.target.Target.TheVariants.{Directory}
 use Rattle.pv_model.specs.Machine.{Table, entry_for}
-use Rattle.pv_unveil.proofs.KeyLemmas.{own-entry, unmarked-entry}
+use Rattle.pv_unveil.proofs.EntryKeys.{own-entry, unmarked-entry}
 use Rattle.pv_unveil.proofs.entries.Entries.for_directory.Goals as goal
 
 pub returns-clause-value : goal.returns-clause-value

@@ -1,7 +1,7 @@
 use Rattle.std.proofs.Common.{◌∙◌, ap, sym}
 use Rattle.pv_model.specs.declared.target.Target.TheVariants.{Name}
 use Rattle.pv_model.specs.Machine.{Table, entry_for}
-use Rattle.pv_unveil.proofs.KeyLemmas.{unmarked-entry}
+use Rattle.pv_unveil.proofs.EntryKeys.{unmarked-entry}
 use Rattle.pv_unveil.proofs.entries.Entries.for_name.Goals as goal
 
 pub returns-then-not-has_name-clause-value : goal.returns-then-not-has_name-clause-value

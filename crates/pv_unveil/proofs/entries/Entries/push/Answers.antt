@@ -1,7 +1,7 @@
 use Rattle.std.proofs.Common.{◌<◌, length, subst, sym}
 use Rattle.pv_model.specs.declared.limits.TheConstants.{UNVEILS}
 use Rattle.pv_model.specs.Machine.{Table}
-use Rattle.pv_unveil.proofs.KeyLemmas.{keyed-push}
+use Rattle.pv_unveil.proofs.EntryKeys.{keyed-push}
 use Rattle.pv_unveil.proofs.entries.Entries.push.Goals as goal
 
 pub invariant_of-self : goal.invariant_of-self

@@ -1,4 +1,4 @@
-use Rattle.pv_unveil.proofs.KeyLemmas.{keyed-set}
+use Rattle.pv_unveil.proofs.EntryKeys.{keyed-set}
 use Rattle.pv_unveil.proofs.entries.Entries.replace.Goals as goal
 
 pub invariant_of-self : goal.invariant_of-self

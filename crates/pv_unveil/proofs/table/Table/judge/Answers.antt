@@ -3,7 +3,7 @@ use Rattle.pv_model.specs.declared.judgement.Judgement.{Judgement}
 use Rattle.pv_model.specs.Machine.{judgement}
 use Rattle.pv_unveil.specs.Judged.{IsJudged}
 use Rattle.pv_unveil.specs.Unveiled.{Unveiled}
-use Rattle.pv_unveil.proofs.JudgedLemmas.{IsJudged-judgement}
+use Rattle.pv_unveil.proofs.ComputedJudgement.{IsJudged-judgement}
 use Rattle.pv_unveil.proofs.table.Table.judge.Goals as goal
 
 pub returns-clause-by_entry : goal.returns-clause-by_entry

@@ -1,0 +1,142 @@
+-- The lines of the states, one state at a time, are those of the state graph.
+use Rattle.std.proofs.Common.{◌≡◌, ◌∙◌, sym, ap, ap₂, ℕ, zero, suc, ◌+◌, ◌<◌, ◌≤◌, Bool, bytes_eq, true, false, List, [], ◌∷◌, ◌++◌, map, flat_map, length, drop, get_or, slice_get, Option, None, Some, refl, add-one, codes}
+use Rattle.std.specs.Prelude.{position}
+use Rattle.std.specs.Fmt.{decimal}
+use Rattle.std.specs.List.{AllByRecursion}
+use Rattle.std.proofs.lemmas.Grind.{flat_map-append}
+use Rattle.std.proofs.lemmas.List.{drop_all, length-map}
+use Rattle.std.proofs.Math.Seq.{drop-cons}
+use Rattle.pv_explore.specs.Plan.{Visited, first_visited, visited_from, state_key, state_at, live_at, reported_from}
+use Rattle.pv_explore.specs.Vertices.{found_lines, listed_bytes, vertex_step, steps_at, vertex_at, vertices_from}
+use Rattle.pv_step_cache.proofs.KeyLists.{position-mapped}
+use Rattle.pv_explore.proofs.PlannedSearch.{Finds, plan-found, same-known, state_of_found, witness_of_found}
+use Rattle.pv_model.specs.Machine.{Found, is_complete, move, states_found, explained_step, graph_lines, AnswerLine, answer_bytes, answer_line, answer_line_bytes, counted_from, same_state, Observer, state_lines, reach_lines, Bytes, lines_of, program_of, live_processes, listing, Process, State}
+use Rattle.pv_model.specs.Answers.Explore.{states_line}
+use Rattle.pv_model.specs.Answers.Graph.{leads_to_text, listing_lines, number_found, step_lines, tree_lines, unreported, vertex_lines}
+use Rattle.pv_step_lines.specs.OfSession.Running.{stepped}
+
+same-positions : {X : Type 0} (p q : X → Bool) → ((x : X) → p x ≡ q x) → (xs : List X) → position p xs ≡ position q xs
+same-positions {X} p q same xs = let tests : p ≡ q = λ i x. same x i in ap (λ (t : X → Bool). position t xs) tests
+
+number-of : (t : State) (found : List Found) → position (bytes_eq (state_key t)) (map state_of_found found) ≡ number_found t found
+number-of t found = position-mapped state_of_found (bytes_eq (state_key t)) found ∙ same-positions (λ (f : Found). bytes_eq (state_key t) (state_of_found f)) (λ f. same_state f.state t) (same-known t) found
+
+module _ (found : List Found) (keys : List Bytes) (same : keys ≡ map state_of_found found) where
+  step-is : (f : Found) (pid : ℕ) → vertex_step keys f.state pid ≡ step_lines program_of found f (move program_of f pid)
+  step-is f pid =
+      ap (λ (o : Option ℕ). answer_line pid (codes "STEP") (leads_to_text o) ∷ explained_step program_of unreported f.state pid)
+      (ap (position (bytes_eq (state_key (stepped f.state pid).after))) same ∙ number-of (stepped f.state pid).after found)
+
+  steps-are : (f : Found) (ps : List (ℕ × Process)) → flat_map (vertex_step keys f.state) (map (λ p. p.0) ps) ≡ flat_map (step_lines program_of found f) (map (λ p. move program_of f p.0) ps)
+  steps-are f [] = refl
+  steps-are f (p ∷ ps) = ap₂ (λ (a b : List AnswerLine). a ++ b) (step-is f p.0) (steps-are f ps)
+
+  module _ (s : State) (trees : Bool) where
+    abbrev vertex_in : ℕ → State → List AnswerLine
+    vertex_in number t =
+        answer_line 0 (codes "AT") (decimal number) ∷ state_lines t ++ tree_lines trees t ++ flat_map (vertex_step keys t) (map (λ p. p.0) (live_processes t.processes))
+
+    vertex-is : (number : ℕ) (f : Found) → f.state ≡ state_at program_of s f.witness → vertex_at keys s trees number f.witness ≡ vertex_lines program_of trees found (number, f)
+    vertex-is number f sound =
+        ap (vertex_in number) (sym sound)
+        ∙ ap (λ (ls : List AnswerLine). answer_line 0 (codes "AT") (decimal number) ∷ state_lines f.state ++ tree_lines trees f.state ++ ls) (steps-are f (live_processes f.state.processes))
+
+    pub vertices-are : (fs : List Found) (number : ℕ) → AllByRecursion (λ f. f.state ≡ state_at program_of s f.witness) fs
+        → vertices_from keys s trees number (map witness_of_found fs) ≡ flat_map (vertex_lines program_of trees found) (counted_from number fs)
+    vertices-are [] number sound = refl
+    vertices-are (f ∷ fs) number sound = ap₂ (λ (a b : List AnswerLine). a ++ b) (vertex-is number f sound.0) (vertices-are fs (number + 1) sound.1)
+
+-- ---- one state at a time
+
+drop-get : {X : Type 0} (xs : List X) (i : ℕ) (x : X) → slice_get xs i ≡ Some x → drop i xs ≡ x ∷ drop (suc i) xs
+drop-get [] i x is = cc
+drop-get (y ∷ xs) zero x is = let same : y ≡ x = cc in ap (λ z. z ∷ xs) same
+drop-get (y ∷ xs) (suc i) x is = drop-get xs i x is
+
+drop-none : {X : Type 0} (xs : List X) (i : ℕ) → slice_get xs i ≡ None → drop i xs ≡ []
+drop-none [] zero is = refl
+drop-none [] (suc i) is = refl
+drop-none (y ∷ xs) zero is = cc
+drop-none (y ∷ xs) (suc i) is = drop-none xs i is
+
+module _ (keys : List Bytes) (s : State) (trees : Bool) (witnesses : List (List ℕ)) where
+  abbrev pub vertices_left : ℕ → Bytes
+  vertices_left number = answer_bytes (vertices_from keys s trees number (drop number witnesses))
+
+  pub vertices-next : (number : ℕ) (witness : List ℕ) → slice_get witnesses number ≡ Some witness → vertices_left number ≡ answer_bytes (vertex_at keys s trees number witness) ++ vertices_left (number + 1)
+  vertices-next number witness is =
+      ap (λ ws. answer_bytes (vertices_from keys s trees number ws)) (drop-get witnesses number witness is ∙ ap (λ k. witness ∷ drop k witnesses) (sym (add-one number)))
+      ∙ flat_map-append answer_line_bytes (vertex_at keys s trees number witness) (vertices_from keys s trees (number + 1) (drop (number + 1) witnesses))
+
+  pub vertices-none : (number : ℕ) → slice_get witnesses number ≡ None → vertices_left number ≡ []
+  vertices-none number is = ap (λ ws. answer_bytes (vertices_from keys s trees number ws)) (drop-none witnesses number is)
+
+  pub vertices-past : (number : ℕ) → length witnesses ≤ number → vertices_left number ≡ []
+  vertices-past number past = ap (λ ws. answer_bytes (vertices_from keys s trees number ws)) (drop_all number witnesses past)
+
+-- ---- the graph
+
+module _ (observe : Observer Bytes) (limit : ℕ) (s : State) (trees : Bool) (bytes : Bytes) (visited : Visited) (it : Finds observe program_of limit s bytes visited) where
+  pub as-many : length visited.witnesses ≡ length visited.keys
+  as-many = ap length it.keeps.witnesses ∙ length-map (states_found program_of limit s) witness_of_found ∙ sym (ap length it.keeps.keys ∙ length-map (states_found program_of limit s) state_of_found)
+
+  pub graph-are : vertices_from visited.keys s trees 0 visited.witnesses ++ states_line (length visited.keys) visited.complete ∷ [] ≡ graph_lines program_of limit trees s
+  unfolding graph_lines
+  graph-are =
+      let found = states_found program_of limit s in
+      ap₂ (λ (a b : List AnswerLine). a ++ b)
+      (ap (vertices_from visited.keys s trees 0) it.keeps.witnesses ∙ vertices-are found visited.keys it.keeps.keys s trees found 0 it.sound)
+      (ap₂ (λ n b. states_line n b ∷ []) (ap length it.keeps.keys ∙ length-map found state_of_found) it.keeps.complete)
+
+-- ---- parts of a state
+
+pub tree-none : (trees : Bool) (s : State) → trees ≡ false → [] ≡ answer_bytes (tree_lines trees s)
+tree-none trees s is = sym (ap (λ b. answer_bytes (tree_lines b s)) is)
+
+pub tree-reported : (trees : Bool) (s : State) → trees ≡ true → listed_bytes (lines_of (listing s.tree)) ++ answer_bytes (reach_lines s) ≡ answer_bytes (tree_lines trees s)
+tree-reported trees s is = sym (ap (λ b. answer_bytes (tree_lines b s)) is ∙ flat_map-append answer_line_bytes (listing_lines s.tree) (reach_lines s))
+
+pub listed-next : (text line : Bytes) (following : List Bytes) → lines_of text ≡ line ∷ following → listed_bytes (lines_of text) ≡ answer_line_bytes (answer_line 0 (codes "LS") line) ++ listed_bytes following
+listed-next text line following is = ap listed_bytes is
+
+pub listed-none : (text : Bytes) → lines_of text ≡ [] → listed_bytes (lines_of text) ≡ []
+listed-none text is = ap listed_bytes is
+
+module _ (keys : List Bytes) (s : State) (witness : List ℕ) where
+  abbrev pub steps_left_at : List ℕ → Bytes
+  steps_left_at pids = answer_bytes (steps_at keys s witness pids)
+
+  pub graph-step : (xs : List ℕ) (i : ℕ) (t : State) → i < length xs → t ≡ state_at program_of s witness → steps_left_at (drop i xs) ≡ answer_bytes (vertex_step keys t (get_or xs i 0)) ++ steps_left_at (drop (i + 1) xs)
+  graph-step xs i t within at =
+      ap steps_left_at (drop-cons xs i 0 within ∙ ap (λ k. get_or xs i 0 ∷ drop k xs) (sym (add-one i)))
+      ∙ flat_map-append answer_line_bytes (vertex_step keys (state_at program_of s witness) (get_or xs i 0)) (steps_at keys s witness (drop (i + 1) xs))
+      ∙ ap (λ (u : State). answer_bytes (vertex_step keys u (get_or xs i 0)) ++ steps_left_at (drop (i + 1) xs)) (sym at)
+
+  pub vertex-bytes : (trees : Bool) (number : ℕ) (t : State) → t ≡ state_at program_of s witness
+      → answer_line_bytes (answer_line 0 (codes "AT") (decimal number)) ++ ((answer_bytes (state_lines t) ++ answer_bytes (tree_lines trees t)) ++ steps_left_at (live_at program_of s witness))
+      ≡ answer_bytes (vertex_at keys s trees number witness)
+  vertex-bytes trees number t at =
+      let u : State = state_at program_of s witness in
+      let front : Bytes = answer_line_bytes (answer_line 0 (codes "AT") (decimal number)) in
+      ap (λ (x : State). front ++ ((answer_bytes (state_lines x) ++ answer_bytes (tree_lines trees x)) ++ steps_left_at (live_at program_of s witness))) at
+      ∙ ap (λ bs. front ++ bs)
+      (ap (λ bs. bs ++ steps_left_at (live_at program_of s witness)) (sym (flat_map-append answer_line_bytes (state_lines u) (tree_lines trees u)))
+      ∙ sym (flat_map-append answer_line_bytes (state_lines u ++ tree_lines trees u) (steps_at keys s witness (live_at program_of s witness))))
+
+-- ---- the whole output, as bytes
+
+module _ (observe : Observer Bytes) (limit : ℕ) (s : State) (trees : Bool) (visited : Visited) (some : 1 ≤ limit) (is : visited ≡ visited_from observe limit program_of s limit 0 (first_visited s)) where
+  abbrev bytes : Bytes
+  bytes = reported_from observe limit program_of s limit 0 (first_visited s)
+
+  found-visited : Finds observe program_of limit s bytes visited
+  found-visited = plan-found observe program_of limit s some visited is
+
+  pub graph-many : length visited.witnesses ≡ length visited.keys
+  graph-many = as-many observe limit s trees bytes visited found-visited
+
+  pub graph-bytes : answer_bytes (found_lines visited s trees) ≡ answer_bytes (graph_lines program_of limit trees s)
+  graph-bytes = ap answer_bytes (graph-are observe limit s trees bytes visited found-visited)
+
+  pub graph-complete : visited.complete ≡ is_complete program_of limit s
+  graph-complete = found-visited.keeps.complete

@@ -1,0 +1,22 @@
+-- Answers that stop: memory was refused before the text was written, or a write failed.
+use Rattle.std.proofs.Common.{◌≡◌, ◌∙◌, sym, subst, ap, Result, Err, refl}
+use Rattle.pv_model.specs.declared.stream.Sink.{Ghosts as Writing}
+use Rattle.pv_model.specs.Machine.{Bytes}
+use Rattle.pv_step_lines.specs.OfSession.Running.{FailsBy}
+use Rattle.pv_step_lines.specs.OfSession.declared.session.Stop.{Stop}
+use Rattle.pv_step_lines.specs.OfSession.declared.session.Stop.TheVariants.{Memory, Write}
+use Rattle.pv_streams.specs.Sinks.{Writes, WritesOr}
+use Rattle.pv_streams.proofs.SinkWrites.{written_nothing}
+
+module _ {W T : Type 0} (sink : Writing W) (text : Bytes) where
+  -- if there is no memory, nothing was written
+  pub unwritten : (out : W) (result : Result T Stop) (stop : Stop) → result ≡ Err stop → stop ≡ Memory → WritesOr sink FailsBy text out out result
+  unwritten out result stop is memory =
+      subst (λ (r : Result T Stop). WritesOr sink FailsBy text out out r) (sym (is ∙ ap (λ (s : Stop). Err s) memory))
+      (record { whole = tt; prefix = (0, sym (written_nothing text (sink.written out))); failed = refl; quiet = tt })
+
+  -- a write failed
+  pub unfinished : {U E : Type 0} (old new : W) (result : Result T Stop) (stop : Stop) (e : E) → result ≡ Err stop → stop ≡ Write → Writes {T = U} sink text old new (Err e) → WritesOr sink FailsBy text old new result
+  unfinished old new result stop e is failed writes =
+      subst (λ (r : Result T Stop). WritesOr sink FailsBy text old new r) (sym (is ∙ ap (λ (s : Stop). Err s) failed))
+      (record { whole = tt; prefix = writes.prefix; failed = writes.failed; quiet = tt })
