@@ -1,5 +1,5 @@
 //! Host directories that are imported as images, or to which images are exported.
-ghost use Rattle.std.specs.Prelude.{◌≡◌, ◌≢◌, ℕ, List, Option, Err, IfOk, IsSome};
+ghost use Rattle.std.specs.Prelude.{◌≡◌, ◌≢◌, ◌++◌, ◌∷◌, ℕ, List, [], Option, Err, IfOk, IsSome, OnErr, OnOk};
 ghost use Rattle.pv_cli_commands.specs.Created.{IsEmptied};
 ghost use Rattle.pv_host_copy.specs.Hosts.{HostEntries};
 
@@ -23,6 +23,9 @@ pub trait Directories {
     /// The name of the directory in which a tree is made.
     ghost target_of: { Self.Target → List ℕ };
 
+    /// The names of the directories that were returned for trees, in order.
+    ghost targets: { Self → List (List ℕ) };
+
     /// Opens the directory with a name. If its entries are known, this succeeds.
     ///
     /// # Errors
@@ -40,6 +43,9 @@ pub trait Directories {
     ///
     /// - `Make`, if the directory cannot be created, is not empty, or is not a directory.
     /// - `Memory`, if there is no memory.
-    fn create_directory(&self, alloc: Global, name: &str) -> Result<Self::Target, TargetFault>
-        ensures { IfOk result (IsEmptied target_of Self.Target.made name.now) };
+    fn create_directory(&mut self, alloc: Global, name: &str) -> Result<Self::Target, TargetFault>
+        ensures created { IfOk result (IsEmptied target_of Self.Target.made name.now) }
+        ensures logged { OnOk result (targets self.new ≡ targets self.old ++ name.now ∷ []) }
+        ensures unlogged { OnErr result (targets self.new ≡ targets self.old) }
+        ensures entries { entries self.new ≡ entries self.old };
 }

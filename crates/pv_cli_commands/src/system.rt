@@ -1,5 +1,5 @@
 //! The input and output of a command: named files and three streams.
-ghost use Rattle.std.specs.Prelude.{◌≡◌, ℕ, List, Option, None, IfOk, IsOk, IsSome};
+ghost use Rattle.std.specs.Prelude.{◌≡◌, ◌++◌, ◌∷◌, ℕ, List, [], Option, None, IfOk, IsOk, IsSome, OnErr, OnOk};
 ghost use Rattle.pv_cli_commands.specs.Created.{IsCreated};
 
 use pv_streams::{Failed, Sink, Source};
@@ -22,6 +22,9 @@ pub trait Files {
     /// The name of the file to which a writer writes.
     ghost file_of: { Self.Writer → List ℕ };
 
+    /// The names of the files for which writers were returned, in order.
+    ghost created: { Self → List (List ℕ) };
+
     /// Opens the file with a name for reading from its first byte. If its bytes are known, this succeeds.
     ///
     /// # Errors
@@ -37,8 +40,11 @@ pub trait Files {
     /// # Errors
     ///
     /// `AllocError`, if there is no memory for the name.
-    fn create(&self, alloc: Global, name: &str) -> Result<Self::Writer, AllocError>
-        ensures { IfOk result (IsCreated file_of Self.Writer.written name.now) };
+    fn create(&mut self, alloc: Global, name: &str) -> Result<Self::Writer, AllocError>
+        ensures created { IfOk result (IsCreated file_of Self.Writer.written name.now) }
+        ensures logged { OnOk result (created self.new ≡ created self.old ++ name.now ∷ []) }
+        ensures unlogged { OnErr result (created self.new ≡ created self.old) }
+        ensures bytes { bytes self.new ≡ bytes self.old };
 
     /// Returns the reason why the file with a name cannot be read, in the words of the operating system, or `None` if
     /// it can or the reason is not known. A file whose bytes are known can be read.

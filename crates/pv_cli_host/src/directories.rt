@@ -1,5 +1,5 @@
 //! Directories of the operating system, for import.
-ghost use Rattle.std.specs.Prelude.{◌≡◌, ◌<◌, ◌^◌, None, Some, length, option_map, vec_len, IfOk};
+ghost use Rattle.std.specs.Prelude.{◌≡◌, ◌<◌, ◌^◌, None, Some, length, map, option_map, vec_len, IfOk};
 ghost use Rattle.std.specs.String.{string_bytes};
 ghost use Rattle.pv_cli_host.specs.Bounds.{entry_bound, entries_within, levels_below};
 ghost use Rattle.pv_cli_commands.specs.OfHostCopy.Reporting.{left_below};
@@ -35,6 +35,8 @@ impl<'a> Directories for HostFiles<'a> {
 
     ghost entries = { λ _ _. None };
 
+    ghost targets = { λ files. map string_bytes files.targets.items };
+
     ghost target_of = { λ target. string_bytes target.name };
 
     fn open_directory(&self, alloc: Global, name: &str) -> Result<OpenedDirectory<'a>, HostFault> {
@@ -42,11 +44,20 @@ impl<'a> Directories for HostFiles<'a> {
     }
 
     fn create_directory(
-        &self,
+        &mut self,
         alloc: Global,
         name: &str,
     ) -> Result<MadeDirectory<'a>, TargetFault> {
-        MadeDirectory::create(self.runtime(), alloc, name)
+        let Ok(()) = self.push_target(alloc, name) else {
+            return Err(TargetFault::Memory);
+        };
+        match MadeDirectory::create(self.runtime(), alloc, name) {
+            Ok(target) => Ok(target),
+            Err(fault) => {
+                self.pop_target();
+                Err(fault)
+            }
+        }
     }
 }
 

@@ -4,11 +4,11 @@ use Rattle.pv_image_manifest.specs.Reading.{GivesManifest, RefusesManifest, mani
 use Rattle.pv_image_manifest.specs.declared.manifest.Manifest.{Manifest as ParsedManifest}
 use Rattle.pv_model.specs.declared.fault.ManifestFault.{ManifestFault}
 use Rattle.pv_model.specs.declared.fault.ManifestFault.TheVariants.{Form, Size, Parent, Exists, Source, Room, Memory}
-use Rattle.pv_model.specs.declared.run_fault.RunFault.{RunFault}
 use Rattle.pv_model.specs.Machine.{Bytes, and_then, read_bundle, read_manifest, tree_of, Tree}
-use Rattle.pv_model.specs.RunFault.{of_manifest}
-use Rattle.pv_run.specs.Run.{RefusesStart}
-use Rattle.pv_questions.specs.Trees.{GivesManifestOf, asked_manifest, tree_of_manifest_text, read_manifest_of}
+use Rattle.pv_questions.specs.Failures.{IsFailureOf, failure_of_manifest}
+use Rattle.pv_questions.specs.Trees.{GivesManifestOf, manifest_in, read_manifest_of, input_tree}
+use Rattle.pv_questions.specs.declared.failure.Failure.{Failure}
+use Rattle.pv_questions.specs.declared.input.Format.TheVariants.{Text}
 
 module _ (bytes : Bytes) where
   pub of_bundle : (m : ParsedManifest) (following : List Bytes) → read_bundle bytes ≡ Ok (manifest_before m following)
@@ -34,13 +34,13 @@ module _ (bytes : Bytes) where
   refused_bundle (Room n) other is = rw is refl
   refused_bundle Memory other is = tt
 
-  refused-no_manifest : (f : ManifestFault) → read_manifest_of bytes ≡ Err f → tree_of_manifest_text bytes ≡ Err (of_manifest f)
-  unfolding tree_of_manifest_text
+  refused-no_manifest : (f : ManifestFault) → read_manifest_of bytes ≡ Err f → input_tree Text bytes ≡ Err (failure_of_manifest f)
+  unfolding input_tree
   refused-no_manifest f is = rw is refl
 
   -- the error of a manifest is that of each text that it determines
-  refuses-start : {A : Type 0} (asked : Result A RunFault) (f : ManifestFault) → RefusesManifest f (read_manifest_of bytes)
-      → ((g : ManifestFault) → read_manifest_of bytes ≡ Err g → asked ≡ Err (of_manifest g)) → RefusesStart (of_manifest f) asked
+  refuses-start : {A : Type 0} (asked : Result A Failure) (f : ManifestFault) → RefusesManifest f (read_manifest_of bytes)
+      → ((g : ManifestFault) → read_manifest_of bytes ≡ Err g → asked ≡ Err (failure_of_manifest g)) → IsFailureOf asked (failure_of_manifest f)
   refuses-start asked (Form n) is by = by (Form n) is
   refuses-start asked Size is by = by Size is
   refuses-start asked (Parent n) is by = by (Parent n) is
@@ -50,23 +50,23 @@ module _ (bytes : Bytes) where
   refuses-start asked Memory is by = tt
 
   -- a manifest that is refused
-  pub refuses_manifest : (f : ManifestFault) → RefusesManifest f (read_manifest_of bytes) → RefusesStart (of_manifest f) (tree_of_manifest_text bytes)
-  refuses_manifest f is = refuses-start (tree_of_manifest_text bytes) f is refused-no_manifest
+  pub refuses_manifest : (f : ManifestFault) → RefusesManifest f (read_manifest_of bytes) → IsFailureOf (input_tree Text bytes) (failure_of_manifest f)
+  refuses_manifest f is = refuses-start (input_tree Text bytes) f is refused-no_manifest
 
-  pub refuses_read : (f : ManifestFault) → RefusesManifest f (read_manifest_of bytes) → RefusesStart (of_manifest f) (asked_manifest bytes)
-  refuses_read f is = refuses-start (asked_manifest bytes) f is (λ g none. ap (λ read. and_then of_manifest read (λ m. Ok m)) none)
+  pub refuses_read : (f : ManifestFault) → RefusesManifest f (read_manifest_of bytes) → IsFailureOf (manifest_in bytes) (failure_of_manifest f)
+  refuses_read f is = refuses-start (manifest_in bytes) f is (λ g none. ap (λ read. and_then failure_of_manifest read (λ m. Ok m)) none)
 
   module _ (m : ParsedManifest) (following : List Bytes) (read : read_manifest_of bytes ≡ Ok (manifest_before m following)) where
-    pub made : (t : Tree) → tree_of (manifest_before m []) ≡ Ok t → tree_of_manifest_text bytes ≡ Ok t
-    unfolding tree_of_manifest_text
+    pub made : (t : Tree) → tree_of (manifest_before m []) ≡ Ok t → input_tree Text bytes ≡ Ok t
+    unfolding input_tree
     made t is = rw (read, is) refl
 
-    refused-no_tree : (f : ManifestFault) → tree_of (manifest_before m []) ≡ Err f → tree_of_manifest_text bytes ≡ Err (of_manifest f)
-    unfolding tree_of_manifest_text
+    refused-no_tree : (f : ManifestFault) → tree_of (manifest_before m []) ≡ Err f → input_tree Text bytes ≡ Err (failure_of_manifest f)
+    unfolding input_tree
     refused-no_tree f is = rw (read, is) refl
 
     -- an entry that is refused
-    pub refuses_tree : (f : ManifestFault) → RefusesManifest f (tree_of (manifest_before m [])) → RefusesStart (of_manifest f) (tree_of_manifest_text bytes)
+    pub refuses_tree : (f : ManifestFault) → RefusesManifest f (tree_of (manifest_before m [])) → IsFailureOf (input_tree Text bytes) (failure_of_manifest f)
     refuses_tree (Form n) is = refused-no_tree (Form n) is
     refuses_tree Size is = refused-no_tree Size is
     refuses_tree (Parent n) is = refused-no_tree (Parent n) is
