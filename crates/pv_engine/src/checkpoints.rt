@@ -15,7 +15,7 @@ use std::marker::Model;
 const MOST_CHECKPOINTS: usize = 16;
 
 // The number of steps between two checkpoints, as long as schedules are short.
-const FIRST_STRIDE: usize = 8;
+const FIRST_STRIDE: usize = 4;
 
 /// Machines in states along the schedule that was followed last, from which another schedule with the same prefix is
 /// followed. A contract sees the state before the first step.
@@ -152,7 +152,7 @@ fn push_copy(
 fn makes_next(count: usize, stride: usize, left: usize) -> bool
     ensures { result ≡ true → stride ≤ left }
 {
-    count < MOST_CHECKPOINTS && left >= stride
+    count < MOST_CHECKPOINTS && left > stride
 }
 
 // Returns the machine at the end of a schedule, given checkpoints along it, and makes more checkpoints.

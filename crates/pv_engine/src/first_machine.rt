@@ -60,6 +60,15 @@ fn boot(alloc: Global, store: Store) -> Result<Session, StepFault>
     }
 }
 
+// Returns the store of the tree in a copy of an image.
+fn mounted_store(alloc: Global, image: &[u8]) -> Result<Store, StepFault>
+    requires { Boots image.now }
+    ensures { IfOk result (λ store. mounted image.now ≡ Ok store) }
+{
+    let image = Vec::from_slice(alloc, image)?;
+    store_of(alloc, image)
+}
+
 impl FirstMachine {
     /// Returns the machine before its first step on a tree.
     ///
@@ -75,6 +84,10 @@ impl FirstMachine {
     {
         images_mount();
         let Ok(image) = to_bytes(alloc, store.tree()) else {
+            return Err(BootFault::Memory);
+        };
+        // Other machines are copies of this one, and a tree that was mounted is quick to copy.
+        let Ok(store) = mounted_store(alloc, &image) else {
             return Err(BootFault::Memory);
         };
         let machine = Position::of_session(Session::new(alloc, store)?);
@@ -103,8 +116,7 @@ impl FirstMachine {
     pub(crate) fn rebuild(&self, alloc: Global) -> Result<Position, StepFault>
         ensures { IfOk result (λ position. position ≡ self.now) }
     {
-        let image = Vec::from_slice(alloc, self.image.as_slice())?;
-        let store = store_of(alloc, image)?;
+        let store = mounted_store(alloc, &self.image)?;
         store.invariant();
         Ok(Position::of_session(boot(alloc, store)?))
     }

@@ -1,15 +1,16 @@
 //! The form of the reduced search: it identifies states that are equal but for the numbers of open files and for dead
 //! variables.
-ghost use Rattle.std.specs.Prelude.{◌≡◌, ◌≢◌, ℕ, ◌∷◌, ◌++◌, [], map, IfOk, IfSome, IfNone, OnOk, None, Some};
+ghost use Rattle.std.specs.Prelude.{◌≡◌, ℕ, ◌∷◌, ◌++◌, [], map, IfOk, OnOk};
 ghost use Rattle.pv_laws_classes.specs.Canonical.{index_in};
 ghost use Rattle.pv_model.specs.Machine.{Numbered, OpenFile, State};
-ghost use Rattle.pv_reduced.specs.Forms.{AreEntriesOf, HasEntries, HasOrderOf, HasShapesAt, IsStoredWord, KnowsReduced, entries_in, file_groups, known_at, shape_groups};
+ghost use Rattle.pv_reduced.specs.Forms.{AreEntriesOf, HasEntries, HasOrderOf, HasShapesAt, IsStoredWord, KnowsReduced, entries_in, file_groups, shape_groups};
 ghost use Rattle.pv_reduced.specs.Keys.{with_references};
 ghost use Rattle.pv_rows.specs.Rows.{AreAppended};
 ghost use Rattle.pv_rows.specs.Tables.{Grew, IsNumberOf, word_of};
 ghost use Rattle.pv_state_encoding.specs.Encoded.{counts_group, encoded_record, files_group, plain};
 ghost use Rattle.pv_state_encoding.specs.Packed.{IsAdded};
 
+use crate::known::{put, value_at};
 use crate::live_tables::LiveTables;
 use crate::order::{index_in, push_reference};
 use crate::shapes::{Shape, entries_of, shape_of};
@@ -33,29 +34,6 @@ pub(crate) struct Reduced {
     // The open files of a state in the order of their first reference, and their indices.
     order: Vec<usize>,
     indices: Vec<u8>,
-}
-
-// Stores a value at a place of a list of optional values, and appends places first if need be.
-fn put<X: Drop>(all: &mut Vec<Option<X>>, place: usize, value: X) -> Result<(), AllocError>
-    ensures there { OnOk result (known_at all.new.items place ≡ Some value) }
-    ensures others { (k : ℕ) → k ≢ place → known_at all.new.items k ≡ known_at all.old.items k }
-{
-    while all.len() <= place {
-        all.push(None)?;
-    }
-    all[place] = Some(value);
-    Ok(())
-}
-
-// Returns the value at a place of a list of optional values, if there is one.
-fn value_at<X>(all: &[Option<X>], place: u32) -> Option<&X>
-    ensures some { IfSome result (λ value. known_at all.now place ≡ Some value.now) }
-    ensures none { IfNone result (known_at all.now place ≡ None) }
-{
-    match all.get(place as usize) {
-        Some(Some(value)) => Some(value),
-        _ => None,
-    }
 }
 
 // Appends the open files of a shape to an order, if they are new, and their indices to a part.
@@ -123,7 +101,14 @@ impl Reduced {
         if pid == 0 || value_at(&self.shapes, word).is_some() || !state.processes().live(pid) {
             return Ok(());
         }
-        let shape = shape_of(alloc, tables, &mut self.tables, state.processes(), pid)?;
+        let shape = shape_of(
+            alloc,
+            tables,
+            &mut self.tables,
+            word,
+            state.processes(),
+            pid,
+        )?;
         put(&mut self.shapes, word as usize, shape)
     }
 

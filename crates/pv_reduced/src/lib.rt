@@ -13,6 +13,7 @@
 mod explore;
 mod form;
 mod kind;
+mod known;
 mod live_tables;
 mod liveness;
 mod order;

@@ -22,10 +22,12 @@ use pv_model::limits::{BUFFER, DESCRIPTORS, OPEN_FILES, REGISTERS};
 use pv_script::CallTexts;
 use pv_state_encoding::procs::{Fetched, ProcessRecord, Processes};
 use pv_state_encoding::{
-    push_bool, push_file, push_items, push_number, push_program, push_promises, push_registers,
-    push_table,
+    push_bool, push_file, push_items, push_number, push_promises, push_registers, push_table,
 };
 use std::alloc::{AllocError, Global};
+
+// The place of the program among the parts of a live process.
+const PROGRAM: usize = 1;
 
 // ---- variables
 
@@ -218,7 +220,8 @@ fn push_live(
     push_held(part, owned, registers, order, parent)
 }
 
-/// Returns the shape of a live process, and stores its parts and its group first if they are new.
+/// Returns the shape of a live process, and stores its parts and its group first if they are new. `group` is the number of
+/// the group of the process.
 ///
 /// # Errors
 ///
@@ -227,6 +230,7 @@ pub(crate) fn shape_of(
     alloc: Global,
     tables: &mut Tables,
     lively: &mut LiveTables,
+    group: u32,
     processes: &Processes,
     pid: u32,
 ) -> Result<Shape, AllocError>
@@ -239,20 +243,14 @@ pub(crate) fn shape_of(
     };
     let owned = processes.record(pid);
     let files = files_of(alloc, &owned.descriptors)?;
-    let mut program = Vec::new(alloc);
-    push_program(&mut program, processes.program(pid))?;
-    let live = lively.live_line(
-        alloc,
-        &program,
-        processes.program(pid),
-        owned.context.line(),
-    )?;
+    let program = tables.part_of(group, PROGRAM);
+    let live = lively.live_line(alloc, program, processes.program(pid), owned.context.line())?;
     let registers = live_registers(&owned.context.registers(), live);
     let mut part = Vec::new(alloc);
     push_live(&mut part, pid, owned, &registers, &files, parent)?;
     tables.begin(0, 0)?;
     tables.push_part(alloc, &part)?;
-    tables.push_part(alloc, &program)?;
+    tables.put_part(program)?;
     part.clear();
     push_buffer(&mut part, owned.context.buffer(), live)?;
     tables.push_part(alloc, &part)?;

@@ -80,7 +80,8 @@ impl Tables {
         self.end(alloc)
     }
 
-    /// Begins the group of a live process, and appends its first part, which has neither its program nor its buffer.
+    /// Begins the group of a live process with this outside view, and appends its first part, which has neither its program
+    /// nor its buffer.
     ///
     /// # Errors
     ///
@@ -90,12 +91,13 @@ impl Tables {
         alloc: Global,
         processes: &Processes,
         pid: u32,
+        outside: u32,
     ) -> Result<(), AllocError>
-        requires { IsSome (process_in processes.now pid) }
+        requires live { IsSome (process_in processes.now pid) }
+        requires outside { IfSome (process_in processes.now pid) (λ p. IsNumberOf self.old.stored (plain (process_parts pid (outside_of p))) outside) }
         ensures grew { Grew self.old.stored self.new.stored }
         ensures begun { OnOk result (IfSome (process_in processes.now pid) (λ p. HasBegun self.new pid p)) }
     {
-        let outside = self.outside_view(alloc, processes, pid)?;
         let Some(parent) = processes.parent_of(pid) else {
             unreachable!()
         };
@@ -115,7 +117,8 @@ impl Tables {
         ensures grew { Grew self.old.stored self.new.stored }
         ensures number { IfOk result (IsNumberOf self.new.stored (live_encoded pid (process_in processes.now pid))) }
     {
-        self.begin_live(alloc, processes, pid)?;
+        let outside = self.outside_view(alloc, processes, pid)?;
+        self.begin_live(alloc, processes, pid, outside)?;
         push_program(&mut self.part, processes.program(pid))?;
         self.end_part(alloc)?;
         push_bytes(&mut self.part, processes.record(pid).context.buffer())?;
@@ -191,10 +194,8 @@ impl Tables {
         ensures row { self.new.row ≡ self.old.row }
         ensures part { OnOk result (self.new.part ≡ self.old.part ++ replicate count 0) }
     {
-        for _ in 0..count {
-            self.part.push(0)?;
-        }
-        Ok(())
+        let end = self.part.len() + usize::from(count);
+        self.part.resize(end, 0)
     }
 
     /// Returns the number of the group of a tree, and stores it first if it is new. A part ends with a node in use, and

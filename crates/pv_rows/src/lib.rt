@@ -14,6 +14,7 @@ pub mod keys;
 pub mod rows;
 pub mod steps;
 pub mod tables;
+mod touching;
 pub mod words;
 
 pub use keys::Keys;

@@ -1,21 +1,25 @@
 //! The row of a state, and the row of the state after a step.
 ghost use Rattle.std.specs.Prelude.{◌≡◌, ◌<◌, ◌≤◌, ◌-◌, ℕ, true, List, [], ◌∷◌, ◌++◌, length, map, replicate, option_map, IsSome, IfOk, IfSome, OnOk};
 ghost use Rattle.std.specs.FinMap.Entries.{find};
+ghost use Rattle.std.specs.Option.{option_copied};
 ghost use Rattle.std.specs.Ordering.{nat_cmp};
 ghost use Rattle.pv_model.specs.Machine.{next, at_number, process_at, Tree as Image};
 ghost use Rattle.pv_rows.specs.Building.{AreCompared, buffer_part, counts_of, loads, node_part, program_part};
 ghost use Rattle.pv_rows.specs.Rows.{AreAppended, IsKept, IsRowOf, IsStepOf, IsWordOf};
 ghost use Rattle.pv_rows.specs.Tables.{Grew, IsNumberOf, IsPart};
-ghost use Rattle.pv_state_encoding.specs.Encoded.{counts_group, encoded_record, files_group, live_encoded, numbered_encoded, plain, tree_group};
+ghost use Rattle.pv_rows.specs.Touching.{next_instruction};
+ghost use Rattle.pv_state_encoding.specs.Encoded.{counts_group, encoded_record, files_group, live_encoded, numbered_encoded, outside, plain, tree_group};
+ghost use Rattle.pv_state_encoding.specs.Groups.{process_parts};
 ghost use Rattle.pv_state_encoding.specs.OfProcs.ProcessTable.{process_in};
 ghost use Rattle.pv_state_encoding.specs.OfTree.Sizes.{HaveSameSizes};
 
 use crate::tables::Tables;
+use crate::touching::{changes_buffer, changes_outside, changes_tree};
 use pv_model::Instruction;
 use pv_state_encoding::calls_state::Parts;
 use pv_state_encoding::procs::Processes;
 use pv_state_encoding::tree::Tree;
-use pv_state_encoding::{are_same_files, count, is_same_node, push_bytes, push_program, push_used};
+use pv_state_encoding::{count, push_bytes, push_program, push_used};
 use std::alloc::{AllocError, Global};
 
 // The places of the program and of the buffer among the parts of a live process.
@@ -98,16 +102,23 @@ pub struct StepOf<'a> {
     pub after: &'a Parts,
 }
 
-// Returns whether the next instruction of a live process is execve(2).
-fn is_execve(processes: &Processes, pid: u32) -> bool
+// Returns the next instruction of a live process, or `None` past its last line.
+fn next_of(processes: &Processes, pid: u32) -> Option<&Instruction>
     requires { IsSome (process_in processes.now pid) }
-    ensures { IfSome (process_in processes.now pid) (λ p. result ≡ loads (next p)) }
+    ensures { IfSome (process_in processes.now pid) (λ p. option_copied result ≡ next_instruction p) }
 {
     let line = processes.record(pid).context.line();
-    matches!(
-        processes.program(pid).at(line),
-        Some(Instruction::Execve(_))
-    )
+    processes.program(pid).at(line)
+}
+
+// Returns whether a step may change the tree.
+fn may_change_tree(step: StepOf<'_>) -> bool
+    ensures { result ≡ false → step.after.now.tree ≡ step.before.now.tree }
+{
+    let before = step.before.processes();
+    !before.live(step.pid)
+        || !step.after.processes().live(step.pid)
+        || changes_tree(next_of(before, step.pid))
 }
 
 // Returns whether two states have the same last process number and number of processes.
@@ -164,7 +175,8 @@ impl Tables {
         ensures grew { Grew self.old.stored self.new.stored }
         ensures row { OnOk result (IfSome (process_at step.after.now step.pid) (λ q. IsPart self.new.stored (program_part q) self.old.row self.new.row)) }
     {
-        if !is_execve(step.before.processes(), step.pid) {
+        let next = next_of(step.before.processes(), step.pid);
+        if !matches!(next, Some(Instruction::Execve(_))) {
             let program = self.part_of(old, PROGRAM);
             return self.put_part(program);
         }
@@ -187,13 +199,33 @@ impl Tables {
         ensures row { OnOk result (IfSome (process_at step.after.now step.pid) (λ q. IsPart self.new.stored (buffer_part q) self.old.row self.new.row)) }
     {
         let after = step.after.processes();
-        if has_same_buffer(step.before.processes(), after, step.pid) {
+        let before = step.before.processes();
+        if !changes_buffer(next_of(before, step.pid)) || has_same_buffer(before, after, step.pid) {
             let buffer = self.part_of(old, BUFFER);
             return self.put_part(buffer);
         }
         self.part.clear();
         push_bytes(&mut self.part, after.record(step.pid).context.buffer())?;
         self.end_part(alloc)
+    }
+
+    // Returns the number of the outside view of the process that made a step and is live before and after it. `old` is its
+    // word before it.
+    fn outside_after(
+        &mut self,
+        alloc: Global,
+        step: StepOf<'_>,
+        old: u32,
+    ) -> Result<u32, AllocError>
+        requires step { IsStepOf self.old.stored step × IsSome (process_at step.after.now step.pid) }
+        requires old { IsNumberOf self.old.stored (live_encoded step.pid (process_at step.before.now step.pid)) old }
+        ensures grew { Grew self.old.stored self.new.stored }
+        ensures number { IfOk result (λ number. IfSome (process_at step.after.now step.pid) (λ p. IsNumberOf self.new.stored (plain (process_parts step.pid (outside p))) number)) }
+    {
+        if !changes_outside(next_of(step.before.processes(), step.pid)) {
+            return Ok(self.outside(old));
+        }
+        self.outside_view(alloc, step.after.processes(), step.pid)
     }
 
     // Returns the word of the process that made a step and is live before and after it. `old` is its word before it.
@@ -203,7 +235,8 @@ impl Tables {
         ensures grew { Grew self.old.stored self.new.stored }
         ensures number { IfOk result (IsNumberOf self.new.stored (live_encoded step.pid (process_at step.after.now step.pid))) }
     {
-        self.begin_live(alloc, step.after.processes(), step.pid)?;
+        let outside = self.outside_after(alloc, step, old)?;
+        self.begin_live(alloc, step.after.processes(), step.pid, outside)?;
         self.push_program_after(alloc, step, old)?;
         self.push_buffer_after(alloc, step, old)?;
         self.end(alloc)
@@ -261,7 +294,7 @@ impl Tables {
         ensures number { IfOk result (IsNumberOf self.new.stored (plain (files_group step.after.now))) }
     {
         let after = step.after.files();
-        if are_same_files(step.before.files(), after) {
+        if after.is_same(step.before.files()) {
             return Ok(old);
         }
         self.files(alloc, after)
@@ -290,7 +323,11 @@ impl Tables {
         self.push_processes_after(alloc, step, row)?;
         let files = self.files_after(alloc, step, files)?;
         row.push(files)?;
-        let tree = self.tree_after(alloc, step.before.tree(), step.after.tree(), tree)?;
+        let tree = if may_change_tree(step) {
+            self.tree_after(alloc, step.before.tree(), step.after.tree(), tree)?
+        } else {
+            tree
+        };
         row.push(tree)?;
         Ok(())
     }
@@ -333,7 +370,10 @@ impl Tables {
         ensures grew { Grew self.old.stored self.new.stored }
         ensures row { OnOk result (IsPart self.new.stored (node_part after.now.tree compared.after node) self.old.row self.new.row) }
     {
-        if compared.before == compared.after && is_same_node(before, after, node) {
+        if compared.before == compared.after
+            && before.is_used(node)
+            && after.is_same(before, node)
+        {
             let part = self.part_of(old, compared.parts);
             return self.put_part(part);
         }
@@ -386,7 +426,7 @@ impl Tables {
         self.begin(0, 0)?;
         let sizes = self.part_of(old, 0);
         self.put_part(sizes)?;
-        for node in 0..end {
+        for node in 0..before.bound().max(after.bound()) + 1 {
             if after.is_used(node) {
                 self.push_node_after(alloc, before, after, old, compared, node)?;
                 compared.after = node + 1;

@@ -99,10 +99,11 @@ impl Tables {
     fn seen_word(&self, word: u32, pid: u32) -> u32
         ensures { result ≡ seen_word self.now.stored pid word }
     {
-        if self.owner(word) == pid {
+        let (owner, outside) = self.head(word);
+        if owner == 0 || owner == pid {
             word
         } else {
-            self.outside(word)
+            outside
         }
     }
 

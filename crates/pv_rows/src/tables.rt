@@ -7,10 +7,8 @@ use crate::words::Rows;
 use std::alloc::{AllocError, Global};
 use std::marker::Model;
 
-// The places of the owner, of the outside view and of the first part in the row of a group.
+// The places of the owner and of the first part in the row of a group. The outside view is between them.
 const OWNER: usize = 0;
-
-const OUTSIDE: usize = 1;
 
 const PARTS: usize = 2;
 
@@ -153,6 +151,20 @@ impl Tables {
 
     // ---- stored groups
 
+    /// Returns the owner of a group, or 0, and the number of its outside view, or 0.
+    pub(crate) fn head(&self, group: u32) -> (u32, u32)
+        ensures owner { result.0 ≡ word_at self.now.stored group 0 }
+        ensures outside { result.1 ≡ word_at self.now.stored group 1 }
+    {
+        let Some(row) = self.groups.at(group as usize) else {
+            return (0, 0);
+        };
+        match row {
+            [owner, outside, ..] => (*owner, *outside),
+            _ => (0, 0),
+        }
+    }
+
     // Returns the word at a place of a stored group, or 0.
     fn word_at(&self, group: u32, place: usize) -> u32
         ensures { result ≡ word_at self.now.stored group place }
@@ -175,10 +187,8 @@ impl Tables {
     pub fn outside(&self, group: u32) -> u32
         ensures { result ≡ outside_of self.now.stored group }
     {
-        if self.owner(group) == 0 {
-            return group;
-        }
-        self.word_at(group, OUTSIDE)
+        let (owner, outside) = self.head(group);
+        if owner == 0 { group } else { outside }
     }
 
     /// Returns the number of a part of a stored group, or 0.

@@ -1,5 +1,5 @@
 //! Open files.
-ghost use Rattle.std.specs.Prelude.{◌++◌, flat_map, IsSome, OnOk};
+ghost use Rattle.std.specs.Prelude.{◌≤◌, ◌++◌, flat_map, replicate, IsSome, OnOk};
 ghost use Rattle.pv_model.specs.declared.limits.TheConstants.{OPEN_FILES};
 ghost use Rattle.pv_model.specs.Machine.{bytes_numbers, file_numbers, list_numbers, option_numbers, at_number};
 ghost use Rattle.pv_state_encoding.specs.Packed.{IsAdded};
@@ -54,16 +54,27 @@ pub fn push_file(key: &mut Vec<u8>, files: &OpenFiles, file: usize) -> Result<()
     push_opened(key, files, file)
 }
 
+// Appends zeros, at most as many as there are numbers of open files.
+fn push_zeros(key: &mut Vec<u8>, count: usize) -> Result<(), AllocError>
+    requires { count ≤ OPEN_FILES }
+    ensures { OnOk result (IsAdded (replicate count 0) key.old.items key.new.items) }
+{
+    let zeros: [u8; OPEN_FILES] = [0; OPEN_FILES];
+    key.extend_from_slice(&zeros[..count])?;
+    Ok(())
+}
+
 // Appends open files, by their numbers.
 #[tactic(auto, using(crate::proofs::Numbering::added_at, crate::proofs::Adding::added_none, crate::proofs::Adding::added_list))]
 fn push_each_file(key: &mut Vec<u8>, files: &OpenFiles) -> Result<(), AllocError>
     ensures { OnOk result (IsAdded (flat_map (option_numbers file_numbers) files.now.files) key.old.items key.new.items) }
 {
     files.invariant();
-    for file in 0..OPEN_FILES {
+    let bound = files.bound();
+    for file in 0..bound {
         push_file(key, files, file)?;
     }
-    Ok(())
+    push_zeros(key, OPEN_FILES - bound)
 }
 
 /// Appends all open files.

@@ -2,8 +2,8 @@
 //!
 //! A state is encoded as groups of parts, and a part as a byte string: `specs/Groups` has the parts, and `specs/Encoded`
 //! pairs the group of each process with its owner and its outside view (`outsides`), the part of the process on which the
-//! steps of other processes depend. `processes`, `instructions`, `files` and `trees` encode parts, and `same` compares
-//! open files and nodes of two states. `numbers` encodes numbers, in one byte each if they are below 128.
+//! steps of other processes depend. `processes`, `instructions`, `files` and `trees` encode parts. `numbers` encodes
+//! numbers, in one byte each if they are below 128.
 #![tactic(auto)]
 
 mod files;
@@ -11,7 +11,6 @@ mod instructions;
 mod numbers;
 mod outsides;
 mod processes;
-mod same;
 mod trees;
 
 pub use files::{push_file, push_files};
@@ -23,5 +22,4 @@ pub use processes::{
 pub use pv_answers as answers;
 pub use pv_answers::{calls_state, files as open_files, procs};
 pub use pv_image_write::tree;
-pub use same::{are_same_files, is_same_node};
 pub use trees::{push_sizes, push_used};

@@ -1,15 +1,19 @@
 //! Trees.
-ghost use Rattle.std.specs.Prelude.{◌≡◌, ◌∷◌, ◌++◌, [], false, flat_map, length, option_map, IsSome, IsTrue, IfSome, Some, OnOk};
+ghost use Rattle.std.specs.Option.{option_copied};
+ghost use Rattle.std.specs.Prelude.{◌≡◌, ◌∷◌, ◌++◌, [], false, drop, flat_map, length, option_map, IsSome, IsTrue, IfSome, Some, OnOk};
 ghost use Rattle.pv_image_write.specs.OfDirs.Trees.{bytes_at};
 ghost use Rattle.pv_model.specs.Machine.{bytes_numbers, number_numbers, option_numbers, next_name, node_at, entries_at, find_entry, is_directory_at};
 ghost use Rattle.pv_model.specs.Answers.Numbers.{name_numbers, node_numbers, version_numbers};
 ghost use Rattle.pv_state_encoding.specs.Packed.{IsAdded};
-ghost use Rattle.pv_state_encoding.specs.Parts.{if_there};
+ghost use Rattle.pv_state_encoding.specs.Parts.{if_there, name_before};
 
 use crate::numbers::{push_bool, push_bytes, push_items, push_number};
 use pv_image_write::tree::Tree;
 use pv_model::{Kind, Name, Version};
 use std::alloc::AllocError;
+
+// The number of entries up to which each name is found by comparing all.
+const FEW: u32 = 32;
 
 /// Returns the name of a directory that follows the last one, with its node. `before` is a guess of the number of names
 /// before it.
@@ -31,25 +35,57 @@ pub(crate) fn next(
 
 // Appends a name with its node.
 #[tactic(auto, using(crate::proofs::Adding::added_both))]
-fn push_entry(key: &mut Vec<u8>, name: &Name, node: u16) -> Result<(), AllocError>
+fn push_entry(key: &mut Vec<u8>, name: &[u8], node: u16) -> Result<(), AllocError>
     ensures { OnOk result (IsAdded (name_numbers (name.now, node)) key.old.items key.new.items) }
 {
-    push_bytes(key, name.as_slice())?;
+    push_bytes(key, name)?;
     push_number(key, u64::from(node))
 }
 
-// Appends the entries of a directory, in the order of their names.
+// Appends the entries of a directory from a number on, in the order of their names. `last` is the name before them, if
+// there is one.
+fn push_entries_from(
+    key: &mut Vec<u8>,
+    tree: &Tree,
+    directory: u16,
+    from: u32,
+    last: Option<&[u8]>,
+) -> Result<(), AllocError>
+    requires directory { IsTrue (is_directory_at tree.now.tree directory) }
+    requires last { option_copied last ≡ name_before from (entries_at tree.now.tree directory) }
+    ensures { OnOk result (IsAdded (flat_map name_numbers (drop from (entries_at tree.now.tree directory))) key.old.items key.new.items) }
+{
+    tree.invariant();
+    let mut last = match last {
+        Some(name) => Name::new(name),
+        None => None,
+    };
+    for entry in from..tree.size(directory) {
+        let Some((name, node)) = next(tree, directory, &last, entry) else {
+            unreachable!()
+        };
+        push_entry(key, name.as_slice(), node)?;
+        last = Some(name);
+    }
+    Ok(())
+}
+
+// Appends the entries of a directory, in the order of their names. In a small directory, names are read in place.
 fn push_each_entry(key: &mut Vec<u8>, tree: &Tree, directory: u16) -> Result<(), AllocError>
     requires { IsTrue (is_directory_at tree.now.tree directory) }
     ensures { OnOk result (IsAdded (flat_map name_numbers (entries_at tree.now.tree directory)) key.old.items key.new.items) }
 {
     tree.invariant();
-    let mut last: Option<Name> = None;
-    for entry in 0..tree.size(directory) {
-        let Some((name, node)) = next(tree, directory, &last, entry) else {
-            unreachable!()
+    let size = tree.size(directory);
+    if size > FEW {
+        return push_entries_from(key, tree, directory, 0, None);
+    }
+    let mut last: Option<&[u8]> = None;
+    for entry in 0..size {
+        let Some((name, node)) = tree.lent_after(directory, last) else {
+            return push_entries_from(key, tree, directory, entry, last);
         };
-        push_entry(key, &name, node)?;
+        push_entry(key, name, node)?;
         last = Some(name);
     }
     Ok(())
