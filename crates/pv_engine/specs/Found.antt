@@ -1,5 +1,5 @@
 -- The visited states of a search, as stored.
-use Rattle.std.specs.Prelude.{◌≡◌, ℕ, ◌<◌, ◌≤◌, false, List, [], ◌∷◌, ◌++◌, length, map, bytes_eq, position, slice_get, Some}
+use Rattle.std.specs.Prelude.{◌≡◌, ℕ, ◌<◌, ◌≤◌, false, List, [], ◌∷◌, ◌++◌, length, bytes_eq, position, slice_get, Some}
 use Rattle.std.specs.Global.{Vec}
 use Rattle.std.specs.List.{list_any}
 use Rattle.pv_engine.specs.Witnesses.{longer}
@@ -9,7 +9,7 @@ use Rattle.pv_engine.specs.declared.found.Visit.{Visit}
 use Rattle.pv_engine.specs.declared.found.Visit.TheVariants.{Known, Full, New}
 
 abbrev pub rows_of : FoundStates → List (List ℕ)
-rows_of f = map (λ r. r.items) f.rows.items
+rows_of f = f.rows
 
 -- the rows, the bounds, the keys and the witnesses of the visited states
 pub record AreFound (f : FoundStates) (rows : List (List ℕ)) (bounds : List ℕ) (keys : List (List ℕ)) (witnesses : List (List ℕ)) : Type 0 where

@@ -109,7 +109,9 @@ fn shared(alloc: Global, texts: Vec<Vec<u8>>) -> Result<Rc<Vec<Vec<u8>>>, AllocE
 }
 
 impl<'a, O: Observer + Drop, F: Form + Drop> Engine<'a, O, F> {
-    ghost use Rattle.std.specs.Prelude.{◌<◌, length, IfSome};
+    ghost use Rattle.std.specs.Prelude.{◌<◌, [], get_or, length, IfSome};
+    ghost use Rattle.pv_engine.specs.Found.{rows_of};
+    ghost use Rattle.pv_rows.specs.Tables.{owner_of};
     ghost use Rattle.pv_engine.specs.Engines.{AreReported, HasKey, HasMoved, HasMovedAll, HasTaken, IsMadeFrom, IsNext, IsVisited, data_of, key_after, live_of, state_of, text_of_move, text_of_moves};
     ghost use Rattle.pv_engine.specs.Plan.{first_visited, reported_from, visited_from};
     ghost use Rattle.pv_model.specs.Machine.{program_of};
@@ -423,6 +425,17 @@ impl<'a, O: Observer + Drop, F: Form + Drop> Engine<'a, O, F> {
         Ok(())
     }
 
+    // Returns the live process at a place of the row of state `number`, or 0.
+    fn owner_at(&self, number: u32, place: usize) -> u32
+        requires { number < length self.now.found.witnesses }
+        ensures { result ≡ owner_of self.now.tables.stored (get_or (get_or (rows_of self.now.found) number []) place 0) }
+    {
+        match self.found.row(number).get(place) {
+            Some(word) => self.tables.owner(*word),
+            None => 0,
+        }
+    }
+
     // Takes a step of each process that may make one in state `number`.
     fn make_moves<W: Sink>(
         &mut self,
@@ -436,11 +449,11 @@ impl<'a, O: Observer + Drop, F: Form + Drop> Engine<'a, O, F> {
         ensures written { WritesOr W.Sink FailsBy (text_of_moves O.observe F.key F.bound limit number (data_of F.key self.old)) out.old out.new result }
     {
         let bound = self.found.bound(number);
-        let pids = self.live(alloc, number)?;
-        let live = pids.as_slice();
-        for pid in live {
-            if may_step(bound, *pid) {
-                self.make_move(alloc, limit, number, *pid, out)?;
+        let places = self.found.row(number).len();
+        for place in 0..places {
+            let pid = self.owner_at(number, place);
+            if pid != 0 && may_step(bound, pid) {
+                self.make_move(alloc, limit, number, pid, out)?;
             }
         }
         Ok(())

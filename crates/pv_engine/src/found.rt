@@ -6,14 +6,14 @@ ghost use Rattle.pv_engine.specs.Witnesses.{longer};
 
 use crate::witnesses::Witnesses;
 use pv_model::StepFault;
-use pv_rows::Rows;
+use pv_rows::{RowList, Rows};
 use std::alloc::{AllocError, Global};
 
 /// The visited states, in the order in which they were visited.
 #[derive(Drop)]
 pub(crate) struct FoundStates {
     // The row of each state.
-    rows: Vec<Vec<u32>>,
+    rows: RowList,
     // The process that must make the next step in each state, or 0.
     bounds: Vec<u32>,
     // The key of each state.
@@ -50,8 +50,8 @@ impl FoundStates {
     pub(crate) fn new(alloc: Global, first: Candidate<'_>) -> Result<FoundStates, AllocError>
         ensures { IfOk result (λ found. AreFound found (first.row.now ∷ []) (first.bound ∷ []) (first.key.now ∷ []) ([] ∷ [])) }
     {
-        let mut rows = Vec::new(alloc);
-        rows.push(Vec::from_slice(alloc, first.row)?)?;
+        let mut rows = RowList::new(alloc);
+        rows.push(first.row)?;
         let mut bounds = Vec::new(alloc);
         bounds.push(first.bound)?;
         let mut keys = Rows::new(alloc);
@@ -66,17 +66,17 @@ impl FoundStates {
 
     /// Returns the number of states.
     pub(crate) fn len(&self) -> u32
-        ensures { result ≡ length self.now.rows.items }
+        ensures { result ≡ length self.now.rows }
     {
         self.rows.len() as u32
     }
 
     /// Returns the row of state `number`.
     pub(crate) fn row(&self, number: u32) -> &[u32]
-        requires { number < length self.now.rows.items }
+        requires { number < length self.now.rows }
         ensures { HasRow self.now number result.now }
     {
-        self.rows[number as usize].as_slice()
+        self.rows.at(number as usize)
     }
 
     /// Returns the process that must make the next step in state `number`, or 0.
@@ -124,13 +124,19 @@ impl FoundStates {
         ensures pushed { OnOk result (IsPushed self.old self.new from pid state) }
         ensures unchanged { OnErr result (self.new ≡ self.old) }
     {
-        let row = Vec::from_slice(alloc, state.row)?;
-        self.rows.reserve(1)?;
         self.bounds.reserve(1)?;
-        self.push_key(alloc, from, pid, state.key)?;
-        self.rows.push_reserved(row);
-        self.bounds.push_reserved(state.bound);
-        Ok(())
+        let count = self.rows.len();
+        self.rows.push(state.row)?;
+        match self.push_key(alloc, from, pid, state.key) {
+            Ok(()) => {
+                self.bounds.push_reserved(state.bound);
+                Ok(())
+            }
+            Err(error) => {
+                self.rows.truncate(count);
+                Err(error)
+            }
+        }
     }
 
     /// Visits a state after a step of a process in state `from`. The state is added if it is new and there are fewer than

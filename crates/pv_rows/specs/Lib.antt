@@ -7,3 +7,4 @@ pub mod Cached
 pub use Rattle.pv_laws_steps.specs as OfLawsSteps
 pub use Rattle.pv_state_encoding.specs as OfStateEncoding
 pub mod Touching
+pub mod RowLists

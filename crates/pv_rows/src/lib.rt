@@ -11,6 +11,7 @@
 
 pub mod groups;
 pub mod keys;
+pub mod row_list;
 pub mod rows;
 pub mod steps;
 pub mod tables;
@@ -20,6 +21,7 @@ pub mod words;
 pub use keys::Keys;
 pub use pv_state_encoding as state_encoding;
 pub use pv_state_encoding::tree;
+pub use row_list::RowList;
 pub use steps::{CachedStep, CachedSteps, Edit, edited_row};
 pub use tables::Tables;
 pub use words::Rows;
