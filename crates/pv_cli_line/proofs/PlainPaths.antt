@@ -37,7 +37,7 @@ pub faulty_found : (paths : List (Option (Bor Bytes))) (i : ℕ) (path : Option 
 faulty_found paths i None at faulty = cc faulty
 faulty_found paths i (Some path) at faulty = (is_among paths i path at, from_not (is_plain_path path.now) faulty)
 
--- there is none
+-- if the first path is plain and so are the others, all are plain
 plain_first : (plain some all : Bool) → (not plain || some) ≡ false → (some ≡ false → all ≡ true) → (plain && all) ≡ true
 plain_first true some all none rest = rest none
 plain_first false some all none rest = cc none

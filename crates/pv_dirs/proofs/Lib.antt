@@ -8,7 +8,7 @@
 -- - passes over slots: SlotScans (for the next name), NamedInodes (for one that names a node), EntryCounts (of entries)
 -- - trees: FileTrees, TreeViews (statements about the tree as statements about files), MappedNumbers, EntryAddition,
 --   EntryRemoval, SlotExchange, FileContents, EmptyTrees, CallResults, ImageTrees (the tree of an image)
--- - the index: IndexedEntries (the entries to which it leads), ChangedIndex (the index after a change)
+-- - the index: IndexedEntries (the entries that it finds), ChangedIndex (the index after a change)
 pub mod EntryAddition
 pub mod AscendingNames
 pub mod CommonPrefixes

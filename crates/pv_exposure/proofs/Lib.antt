@@ -1,5 +1,5 @@
 -- Lemmas about exposure: FirstKeys (elements with new keys), ProgramRecords (the records of programs are their groups),
--- RecordedFindings (the lines of findings of which only the first of each line and file text is stored), SearchText
+-- RecordedFindings (the lines of findings: the first of each line and file text is stored), SearchText
 -- (the lines of a search), FindingAddition (one more file, process and state).
 pub mod FirstKeys
 pub mod ProgramRecords

@@ -36,7 +36,7 @@ module _ (files : List Bytes) (first : Tree) (l : Located) where
         safe = e.safe;
       })
 
-  -- the record after all files of the state, and the files to which every process is closed
+  -- the record after all files of the state, and the files that every process is closed to
   pub files-more : (e : Exposed) (safe : List ℕ) → safe ≡ filter (λ f. is_safe_in f l) e.safe
       → record (exposed_with_files first l e (kept_files_of files first l.found.state.tree)) { safe = safe } ≡ exposed_more files first e l
   files-more e safe is =

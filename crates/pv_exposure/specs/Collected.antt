@@ -47,7 +47,7 @@ with_all ks (x ∷ xs) = with_all (with_one ks x) xs
 
 -- ---- programs
 
--- a program, its findings, and the files of the first tree to which every process was closed in the states of its
+-- a program, its findings, and the files of the first tree that every process was closed to in the states of its
 -- processes
 pub record Exposed : Type 0 where
   pub program : Program

@@ -4,8 +4,8 @@
 -- - blocks: PointerRows (sequences of pointers), InvalidBlocks (lists of blocks that are invalid), InodeBlocks (the
 --   blocks of the inodes before one), InodeContents (contents and their length)
 -- - slots: SlotRows (slot by slot), SortedNames (sorted names), BadContents (errors, by the kind of the inode)
--- - places: SlotTargets (the inodes that directories name), NameCounts (names), NumberUnions (lists to which missing
---   numbers are added), ReachableInodes
+-- - places: SlotTargets (the inodes that directories name), NameCounts (names), NumberUnions (lists with their missing
+--   numbers added), ReachableInodes
 -- - MountedImages: the image of bytes that pass
 pub mod BadContents
 pub mod NameCounts

@@ -24,7 +24,7 @@ abbrev pub distinct_without : List ℕ → List ℕ → List ℕ
 distinct_without had [] = []
 distinct_without had (n ∷ ns) = if among had n then distinct_without had ns else n ∷ distinct_without (n ∷ had) ns
 
--- the open files to which descriptors refer, in the order of their first reference: processes by ascending number, and
+-- the open files that descriptors refer to, in the order of their first reference: processes by ascending number, and
 -- the descriptors of a process by ascending number
 abbrev pub references : State → List ℕ
 references s = distinct_without [] (used s)

@@ -134,7 +134,7 @@ module _ {F M : Type 0} (moves_of : F → List M) (found_by : M → F) (is_known
         same {after} rest leads =
             record { preserved = rest.preserved; new = rest.new; more = rest.more; full = rest.full; leads = (leads-preserved m found rest.new after rest.more rest.full leads, rest.leads) }
 
-    -- no visited element is greater than those to which the next element's moves lead
+    -- no visited element is greater than those that the next element's moves lead to
     abbrev UnderNext : List F → List F → Type 0
     UnderNext [] found = Unit {0}
     UnderNext (f ∷ fs) found = AllUpTo (suc (size f)) found

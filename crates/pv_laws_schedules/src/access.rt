@@ -8,15 +8,16 @@ pub fn listed_accesses_happen()
     ensures { ListedAccessesHappen }
 {}
 
-/// If a search is complete, each access of each step in each schedule is listed. With given files, so is each that is about
-/// one of them, under whatever path.
+/// If a search is complete, each access of each step in each schedule is listed. With given files, so is each access to a
+/// node with one of their paths, at that step or in the first tree, and each change of a name with such a path.
 pub fn each_access_is_listed()
     ensures { EachAccessIsListed }
 {}
 
 /// If a search is complete, each touch of each step of a schedule is listed for its process: a read of a file with READ or
 /// EXEC, a change of a file with WRIT, of an entry with NAME, a report of a node with TELL, a new descriptor with OPEN. With
-/// given files, so is each touch of one of them.
+/// given files, so is each touch of a node with one of their paths, at that step or in the first tree, and of a name with
+/// such a path.
 pub fn touches_are_listed()
     ensures { TouchesAreListed }
 {}

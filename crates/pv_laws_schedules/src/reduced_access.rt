@@ -3,7 +3,8 @@
 ghost use Rattle.pv_laws_schedules.specs.ReducedAccess.{TouchesAreListedReduced, UnreadFilesAreReadByNoneReduced, UnreadFilesChangeNothingReduced};
 
 /// If the reduced search is complete, it lists each touch of each step of a live process in each schedule, as the full
-/// search does, and with given files each touch of one of them.
+/// search does: with given files, each touch of a node with one of their paths, at that step or in the first tree, and of
+/// a name with such a path.
 pub fn touches_are_listed_reduced()
     ensures { TouchesAreListedReduced }
 {}

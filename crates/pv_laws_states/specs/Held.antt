@@ -8,7 +8,7 @@ use Rattle.pv_laws_trees.specs.Preserved.{EachIsNamed}
 abbrev pub KeepsAllNamed : Type 0
 KeepsAllNamed = (s : State) → EachIsNamed s.tree → collect_nodes s ≡ s
 
--- the open files to which descriptors of live processes refer
+-- the open files that descriptors of live processes refer to
 abbrev pub used : State → List ℕ
 used s = flat_map (λ p. used_files p.1) (live_processes s.processes)
 

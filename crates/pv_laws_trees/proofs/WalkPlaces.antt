@@ -1,4 +1,4 @@
--- The places to which walks lead, and the part of the tree that walks read.
+-- The places where walks lead, and the part of the tree that walks read.
 use Rattle.std.proofs.Common.{◌≡◌, ℕ, zero, suc, Bool, true, false, cond, if◌then◌else◌, not, ◌&&◌, ◌||◌, ◌==◌, nat_lt, nat_le, List, [], ◌∷◌, ◌++◌, filter, bytes_eq, codes, length, Option, None, Some, is_none, Ok, Err, refl, ap, ap₂, sym, subst, ◌∙◌, ⊎_elim}
 use Rattle.std.specs.FinMap.Entries.{find}
 use Rattle.std.specs.List.{list_all}

@@ -9,7 +9,7 @@ use Rattle.pv_model.specs.declared.place.Place.TheVariants.{At, Node as Unnamed}
 use Rattle.pv_model.specs.Machine.{Bytes, root, resolve}
 use Rattle.pv_laws_worked.specs.Bundles.{bundles_on_literals, tree_of_lines}
 
--- the place to which a path from the root leads
+-- the place where a path from the root leads
 abbrev pub place_of_walk : List Bytes → Follow → Bytes → Option (Result Place Errno)
 place_of_walk lines follow path = option_map (λ t. resolve t follow root path) (tree_of_lines lines)
 

@@ -132,7 +132,7 @@ are_all_closed s f = list_all (λ p. is_empty (leaks s p.1 f)) (live_processes s
 abbrev pub is_safe_in : ℕ → Located → Bool
 is_safe_in f l = not (is_file_at l.found.state.tree f) || are_all_closed l.found.state f
 
--- the files of the first tree to which every live process is closed in every state of the given processes
+-- the files of the first tree that every live process is closed to in every state of the given processes
 abbrev pub safe_files_of_first : Tree → List Located → List ℕ
 safe_files_of_first first ls = filter (λ f. list_all (is_safe_in f) ls) (named_files first)
 

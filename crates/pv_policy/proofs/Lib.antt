@@ -1,5 +1,5 @@
 -- Lemmas of the proofs: GroupTables (tables of groups), CollectedUses (the collected uses and the lines of the
--- definition), CollectedCalls (the calls of the visited states), MappedFronts (lists of which the front is mapped),
+-- definition), CollectedCalls (the calls of the visited states), MappedFronts (lists whose front is mapped),
 -- NextCalls (the next step of a process), ListSteps (lists, one element at a time), UsedPermissions (the permissions
 -- that a walks of a call use), RecordedCalls (a call as it is recorded).
 pub mod GroupTables

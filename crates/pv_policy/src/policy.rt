@@ -208,7 +208,7 @@ fn bytes_of(
 
 /// Writes the needs of each program under any schedule, and the promises and permissions that it holds and never uses.
 /// The search, of the given kind, visits at most `states` states, in breadth-first order from the first state of a
-/// machine. For each program of which a step is a call, in the order of its first call, it writes a line PROG, and
+/// machine. For each program that makes a call, in the order of its first call, it writes a line PROG, and
 /// then:
 ///
 /// - PLDG, for each promise that a call needs: the promise and the line of the first such call;

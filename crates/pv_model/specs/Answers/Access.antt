@@ -77,7 +77,7 @@ module _ (s : State) (p : Process) where
   nodes_executed (Execve path) (Value n) = nodes_of_places (Execve path)
   nodes_executed call _ = []
 
-  -- the file to which a call writes at least one byte, or whose length it sets
+  -- the file that a call writes at least one byte to, or whose length it sets
   abbrev pub nodes_written : Call → Outcome → List ℕ
   nodes_written (Write d n) (Value count) = if count == 0 then [] else node_of_descriptor (Write d n)
   nodes_written (Ftruncate d n) (Value count) = node_of_descriptor (Ftruncate d n)

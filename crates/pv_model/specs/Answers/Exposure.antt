@@ -45,7 +45,7 @@ abbrev pub leak_of : Located → ℕ → List Why → List Leak
 leak_of l f [] = []
 leak_of l f (why ∷ whys) = record { at = l; file = node_brief l.found.state.tree f; why = why } ∷ []
 
--- the files of a state to which a process is not closed
+-- the files of a state that a process is not closed to
 abbrev pub leaks_at : Located → List Leak
 leaks_at l = flat_map (λ f. leak_of l f (leaks l.found.state l.process f)) (files_of_tree l.found.state.tree)
 
@@ -101,7 +101,7 @@ abbrev pub is_closed_to : ℕ → Located → Bool
 is_closed_to f l = not (is_file_at l.found.state.tree f) || is_empty (leaks l.found.state l.process f)
 
 module _ (program_of : Bytes → Option Program) (limit : ℕ) (s : State) where
-  -- the files of the first tree to which every process of a program is closed in every state
+  -- the files of the first tree that every process of a program is closed to in every state
   abbrev pub safe_files : List Located → List ℕ
   safe_files ls = filter (λ f. list_all (is_closed_to f) ls) (named_files s.tree)
 
