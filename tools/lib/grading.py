@@ -96,7 +96,7 @@ class Asker:
         """Returns the answer to a question about the bundle."""
         if question not in self.answers:
             cut = ["--states", str(self.limits.states)] if question in OF_ALL_RUNS else ["--by", by] if by else []
-            self.answers[question] = self.run([question, *cut, "-b", os.path.join(self.folder, "bundle")])
+            self.answers[question] = self.run([question, *cut, os.path.join(self.folder, "bundle")])
         return self.answers[question]
 
 

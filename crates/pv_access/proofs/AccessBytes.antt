@@ -1,11 +1,12 @@
 -- The bytes that a search writes of accesses, and the notes that it records.
-use Rattle.std.proofs.Common.{◌≡◌, ◌∙◌, sym, ap, ap₂, ℕ, Bool, true, false, ◌||◌, if◌then◌else◌, ◌==◌, bytes_eq, List, [], ◌∷◌, ◌++◌, map, flat_map, append_assoc, append-nil, filter, length, Option, None, Some, refl}
+use Rattle.std.proofs.Common.{◌≡◌, ◌∙◌, ◌<◌, sym, subst, ap, ap₂, arith, ℕ, Bool, true, false, ◌||◌, if◌then◌else◌, ◌==◌, bytes_eq, List, [], ◌∷◌, ◌++◌, map, flat_map, append_assoc, append-nil, filter, length, Option, None, Some, refl}
 use Rattle.std.specs.Prelude.{filter_map}
 use Rattle.std.specs.List.{cons_option, list_any}
 use Rattle.std.proofs.lemmas.Grind.{flat_map-append}
-use Rattle.std.proofs.lemmas.List.{map-append}
+use Rattle.std.proofs.lemmas.List.{length-append, map-append}
 use Rattle.pv_reduced.specs.OfExplore.Observing
 use Rattle.pv_reduced.specs.OfExplore.Observing.{is_shown, observation_bytes}
+use Rattle.pv_reduced.proofs.OfExplore.ProperPrefixes.{lines-long}
 use Rattle.pv_reduced.proofs.OfExplore.ReportedBytes.{line-shown}
 use Rattle.pv_reduced.specs.OfLawsClasses.Reduced.{reduced_moves_of}
 use Rattle.pv_reduced.specs.OfLawsClasses.ReducedAnswers.{reduced_access_lines}
@@ -369,3 +370,12 @@ module _ (files : List Bytes) (limit : ℕ) (s : State) where
   unfolding Observing.observed_bytes Lines.reduced_observed_bytes access_lines reduced_access_lines
   access-bytes Full = all-bytes files s.tree (moves_by Full) (found_by_kind Full limit s) limit s (is_complete_by Full limit s) (last_line Full)
   access-bytes Reduced = all-bytes files s.tree (moves_by Reduced) (found_by_kind Reduced limit s) limit s (is_complete_by Reduced limit s) (last_line Reduced)
+
+  -- the last lines, and so all lines, are not empty
+  pub end-long : (kind : SearchKind) → 0 < length (answer_bytes (end_lines kind))
+  end-long kind = lines-long (lines_unread files s.tree (moves_by kind) (found_by_kind kind limit s) limit s (is_complete_by kind limit s) (last_line kind)) (last_line kind) []
+
+  pub access-long : (kind : SearchKind) → 0 < length (answer_bytes (access_lines_by files kind limit s))
+  access-long kind =
+      let first : Bytes = observed_by (access_texts files s.tree) limit s kind in
+      subst (λ (bs : Bytes). 0 < length bs) (access-bytes kind) (omega (arith, length-append first (answer_bytes (end_lines kind)), end-long kind))

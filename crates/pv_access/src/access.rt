@@ -5,6 +5,7 @@ ghost use Rattle.pv_model.specs.Machine.{answer_bytes};
 ghost use Rattle.pv_access.specs.Answers.{access_lines_by};
 ghost use Rattle.pv_named_files.specs.FirstPaths.{files_given, first_tree, path_texts};
 ghost use Rattle.pv_reduced.specs.Kinds.{is_complete_by};
+ghost use Rattle.pv_reduced.specs.OfExplore.ProperPrefixes.{StopsInside};
 ghost use Rattle.pv_reduced.specs.OfSession.Running.{FailsBy};
 ghost use Rattle.pv_streams.specs.Sinks.{Writes, WritesOr};
 
@@ -26,7 +27,8 @@ fn write_last<W: Sink>(
     searched: &Searched,
     out: &mut W,
 ) -> Result<(), Stop>
-    ensures { WritesOr W.Sink FailsBy (answer_bytes (last_lines (first_tree paths.now) (files_given paths.now) kind searched.now.texts searched.now.states searched.now.complete)) out.old out.new result }
+    ensures written { WritesOr W.Sink FailsBy (answer_bytes (last_lines (first_tree paths.now) (files_given paths.now) kind searched.now.texts searched.now.states searched.now.complete)) out.old out.new result }
+    ensures part { StopsInside W.Sink (answer_bytes (last_lines (first_tree paths.now) (files_given paths.now) kind searched.now.texts searched.now.states searched.now.complete)) out.old out.new result }
 {
     write_unread(alloc, paths, searched, out)?;
     Ok(kind.write_count(out, searched.states, searched.complete)?)
@@ -46,6 +48,7 @@ fn write_accesses<W: Sink, P: Progress>(
     requires first { first_tree paths.now ≡ first_machine.now.tree }
     ensures written { WritesOr W.Sink FailsBy (answer_bytes (access_lines_by (files_given paths.now) kind states first_machine.now)) out.old out.new result }
     ensures complete { IfOk result (λ complete. complete ≡ is_complete_by kind states first_machine.now) }
+    ensures part { StopsInside W.Sink (answer_bytes (access_lines_by (files_given paths.now) kind states first_machine.now)) out.old out.new result }
 {
     let searched = search_accesses::<Brand, W, P>(
         alloc,
@@ -84,7 +87,7 @@ fn write_accesses<W: Sink, P: Progress>(
 ///
 /// # Errors
 ///
-/// - `Memory`, if there is no memory.
+/// - `Memory`, if there is no memory. The sink received a proper prefix of the lines.
 /// - `Write`, if a write failed. The sink received a prefix of the lines.
 pub fn write_access<W: Sink, P: Progress>(
     alloc: Global,
@@ -98,6 +101,7 @@ pub fn write_access<W: Sink, P: Progress>(
     requires { 1 ≤ states }
     ensures written { WritesOr W.Sink FailsBy (answer_bytes (access_lines_by (path_texts files.now) kind states first_machine.now)) out.old out.new result }
     ensures complete { IfOk result (λ complete. complete ≡ is_complete_by kind states first_machine.now) }
+    ensures part { StopsInside W.Sink (answer_bytes (access_lines_by (path_texts files.now) kind states first_machine.now)) out.old out.new result }
 {
     let Ok(paths) = FirstPaths::new(alloc, first_machine.tree(), files) else {
         return Err(Stop::Memory);

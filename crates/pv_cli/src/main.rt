@@ -7,7 +7,7 @@
 //! of the program.
 #![tactic(auto)]
 
-use pv_cli_host::cli_commands::HostSystem;
+use pv_cli_host::cli_commands::{Failure, HostSystem, Target};
 use pv_cli_host::{HostFiles, Input, Output, Screen, ScreenWriter, SearchOutput, Shown};
 use pv_cli_line::{Fault, LineFault, report, run};
 use std::io::IsTerminal;
@@ -65,7 +65,9 @@ fn main(rt: HostRuntime) -> ExitCode {
             greet(&rt, words.as_slice());
             let mut progress = Shown::new(&screen);
             match run(rt.alloc(), words.as_slice(), &mut system, &mut progress) {
-                0 if !name_build(&rt, words.as_slice()) => report(&Fault::Write, &mut system),
+                0 if !name_build(&rt, words.as_slice()) => {
+                    report(&Fault::Command(Failure::Write(Target::Output)), &mut system)
+                }
                 status => status,
             }
         }

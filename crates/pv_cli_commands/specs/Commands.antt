@@ -1,91 +1,119 @@
--- The input and output of a command.
-use Rattle.std.specs.Prelude.{◌≡◌, ◌≢◌, ⊤, codes, Option, None}
+-- The input and output of a command: it is read first, and then its output is written.
+use Rattle.std.specs.Prelude.{◌≡◌, ◌⊎◌, ⊤, ℕ, Option, None, Some, Result, Ok, Err, OnOk}
+use Rattle.std.specs.Borrow.{Bor}
+use Rattle.std.specs.Global.{Vec}
 use Rattle.pv_model.specs.declared.stream.Sink.{Ghosts as Writing}
 use Rattle.pv_model.specs.declared.stream.Source.{Ghosts as Reading}
 use Rattle.pv_model.specs.Machine.{Bytes}
-use Rattle.pv_questions.specs.Answering.{image_answer}
-use Rattle.pv_questions.specs.Asking.{IsImageStop}
-use Rattle.pv_questions.specs.Noting.{NotedTwo, image_notes}
+use Rattle.pv_questions.specs.Answered.{WritesAnswer, BuffersNothing}
+use Rattle.pv_questions.specs.Answers.{answer_by, compared_to, noted_at}
+use Rattle.pv_questions.specs.Schedules.{turns_text}
+use Rattle.pv_questions.specs.declared.failure.Failure.{Failure}
+use Rattle.pv_questions.specs.declared.failure.Failure.TheVariants.{Memory}
+use Rattle.pv_questions.specs.declared.input.Format.{Format}
+use Rattle.pv_questions.specs.declared.input.Input.{Input}
+use Rattle.pv_questions.specs.declared.input.Turns.{Turns}
 use Rattle.pv_questions.specs.declared.question.Question.{Question}
-use Rattle.pv_questions.specs.declared.question.Question.TheVariants.{Audit}
-use Rattle.pv_questions.specs.declared.question.RunQuestion.{RunQuestion}
+use Rattle.pv_questions.specs.declared.input.Turns.TheVariants as turns
+use Rattle.pv_cli_commands.specs.Directories.{ExportsInput, ImportsDirectory}
+use Rattle.pv_cli_commands.specs.Reading.{IsInput, ReadsInputs, first_named, second_named, settled_question, settled_schedule}
+use Rattle.pv_cli_commands.specs.Streams.{Disk, Host}
+use Rattle.pv_cli_commands.specs.Writing.{MakesImageFile, MigratesFile, RunsFiles, WritesSource}
+use Rattle.pv_cli_commands.specs.declared.command.Asking.{Asking}
 use Rattle.pv_cli_commands.specs.declared.command.Command.{Command}
-use Rattle.pv_cli_commands.specs.declared.command.Command.TheVariants.{RunTree, MakeImage, ListImage, RunImage, MigrateImage, ImportDirectory, ExportImage, AuditImage, WriteSource, Ask, AskTree, Compare}
+use Rattle.pv_cli_commands.specs.declared.command.Command.TheVariants.{Ask, Compare, WriteSource, MakeImage, RunImage, MigrateImage, ImportDirectory, ExportImage}
+use Rattle.pv_cli_commands.specs.declared.command.ScheduleInput.{ScheduleInput}
+use Rattle.pv_cli_commands.specs.declared.command.ScheduleInput.TheVariants.{Own, File, Turns as AsTurns, Fair}
+use Rattle.pv_cli_commands.specs.declared.reading.Form.TheVariants.{Given}
+use Rattle.pv_cli_commands.specs.declared.reading.Inputs.{Inputs}
+use Rattle.pv_cli_commands.specs.declared.reading.Named.{Named}
 use Rattle.pv_cli_commands.specs.declared.system.HostSystem.{HostSystem}
-use Rattle.pv_cli_commands.specs.Asking.{AsksFiles, AsksRun, AsksTree, KeepsRunErrors, KeepsTreeErrors, ReadsRunFiles, ReadsTreeFile}
-use Rattle.pv_cli_commands.specs.Comparing.{ComparesInputs, ReadsCompareFiles}
-use Rattle.pv_cli_commands.specs.Exporting.{ExportsFile}
-use Rattle.pv_cli_commands.specs.Faults.{CommandResult}
-use Rattle.pv_cli_commands.specs.Images.{RunsFiles}
-use Rattle.pv_cli_commands.specs.Importing.{ImportsWithSource, ReadsSourceFile, wanted_of}
-use Rattle.pv_cli_commands.specs.Listing.{ListsFile}
-use Rattle.pv_cli_commands.specs.Making.{MakesImageFile}
-use Rattle.pv_cli_commands.specs.Migrating.{MigratesFile, image_sizes}
-use Rattle.pv_cli_commands.specs.Noted.{NotedRun}
-use Rattle.pv_cli_commands.specs.Running.{RunsFile, RunsFrom}
-use Rattle.pv_cli_commands.specs.Sources.{WritesSource, WritesSourceFile}
-use Rattle.pv_cli_commands.specs.Streams.{Disk, Host, inputs_of}
 
--- a question about a complete run
-abbrev pub of_complete_run : Question → RunQuestion
-of_complete_run question = record { question = question; steps = None }
+-- the schedule is this text
+abbrev pub HasText : Bytes → Turns → Type 0
+HasText text (turns.Text read) = read.items ≡ text
+HasText text turned = ⊥
 
--- the command was carried out or ended early
-abbrev pub Performs : {F R V T I O E : Type 0} → Disk F R V → Host F T → Reading I → Writing O → Writing E → Command → HostSystem F I O E → HostSystem F I O E → CommandResult → Type 0
-Performs disk host reading writing reporting (RunTree name) before after answer =
-    (name.now ≡ codes "-" → RunsFrom reading writing before.input after.input before.output after.output answer)
-    × (name.now ≢ codes "-" → RunsFile disk writing before.files name.now before.output after.output answer)
-Performs disk host reading writing reporting (MakeImage manifest image) before after answer = MakesImageFile disk before.files manifest.now image.now answer
-Performs disk host reading writing reporting (ListImage image) before after answer = ListsFile disk writing before.files image.now before.output after.output answer
-Performs disk host reading writing reporting (RunImage image schedule out) before after answer =
-    RunsFiles disk writing before.files (inputs_of image.now schedule.now) out.now before.output after.output answer
-Performs disk host reading writing reporting (MigrateImage image out blocks inodes) before after answer = MigratesFile disk before.files image.now out.now (image_sizes blocks inodes) answer
-Performs disk host reading writing reporting (ImportDirectory directory image version skips source) before after answer =
-    ImportsWithSource disk reading reporting before.files (host.entries before.files) source (wanted_of directory image version skips) before.input after.input before.errors after.errors answer
-Performs disk host reading writing reporting (ExportImage image directory) before after answer =
-    ExportsFile disk host reporting before.files image.now directory.now before.errors after.errors answer
-Performs disk host reading writing reporting (AuditImage image schedule path) before after answer =
-    AsksFiles disk writing IsImageStop (image_answer (of_complete_run (Audit path))) before.files (inputs_of image.now schedule.now) before.output after.output answer
-Performs disk host reading writing reporting (WriteSource name kind) before after answer =
-    (name.now ≡ codes "-" → WritesSource reading writing reporting kind name.now before.input after.input before.output after.output before.errors after.errors answer)
-    × (name.now ≢ codes "-" → WritesSourceFile disk writing reporting before.files kind name.now before.output after.output before.errors after.errors answer)
-Performs disk host reading writing reporting (Ask question run) before after answer =
-    AsksRun disk reading writing reporting before.files question run before.input after.input before.output after.output before.errors after.errors answer
-Performs disk host reading writing reporting (AskTree question tree) before after answer =
-    AsksTree disk reading writing reporting before.files question tree before.input after.input before.output after.output before.errors after.errors answer
-Performs disk host reading writing reporting (Compare inputs pairs) before after answer =
-    ComparesInputs disk reading writing before.files inputs pairs before.input after.input before.output after.output answer
+-- the schedule of a question is the one that the command names, or that was read
+abbrev pub IsScheduleOf : ScheduleInput → Vec ℕ → Turns → Type 0
+IsScheduleOf Own read turned = turned ≡ turns.Own
+IsScheduleOf Fair read turned = turned ≡ turns.Fair
+IsScheduleOf (File name) read turned = turned ≡ turns.Text read
+IsScheduleOf (AsTurns text) read turned = HasText (turns_text text.now) turned
 
--- the notes are those on the answer to a question about a run, if its inputs are known; other commands have none
-abbrev pub Notes : {F I O E : Type 0} → (F → Bytes → Option Bytes) → (I → Option Bytes) → Command → HostSystem F I O E → (old new : Bytes) → CommandResult → Type 0
-Notes bytes remaining (AuditImage image schedule path) before old new answer =
-    NotedTwo (bytes before.files image.now) (bytes before.files schedule.now) (image_notes (of_complete_run (Audit path))) new answer
-Notes bytes remaining (Ask question run) before old new answer = NotedRun bytes before.files question (remaining before.input) run new answer
-Notes bytes remaining command before old new answer = new ≡ old
+-- a question was answered, under a schedule, and the notes are those beside its answer
+pub record AsksUnder {O : Type 0} (writing : Writing O) (question : Question) (input : Input) (turned : Turns) (steps : Option ℕ) (before after : O) (notes : Bytes)
+    (result : Result (Unit {0}) Failure) : Type 0 where
+  pub answered : WritesAnswer writing (answer_by input.format input.bytes.items turned steps question) before after result
+  pub noted : OnOk result (noted_at input.format input.bytes.items turned steps question ≡ Ok notes)
+
+-- a question was answered, under its schedule; or there was no memory for the schedule, and nothing was written
+abbrev pub AsksQuestion : {O : Type 0} → Writing O → Asking → Inputs → O → O → Bytes → Result (Unit {0}) Failure → Type 0
+AsksQuestion writing asking inputs before after notes result =
+    ((turned : Turns) × IsScheduleOf (settled_schedule asking.question asking.schedule inputs.first.format) inputs.second.bytes turned
+    × AsksUnder writing (settled_question asking.question asking.schedule inputs.first.format) inputs.first turned asking.steps before after notes result)
+    ⊎ ((result ≡ Err Memory) × (after ≡ before))
+
+module _ {F R V T I O E : Type 0} (disk : Disk F R V) (host : Host F T) (writing : Writing O) (reporting : Writing E) where
+  -- the command wrote its output, from these inputs
+  abbrev pub WritesCommandOutput : Command → Inputs → HostSystem F I O E → HostSystem F I O E → Result (Unit {0}) Failure → Type 0
+  WritesCommandOutput (Ask asking) inputs before after result = ⊤
+  WritesCommandOutput (Compare first second pairs) inputs before after result = WritesAnswer writing (compared_to pairs inputs.first inputs.second) before.output after.output result
+  WritesCommandOutput (WriteSource source kind) inputs before after result =
+      WritesSource writing reporting kind source.now inputs.first before.output after.output before.errors after.errors result
+  WritesCommandOutput (MakeImage manifest image) inputs before after result = MakesImageFile disk inputs.first image.now result
+  WritesCommandOutput (RunImage image schedule out) inputs before after result = RunsFiles disk writing inputs.first inputs.second out.now before.output after.output result
+  WritesCommandOutput (MigrateImage image out blocks inodes) inputs before after result = MigratesFile disk inputs.first out.now blocks inodes result
+  WritesCommandOutput (ImportDirectory import) inputs before after result =
+      ImportsDirectory disk reporting (host.entries before.files) import inputs.first before.errors after.errors result
+  WritesCommandOutput (ExportImage file directory) inputs before after result = ExportsInput host reporting directory.now inputs.first before.errors after.errors result
+
+  -- the same, with the notes on the answer to a question; other commands leave the notes as they are
+  abbrev pub WritesNoted : Command → Inputs → HostSystem F I O E → HostSystem F I O E → (old new : Bytes) → Result (Unit {0}) Failure → Type 0
+  WritesNoted (Ask asking) inputs before after old new result = AsksQuestion writing asking inputs before.output after.output new result
+  WritesNoted command inputs before after old new result = WritesCommandOutput command inputs before after result × (new ≡ old)
+
+  -- the inputs of the command were read, and it wrote its output; or they were not read, and nothing was written
+  abbrev pub WritesFrom : Command → Result Inputs Failure → HostSystem F I O E → HostSystem F I O E → (old new : Bytes) → Result (Unit {0}) Failure → Type 0
+  WritesFrom command (Ok inputs) before after old new result = WritesNoted command inputs before after old new result
+  WritesFrom command (Err failure) before after old new result = (result ≡ Err failure) × (after ≡ before)
+
+-- the inputs of the command were read, and then it wrote its output
+abbrev pub Performs : {F R V T I O E : Type 0} → Disk F R V → Host F T → Reading I → Writing O → Writing E → Command → HostSystem F I O E → HostSystem F I O E → (old new : Bytes)
+    → Result (Unit {0}) Failure → Type 0
+Performs {F} {R} {V} {T} {I} {O} {E} disk host reading writing reporting command before after old new result =
+    (inputs : Result Inputs Failure) × (middle : HostSystem F I O E) × ReadsInputs disk reading reporting command before middle inputs
+    × WritesFrom disk host writing reporting command inputs middle after old new result
+
+-- if the output had no buffered bytes, it has none afterwards, unless a write failed
+abbrev pub LeavesFlushed : {W : Type 0} → Writing W → W → W → Result (Unit {0}) Failure → Type 0
+LeavesFlushed writing before after result = writing.buffered before ≡ 0 → BuffersNothing result (writing.buffered after)
 
 -- the command writes only to a file, or makes a directory
 abbrev pub WritesFile : Command → Type 0
 WritesFile (MakeImage manifest image) = ⊤
 WritesFile (MigrateImage image out blocks inodes) = ⊤
-WritesFile (ImportDirectory directory image version skips source) = ⊤
-WritesFile (ExportImage image directory) = ⊤
+WritesFile (ImportDirectory import) = ⊤
+WritesFile (ExportImage file directory) = ⊤
 WritesFile command = ⊥
+
+-- a file that is read is not the standard input
+abbrev pub IsReadFromFile : Option Named → Type 0
+IsReadFromFile None = ⊤
+IsReadFromFile (Some named) = IsInput named → ⊥
 
 -- the command reads only files
 abbrev pub ReadsFiles : Command → Type 0
-ReadsFiles (RunTree name) = name.now ≢ codes "-"
-ReadsFiles (WriteSource name kind) = name.now ≢ codes "-"
-ReadsFiles (ImportDirectory directory image version skips source) = ReadsSourceFile source
-ReadsFiles (Ask question run) = ReadsRunFiles run
-ReadsFiles (AskTree question tree) = ReadsTreeFile tree
-ReadsFiles (Compare inputs pairs) = ReadsCompareFiles inputs
-ReadsFiles command = ⊤
+ReadsFiles command = IsReadFromFile (first_named command) × ((format : Format) → IsReadFromFile (second_named command format))
+
+-- no file of the command is translated
+abbrev pub IsTakenAsGiven : Option Named → Type 0
+IsTakenAsGiven None = ⊤
+IsTakenAsGiven (Some named) = (format : Format) × (named.form ≡ Given format)
 
 -- the command reports nothing on the standard error itself
 abbrev pub KeepsErrors : Command → Type 0
-KeepsErrors (WriteSource name kind) = ⊥
-KeepsErrors (ImportDirectory directory image version skips source) = ⊥
-KeepsErrors (ExportImage image directory) = ⊥
-KeepsErrors (Ask question run) = KeepsRunErrors run
-KeepsErrors (AskTree question tree) = KeepsTreeErrors tree
-KeepsErrors command = ⊤
+KeepsErrors (WriteSource source kind) = ⊥
+KeepsErrors (ImportDirectory import) = ⊥
+KeepsErrors (ExportImage file directory) = ⊥
+KeepsErrors command = IsTakenAsGiven (first_named command) × ((format : Format) → IsTakenAsGiven (second_named command format))

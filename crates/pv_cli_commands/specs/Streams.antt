@@ -11,22 +11,6 @@ use Rattle.pv_cli_commands.specs.Created.{IsCreated, IsEmptied}
 abbrev pub FailsToTake : {W : Type 0} → Writing W → W → W → Type 0
 FailsToTake writing before after = Rose (writing.failures before) (writing.failures after)
 
--- an image and a schedule: their sources, or the names of their files
-pub record Inputs (A : Type 0) : Type 0 where
-  pub image : A
-  pub schedule : A
-
-abbrev pub inputs_of : {A : Type 0} → A → A → Inputs A
-inputs_of image schedule = record { image = image; schedule = schedule }
-
--- the sinks of a trace and of an image
-pub record Outputs (W O : Type 0) : Type 0 where
-  pub trace : W
-  pub image : O
-
-abbrev pub outputs_of : {W O : Type 0} → W → O → Outputs W O
-outputs_of trace image = record { trace = trace; image = image }
-
 -- all files, a file that is read, and a file that is written
 pub record Disk (F R V : Type 0) : Type 1 where
   pub files : Filing F R V
@@ -44,18 +28,24 @@ IsOpened disk files name first = disk.reading.remaining first ≡ disk.files.byt
 abbrev pub IsUnknown : {F R V : Type 0} → Disk F R V → F → Bytes → Type 0
 IsUnknown disk files name = disk.files.bytes files name ≡ None
 
+-- the bytes and entries that are known, and the names of the directories for trees, are unchanged
+abbrev pub KeepsKnown : {F R V : Type 0} → Filing F R V → F → F → Type 0
+KeepsKnown files before after = (files.bytes after ≡ files.bytes before) × (files.entries after ≡ files.entries before) × (files.targets after ≡ files.targets before)
+
 -- a file to be written has this name, and nothing was written to it
 abbrev pub IsCreatedOn : {F R V : Type 0} → Disk F R V → Bytes → V → Type 0
 IsCreatedOn disk name writer = IsCreated disk.files.file_of disk.writing.written name writer
 
--- the entries of each directory with a name, and the name and the made entries of a directory for a tree
+-- the entries of each directory with a name, the names of the directories that were returned for trees, and the name and
+-- the made entries of such a directory
 pub record Host (F T : Type 0) : Type 0 where
   pub entries : F → Bytes → Option HostEntries
+  pub targets : F → List Bytes
   pub target_of : T → Bytes
   pub made : T → Option (List Entry)
 
-abbrev pub host_of : {F T : Type 0} → (F → Bytes → Option HostEntries) → (T → Bytes) → (T → Option (List Entry)) → Host F T
-host_of entries target_of made = record { entries = entries; target_of = target_of; made = made }
+abbrev pub host_of : {F T : Type 0} → (F → Bytes → Option HostEntries) → (F → List Bytes) → (T → Bytes) → (T → Option (List Entry)) → Host F T
+host_of entries targets target_of made = record { entries = entries; targets = targets; target_of = target_of; made = made }
 
 -- a directory for a tree has this name, and nothing was made in it
 abbrev pub IsEmptiedOn : {F T : Type 0} → Host F T → Bytes → T → Type 0

@@ -1,81 +1,83 @@
 //! Commands and their arguments.
 
 use pv_model::Version;
-use pv_questions::{RunQuestion, TreeQuestion};
+use pv_questions::Question;
 use pv_source::Output;
+
+/// The file of an input that has a tree. `-` is the standard input.
+#[derive(Clone, Copy)]
+pub enum InputFile<'a> {
+    /// An image, or a source, which is translated.
+    Any(&'a str),
+    /// A bundle or a manifest, which is taken as it is.
+    Bundle(&'a str),
+    /// A source, which is translated whatever its first line is.
+    Source(&'a str),
+}
 
 /// The schedule of a run.
 #[derive(Clone, Copy)]
 pub enum ScheduleInput<'a> {
-    /// The schedule in a file.
+    /// That of the source or bundle.
+    Own,
+    /// The schedule in a file. `-` is the standard input.
     File(&'a str),
     /// Turns with `, ` between, as `explore` writes a witness.
     Turns(&'a str),
+    /// The fair schedule.
+    Fair,
 }
 
-/// A manifest or bundle. The file `-` is the standard input.
+/// A question about the tree of an input, or about a run of the machine that boots on it.
 #[derive(Clone, Copy)]
-pub enum TextInput<'a> {
-    /// The manifest or bundle in a file.
-    Plain(&'a str),
-    /// The manifest or bundle that the source in a file translates to.
-    Source(&'a str),
+pub struct Asking<'a> {
+    /// The question.
+    pub question: Question<'a>,
+    /// The input.
+    pub input: InputFile<'a>,
+    /// The schedule. If an audit has a path and no schedule, and the input is an image, the path is the file of the
+    /// schedule.
+    pub schedule: ScheduleInput<'a>,
+    /// The number of steps after which the schedule is cut.
+    pub steps: Option<u32>,
 }
 
-/// The input of a run: an image with a schedule, a bundle, or a manifest with a schedule.
+/// The import of a host directory as an image.
 #[derive(Clone, Copy)]
-pub enum RunInput<'a> {
-    /// The image in a file, under a schedule.
-    Image {
-        /// The file of the image.
-        image: &'a str,
-        /// The schedule.
-        schedule: ScheduleInput<'a>,
-    },
-    /// A bundle.
-    Bundle(TextInput<'a>),
-    /// The tree of a manifest, which may be a bundle, under a schedule in place of the bundle's own.
-    Manifest {
-        /// The manifest.
-        manifest: TextInput<'a>,
-        /// The schedule.
-        schedule: ScheduleInput<'a>,
-    },
-}
-
-/// The input that has a tree: an image or a manifest.
-#[derive(Clone, Copy)]
-pub enum TreeInput<'a> {
-    /// The image in a file.
-    Image(&'a str),
-    /// A manifest, which may be a bundle.
-    Manifest(TextInput<'a>),
-}
-
-/// Two inputs that are compared.
-#[derive(Clone, Copy)]
-pub enum CompareInput<'a> {
-    /// Two images.
-    Images {
-        /// The file of the first image.
-        first: &'a str,
-        /// The file of the second image.
-        second: &'a str,
-    },
-    /// Two bundles or manifests. The file `-` is the standard input.
-    Bundles {
-        /// The file of the first bundle.
-        first: &'a str,
-        /// The file of the second bundle.
-        second: &'a str,
-    },
+pub struct Import<'a> {
+    /// The directory.
+    pub directory: &'a str,
+    /// The file to which the image is written.
+    pub image: &'a str,
+    /// The version of the image.
+    pub version: Version,
+    /// Whether entries that an image can't have are skipped.
+    pub skips: bool,
+    /// The file of a source whose entries are added. `-` is the standard input.
+    pub source: Option<&'a str>,
 }
 
 /// A command.
 #[derive(Clone, Copy)]
 pub enum Command<'a> {
-    /// Runs the bundle in a file. `-` is the standard input.
-    RunTree(&'a str),
+    /// Answers a question.
+    Ask(Asking<'a>),
+    /// Compares the possible steps of two inputs under all schedules.
+    Compare {
+        /// The first input.
+        first: InputFile<'a>,
+        /// The second input.
+        second: InputFile<'a>,
+        /// The maximum number of visited pairs of states: 0 counts as 1.
+        pairs: u32,
+    },
+    /// Writes the output for a source, or reports the lines in error.
+    WriteSource {
+        /// The file of the source. `-` is the standard input.
+        source: &'a str,
+        /// The output.
+        kind: Output,
+    },
     /// Makes the image of a manifest.
     MakeImage {
         /// The file of the manifest.
@@ -83,8 +85,6 @@ pub enum Command<'a> {
         /// The file to which the image is written.
         image: &'a str,
     },
-    /// Lists the tree of the image in a file.
-    ListImage(&'a str),
     /// Runs a schedule on an image.
     RunImage {
         /// The file of the image.
@@ -106,60 +106,12 @@ pub enum Command<'a> {
         inodes: u32,
     },
     /// Makes an image of a host directory, with the entries of a source if one is given.
-    ImportDirectory {
-        /// The directory.
-        directory: &'a str,
-        /// The file to which the image is written.
-        image: &'a str,
-        /// The version of the image.
-        version: Version,
-        /// Whether entries that an image can't have are skipped.
-        skips: bool,
-        /// The file of the source. `-` is the standard input.
-        source: Option<&'a str>,
-    },
-    /// Makes a host directory from the tree of an image.
+    ImportDirectory(Import<'a>),
+    /// Makes a host directory from the tree of an input.
     ExportImage {
-        /// The file of the image.
-        image: &'a str,
+        /// The input.
+        input: InputFile<'a>,
         /// The directory. It is created if it does not exist; otherwise it must be empty.
         directory: &'a str,
-    },
-    /// Runs a schedule on an image, and reports which files are then sealed.
-    AuditImage {
-        /// The file of the image.
-        image: &'a str,
-        /// The file of the schedule.
-        schedule: &'a str,
-        /// The path of a file in the image. Without a path, all files are audited.
-        path: Option<&'a [u8]>,
-    },
-    /// Writes the output for a source, or reports the lines in error.
-    WriteSource {
-        /// The file of the source. `-` is the standard input.
-        source: &'a str,
-        /// The output.
-        kind: Output,
-    },
-    /// Answers a question about a run.
-    Ask {
-        /// The question.
-        question: RunQuestion<'a>,
-        /// The run.
-        run: RunInput<'a>,
-    },
-    /// Answers a question about a tree.
-    AskTree {
-        /// The question.
-        question: TreeQuestion<'a>,
-        /// The input that has the tree.
-        tree: TreeInput<'a>,
-    },
-    /// Compares the possible steps of two inputs under all schedules.
-    Compare {
-        /// The inputs.
-        inputs: CompareInput<'a>,
-        /// The maximum number of visited pairs of states: 0 counts as 1.
-        pairs: u32,
     },
 }

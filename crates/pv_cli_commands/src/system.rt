@@ -1,6 +1,7 @@
 //! The input and output of a command: named files and three streams.
-ghost use Rattle.std.specs.Prelude.{◌≡◌, ℕ, List, Option, None, IfOk, IsOk, IsSome};
+ghost use Rattle.std.specs.Prelude.{◌≡◌, ◌++◌, ◌∷◌, ℕ, List, [], Option, None, IfOk, IsOk, IsSome, OnErr, OnOk};
 ghost use Rattle.pv_cli_commands.specs.Created.{IsCreated};
+ghost use Rattle.pv_host_copy.specs.Hosts.{HostEntries};
 
 use pv_streams::{Failed, Sink, Source};
 use std::alloc::{AllocError, Global};
@@ -8,7 +9,8 @@ use std::alloc::{AllocError, Global};
 /// Access to files by name.
 ///
 /// A contract sees the bytes of the file with a name, if they are known. Those of a file of the operating system are
-/// not known.
+/// not known. It also sees the names of the files and directories that were created, and the entries of directories
+/// (`Directories`), which a file leaves as they are.
 pub trait Files {
     /// A file opened for reading.
     type Reader: Source + Drop;
@@ -21,6 +23,15 @@ pub trait Files {
 
     /// The name of the file to which a writer writes.
     ghost file_of: { Self.Writer → List ℕ };
+
+    /// The names of the files for which writers were returned, in order.
+    ghost created: { Self → List (List ℕ) };
+
+    /// The entries of the directory with a name, if they are known.
+    ghost entries: { Self → List ℕ → Option HostEntries };
+
+    /// The names of the directories that were returned for trees, in order.
+    ghost targets: { Self → List (List ℕ) };
 
     /// Opens the file with a name for reading from its first byte. If its bytes are known, this succeeds.
     ///
@@ -37,8 +48,13 @@ pub trait Files {
     /// # Errors
     ///
     /// `AllocError`, if there is no memory for the name.
-    fn create(&self, alloc: Global, name: &str) -> Result<Self::Writer, AllocError>
-        ensures { IfOk result (IsCreated file_of Self.Writer.written name.now) };
+    fn create(&mut self, alloc: Global, name: &str) -> Result<Self::Writer, AllocError>
+        ensures created { IfOk result (IsCreated file_of Self.Writer.written name.now) }
+        ensures logged { OnOk result (created self.new ≡ created self.old ++ name.now ∷ []) }
+        ensures unlogged { OnErr result (created self.new ≡ created self.old) }
+        ensures bytes { bytes self.new ≡ bytes self.old }
+        ensures entries { entries self.new ≡ entries self.old }
+        ensures targets { targets self.new ≡ targets self.old };
 
     /// Returns the reason why the file with a name cannot be read, in the words of the operating system, or `None` if
     /// it can or the reason is not known. A file whose bytes are known can be read.

@@ -33,8 +33,6 @@ impl<'a> Directories for HostFiles<'a> {
 
     type Target = MadeDirectory<'a>;
 
-    ghost entries = { λ _ _. None };
-
     ghost target_of = { λ target. string_bytes target.name };
 
     fn open_directory(&self, alloc: Global, name: &str) -> Result<OpenedDirectory<'a>, HostFault> {
@@ -42,11 +40,20 @@ impl<'a> Directories for HostFiles<'a> {
     }
 
     fn create_directory(
-        &self,
+        &mut self,
         alloc: Global,
         name: &str,
     ) -> Result<MadeDirectory<'a>, TargetFault> {
-        MadeDirectory::create(self.runtime(), alloc, name)
+        let Ok(()) = self.push_target(alloc, name) else {
+            return Err(TargetFault::Memory);
+        };
+        match MadeDirectory::create(self.runtime(), alloc, name) {
+            Ok(target) => Ok(target),
+            Err(fault) => {
+                self.pop_target();
+                Err(fault)
+            }
+        }
     }
 }
 

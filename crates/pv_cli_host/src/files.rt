@@ -1,5 +1,5 @@
 //! Files of the operating system.
-ghost use Rattle.std.specs.Prelude.{◌≡◌, ◌≤◌, length, None, IfOk};
+ghost use Rattle.std.specs.Prelude.{◌≡◌, ◌≤◌, ◌++◌, ◌∷◌, ℕ, List, [], length, map, None, IfOk, OnErr, OnOk};
 ghost use Rattle.std.specs.String.{string_bytes};
 
 use crate::output::counted;
@@ -11,22 +11,51 @@ use std::fs::File;
 use std::io::{ErrorKind, Read, Write};
 
 /// The files of the operating system. Their contracts do not know their bytes.
-#[derive(Clone, Copy)]
+#[derive(Drop)]
 pub struct HostFiles<'a> {
     rt: &'a HostRuntime,
+    // The names of the files and of the directories that were created, in order.
+    created: Vec<String>,
+    targets: Vec<String>,
 }
 
 impl<'a> HostFiles<'a> {
-    /// Returns the files of the operating system of a runtime.
+    /// Returns the files of the operating system of a runtime, of which none is created yet.
     pub fn new(rt: &'a HostRuntime) -> HostFiles<'a>
-        ensures { result.rt ≡ rt.entry }
+        ensures runtime { result.rt ≡ rt.entry }
+        ensures created { (result.created.items ≡ []) × (result.targets.items ≡ []) }
     {
-        HostFiles { rt }
+        HostFiles {
+            rt,
+            created: Vec::new(rt.alloc()),
+            targets: Vec::new(rt.alloc()),
+        }
     }
 
     // Returns the runtime.
     pub(crate) fn runtime(&self) -> &'a HostRuntime {
         self.rt
+    }
+
+    // Adds the name of a directory to those that were created.
+    pub(crate) fn push_target(&mut self, alloc: Global, name: &str) -> Result<(), AllocError>
+        ensures pushed { OnOk result (map string_bytes self.new.targets.items ≡ map string_bytes self.old.targets.items ++ name.now ∷ []) }
+        ensures kept { OnErr result (self.new.targets.items ≡ self.old.targets.items) }
+        ensures rest { self.new ≡ record self.old { targets = self.new.targets } }
+    {
+        let name = String::from_str(alloc, name)?;
+        match self.targets.push(name) {
+            Ok(()) => Ok(()),
+            Err(_) => Err(AllocError),
+        }
+    }
+
+    // Removes the last name of a directory.
+    pub(crate) fn pop_target(&mut self)
+        ensures popped { (names : List (List ℕ)) (name : List ℕ) → map string_bytes self.old.targets.items ≡ names ++ name ∷ [] → map string_bytes self.new.targets.items ≡ names }
+        ensures rest { self.new ≡ record self.old { targets = self.new.targets } }
+    {
+        let _name = self.targets.pop();
     }
 }
 
@@ -39,6 +68,12 @@ impl<'a> Files for HostFiles<'a> {
 
     ghost file_of = { λ writer. string_bytes writer.name };
 
+    ghost created = { λ files. map string_bytes files.created.items };
+
+    ghost entries = { λ _ _. None };
+
+    ghost targets = { λ files. map string_bytes files.targets.items };
+
     fn open(&self, name: &str) -> Result<OpenedFile, Failed> {
         match fs::open(self.rt, name) {
             Ok(file) => Ok(OpenedFile {
@@ -50,13 +85,18 @@ impl<'a> Files for HostFiles<'a> {
         }
     }
 
-    fn create(&self, alloc: Global, name: &str) -> Result<WrittenFile<'a>, AllocError> {
-        Ok(WrittenFile {
+    fn create(&mut self, alloc: Global, name: &str) -> Result<WrittenFile<'a>, AllocError> {
+        let writer = WrittenFile {
             rt: self.rt,
             name: String::from_str(alloc, name)?,
             file: None,
             failures: 0,
-        })
+        };
+        let name = String::from_str(alloc, name)?;
+        match self.created.push(name) {
+            Ok(()) => Ok(writer),
+            Err(_) => Err(AllocError),
+        }
     }
 
     fn read_reason(&self, alloc: Global, name: &str) -> Option<String> {

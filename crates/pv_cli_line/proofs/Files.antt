@@ -1,17 +1,9 @@
 -- The files of a search, as texts of the command line.
-use Rattle.std.proofs.Common.{◌≡◌, ◌∙◌, ap, ℕ, ◌<◌, ◌≤◌, List, [], ◌∷◌, length, map, if◌then◌else◌, bytes_eq, Option, None, Some, option_map, slice_get, refl, arith}
-use Rattle.std.proofs.lemmas.Bool.{false_from_ne_true}
-use Rattle.std.proofs.lemmas.Slice.Eq.{bytes_eq-Decides}
+use Rattle.std.proofs.Common.{◌≡◌, ◌∙◌, ℕ, ◌≤◌, List, [], ◌∷◌, length, map, Option, option_map, slice_get, refl, arith}
 use Rattle.std.specs.Borrow.{Bor}
-use Rattle.std.specs.Box.{box_value}
 use Rattle.std.specs.List.{cons_option}
-use Rattle.std.specs.Prelude.{Box}
-use Rattle.clap.specs.Words.{Row, Text, all_of, found_of, rows_of, subcommand_rows}
-use Rattle.clap.specs.declared.parser.matches.SubCommand.{SubCommand}
-use Rattle.clap.specs.declared.parser.matches.ArgMatches.TheViews.{out-SubCommand}
-use Rattle.pv_cli_commands.specs.declared.command.TreeInput.{TreeInput}
-use Rattle.pv_cli_line.specs.Line.{HasManyFiles, IsAboutFiles, IsValidTreeIn, entered_texts, files_entered, present_paths}
-use Rattle.pv_cli_line.proofs.LineMatches.{entered_is}
+use Rattle.clap.specs.Words.{Text}
+use Rattle.pv_cli_line.specs.Line.{present_paths}
 
 -- the path of a text of the list, if it has one with this number
 abbrev path_in : List (Bor Text) → ℕ → Option Text
@@ -43,29 +35,3 @@ are_paths ts a b c d e f g h few a_is b_is c_is d_is e_is f_is g_is h_is =
     (λ i. cons_option (a_is i) (cons_option (b_is i) (cons_option (c_is i) (cons_option (d_is i)
     (cons_option (e_is i) (cons_option (f_is i) (cons_option (g_is i) (cons_option (h_is i) []))))))))
     ∙ eight ts few
-
--- a search was entered with more files than a question has
-pub has_many_files : (entered : Option (Text × List Row)) (command : Text) (tree : TreeInput) → IsAboutFiles command → IsValidTreeIn entered command tree
-    → 8 < length (files_entered entered command) → HasManyFiles entered
-has_many_files entered command tree name valid many =
-    record { command = command; is_about_files = name; tree = tree; are_entered = valid; are_many = many }
-
-module _ {Z : Type 0} where
-  -- the texts of an argument of the entered command
-  pub texts-entered : (o : Option (Box SubCommand Z)) (name argument : Text) (rows : List Row)
-      → option_map (λ b. (out-SubCommand (box_value b)).name.now) o ≡ Some name
-      → option_map (λ p. p.1) (subcommand_rows o) ≡ Some rows
-      → entered_texts (subcommand_rows o) name argument ≡ all_of argument rows
-  texts-entered o name argument rows n r =
-      ap (λ entered. entered_texts entered name argument) (entered_is o name rows n r)
-      ∙ ap (λ b. if b then all_of argument rows else None) ((bytes_eq-Decides name name).1 refl)
-
-  -- another command has no texts
-  pub texts-other : (o : Option (Box SubCommand Z)) (name argument : Text)
-      → (option_map (λ b. (out-SubCommand (box_value b)).name.now) o ≡ Some name → ⊥)
-      → entered_texts (subcommand_rows o) name argument ≡ None
-  texts-other None name argument other = refl
-  texts-other (Some b) name argument other =
-      let entered = (out-SubCommand (box_value b)).name.now in
-      ap (λ x. if x then all_of argument (rows_of (found_of (out-SubCommand (box_value b)).matches)) else None)
-      (false_from_ne_true (bytes_eq entered name) (λ same. other (ap Some ((bytes_eq-Decides entered name).0 same))))

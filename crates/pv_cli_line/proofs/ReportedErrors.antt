@@ -3,7 +3,15 @@ use Rattle.std.proofs.Common.{◌≡◌, ◌≢◌, ◌∙◌, [], sym, refl, su
 use Rattle.std.specs.Prelude.{Result, Ok, Err}
 use Rattle.pv_model.specs.declared.stream.Failed.{Failed}
 use Rattle.pv_model.specs.declared.stream.Sink.{Ghosts as Writing}
+use Rattle.pv_model.specs.declared.stream.Source.{Ghosts as Reading}
+use Rattle.pv_cli_commands.specs.Commands.{Performs}
+use Rattle.pv_cli_commands.specs.Streams.{Disk, Host}
+use Rattle.pv_cli_commands.specs.declared.command.Command.{Command}
 use Rattle.pv_cli_commands.specs.declared.system.HostSystem.{HostSystem}
+use Rattle.pv_cli_commands.specs.OfQuestions.Answered.{BuffersNothing}
+use Rattle.pv_cli_commands.specs.OfQuestions.Failures.{failure_status}
+use Rattle.pv_cli_commands.specs.OfQuestions.declared.failure.Failure.{Failure}
+use Rattle.pv_cli_commands.specs.OfQuestions.declared.failure.Failure.TheVariants.{Write}
 use Rattle.pv_cli_line.specs.declared.fault.Fault.{Fault}
 use Rattle.pv_model.specs.Machine.{Bytes}
 use Rattle.pv_streams.specs.Sinks.{Writes}
@@ -106,3 +114,15 @@ module _ {F I O E : Type 0} (reporting : Writing E) (requested : Bool) (notes : 
     unrequested = λ unsaid. let bad : true ≡ false = sym said ∙ unsaid in cc bad;
     silent = λ none. absurd (some none);
   }
+
+-- a failure with another status than that of a write leaves nothing buffered
+pub flushed_by_status : (failure : Failure) (waiting : ℕ) → BuffersNothing {T = Unit {0}} (Err failure) waiting → failure_status failure ≢ 4 → waiting ≡ 0
+flushed_by_status (Write target) waiting flushed other = absurd (other refl)
+flushed_by_status failure waiting flushed other = flushed
+
+-- a command was carried out, and there were no notes before
+pub performed_first : {F R V T I O E : Type 0} (disk : Disk F R V) (host : Host F T) (reading : Reading I) (writing : Writing O) (reporting : Writing E) (command : Command)
+    (before after : HostSystem F I O E) (old new : Bytes) (result : Result (Unit {0}) Failure) → old ≡ []
+    → Performs disk host reading writing reporting command before after old new result → Performs disk host reading writing reporting command before after [] new result
+performed_first disk host reading writing reporting command before after old new result none performs =
+    subst (λ (was : Bytes). Performs disk host reading writing reporting command before after was new result) none performs

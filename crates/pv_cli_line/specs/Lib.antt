@@ -4,3 +4,4 @@ pub mod Parser
 pub mod Paths
 pub mod Program
 pub mod Status
+pub mod Words

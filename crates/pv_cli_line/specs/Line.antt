@@ -1,5 +1,5 @@
 -- The command in the words of a command line.
-use Rattle.std.specs.Prelude.{◌≡◌, ◌≢◌, ◌⊎◌, ⊤, ℕ, ◌<◌, Bool, ◌&&◌, ◌||◌, not, nat_le, true, false, if◌then◌else◌, bytes_eq, IsTrue, List, [], ◌∷◌, length, filter_map, codes, Option, None, Some, IfSome, option_map, unwrap_or}
+use Rattle.std.specs.Prelude.{◌≡◌, ◌≢◌, ◌⊎◌, ⊤, ℕ, ◌<◌, Bool, ◌&&◌, ◌||◌, not, nat_le, true, false, if◌then◌else◌, bytes_eq, IsTrue, is_some, List, [], ◌∷◌, ◌++◌, length, filter_map, codes, Option, None, Some, IfSome, option_map, unwrap_or, Result, Ok, Err}
 use Rattle.std.specs.Borrow.{Bor}
 use Rattle.std.specs.List.{list_all, list_any}
 use Rattle.std.specs.Option.{IsSomeAnd}
@@ -12,54 +12,26 @@ use Rattle.pv_model.specs.Machine.{decimal_of}
 use Rattle.pv_model.specs.declared.version.Version.{Version}
 use Rattle.pv_model.specs.declared.version.Version.TheVariants.{V1, V2}
 use Rattle.pv_cli_commands.specs.declared.command.Command.{Command}
-use Rattle.pv_cli_commands.specs.declared.command.Command.TheVariants.{RunTree, MakeImage, ListImage, RunImage, MigrateImage, ImportDirectory, ExportImage, AuditImage, WriteSource, Ask, AskTree, Compare}
-use Rattle.pv_cli_commands.specs.declared.command.CompareInput.{CompareInput}
-use Rattle.pv_cli_commands.specs.declared.command.CompareInput.TheVariants.{Images, Bundles}
-use Rattle.pv_cli_commands.specs.declared.command.RunInput.{RunInput}
-use Rattle.pv_cli_commands.specs.declared.command.RunInput.TheVariants.{Image as OfImage, Bundle, Manifest as OfManifest}
+use Rattle.pv_cli_commands.specs.declared.command.Command.TheVariants.{Ask, Compare, WriteSource, MakeImage, RunImage, MigrateImage, ImportDirectory, ExportImage}
+use Rattle.pv_cli_commands.specs.declared.command.InputFile.{InputFile}
+use Rattle.pv_cli_commands.specs.declared.command.InputFile.TheVariants as input
 use Rattle.pv_cli_commands.specs.declared.command.ScheduleInput.{ScheduleInput}
-use Rattle.pv_cli_commands.specs.declared.command.ScheduleInput.TheVariants.{File as InFile, Turns as AsTurns}
-use Rattle.pv_cli_commands.specs.declared.command.TextInput.{TextInput}
-use Rattle.pv_cli_commands.specs.declared.command.TextInput.TheVariants.{Plain, Source as OfSource}
-use Rattle.pv_cli_commands.specs.declared.command.TreeInput.{TreeInput}
-use Rattle.pv_cli_commands.specs.declared.command.TreeInput.TheVariants.{Image, Manifest}
-use Rattle.pv_cli_commands.specs.OfQuestions.declared.question.Question.{Question}
-use Rattle.pv_cli_commands.specs.OfQuestions.declared.question.Question.TheVariants.{Trace, State, Reach, Explain, Needs, Audit, Reasons}
-use Rattle.pv_cli_commands.specs.OfQuestions.Schedules.{are_turns}
+use Rattle.pv_cli_commands.specs.declared.command.ScheduleInput.TheVariants.{Own, File as InFile, Turns as AsTurns, Fair}
 use Rattle.pv_cli_commands.specs.OfQuestions.FilePaths.{paths_of}
+use Rattle.pv_cli_commands.specs.OfQuestions.Schedules.{are_turns}
 use Rattle.pv_cli_commands.specs.OfQuestions.declared.question.Files.{Files}
-use Rattle.pv_cli_commands.specs.OfQuestions.declared.question.RunQuestion.{RunQuestion}
-use Rattle.pv_cli_commands.specs.OfQuestions.declared.question.TreeQuestion.{TreeQuestion}
-use Rattle.pv_cli_commands.specs.OfQuestions.declared.question.TreeQuestion.TheVariants.{Listing, File, Turns, Search as OfSearch}
-use Rattle.pv_cli_commands.specs.OfQuestions.declared.question.Search.{Search}
-use Rattle.pv_cli_commands.specs.OfQuestions.declared.question.Search.TheVariants.{Explore, Access, Exposure, Policy, Graph}
+use Rattle.pv_cli_commands.specs.OfQuestions.declared.question.Question.{Question}
+use Rattle.pv_cli_commands.specs.OfQuestions.declared.question.Question.TheVariants as asked
 use Rattle.pv_cli_commands.specs.OfReduced.declared.kind.SearchKind.{SearchKind}
 use Rattle.pv_cli_commands.specs.OfReduced.declared.kind.SearchKind.TheVariants.{Full, Reduced}
-use Rattle.pv_cli_line.specs.declared.matches.Parsed.{Parsed}
-use Rattle.pv_cli_line.specs.declared.matches.Parsed.TheVariants as found
+use Rattle.pv_cli_line.specs.declared.matches.NoCommand.{NoCommand}
+use Rattle.pv_cli_line.specs.declared.matches.NoCommand.TheVariants as lacks
 use Rattle.pv_cli_line.specs.declared.command.LineFault.{LineFault}
 use Rattle.pv_cli_line.specs.declared.command.LineFault.TheVariants as line
-use Rattle.pv_cli_line.specs.declared.matches.Migration.{Migration}
-use Rattle.pv_cli_line.specs.declared.texts.RunTexts.{RunTexts}
-use Rattle.pv_cli_line.specs.declared.texts.TreeTexts.{TreeTexts}
-use Rattle.pv_cli_line.specs.declared.texts.Given.{Given}
-use Rattle.pv_cli_line.specs.declared.texts.Given.TheVariants.{Nothing, One, Both}
 use Rattle.pv_source.specs.declared.source.Output.{Output}
 use Rattle.pv_source.specs.declared.source.Output.TheVariants.{Translation, ProgramLines}
 use Rattle.pv_cli_line.specs.Parser.{pvsim_app}
 use Rattle.pv_cli_line.specs.Paths.{is_plain_path}
-
--- the empty predicate, and the empty relation
-abbrev pub Never : {A : Type 0} → (A → Type 0) → Type 0
-Never {A} holds = (x : A) → holds x → ⊥
-
-abbrev pub NeverBoth : {A B : Type 0} → (A → B → Type 0) → Type 0
-NeverBoth {A} {B} hold = (x : A) (y : B) → hold x y → ⊥
-
--- the text of an argument, if the command was entered
-abbrev pub entered_text : Option (Text × List Row) → Text → Text → Option Text
-entered_text None command argument = None
-entered_text (Some p) command argument = if bytes_eq p.0 command then first_of argument p.1 else None
 
 -- the text of a flag says that it is set
 abbrev pub is_given : Option Text → Bool
@@ -107,129 +79,110 @@ abbrev pub version_in : Option Text → Option Version
 version_in None = Some V1
 version_in (Some word) = if bytes_eq word (codes "1") then Some V1 else (if bytes_eq word (codes "2") then Some V2 else None)
 
--- the text of an argument was entered and is this number
-pub record EncodesSize (entered : Option (Text × List Row)) (command argument : Text) (size : ℕ) : Type 0 where
-  pub word : Text
-  pub is_entered : entered_text entered command argument ≡ Some word
-  pub is_size : size_in word ≡ Some size
+-- the empty predicate, and the empty relation
+abbrev pub Never : {A : Type 0} → (A → Type 0) → Type 0
+Never {A} holds = (x : A) → holds x → ⊥
 
--- exactly one of a file and turns is given, and is this schedule
-abbrev pub IsScheduleOf : (file turns : Option Text) → ScheduleInput → Type 0
-IsScheduleOf file turns (InFile schedule) = (file ≡ Some schedule.now) × (turns ≡ None)
-IsScheduleOf file turns (AsTurns given) = (file ≡ None) × (turns ≡ Some given.now)
+abbrev pub NeverBoth : {A B : Type 0} → (A → B → Type 0) → Type 0
+NeverBoth {A} {B} hold = (x : A) (y : B) → hold x y → ⊥
 
--- a manifest or bundle was entered: one of `--bundle FILE` and `--source FILE`
-abbrev pub IsTextIn : Option (Text × List Row) → Text → TextInput → Type 0
-IsTextIn entered command (Plain file) =
-    (entered_text entered command (codes "bundle") ≡ Some file.now) × (entered_text entered command (codes "source") ≡ None)
-IsTextIn entered command (OfSource file) =
-    (entered_text entered command (codes "bundle") ≡ None) × (entered_text entered command (codes "source") ≡ Some file.now)
+abbrev pub NeverRun : (InputFile → ScheduleInput → Option Text → Type 0) → Type 0
+NeverRun hold = (file : InputFile) (schedule : ScheduleInput) (further : Option Text) → hold file schedule further → ⊥
 
--- neither was entered
-abbrev pub IsTextless : Option (Text × List Row) → Text → Type 0
-IsTextless entered command =
-    (entered_text entered command (codes "bundle") ≡ None) × (entered_text entered command (codes "source") ≡ None)
+-- ---- the words of a command: its input, and those after it
 
--- neither, one or both were entered
-abbrev pub IsGivenIn : Option (Text × List Row) → Text → Given → Type 0
-IsGivenIn entered command Nothing = IsTextless entered command × ((text : TextInput) → IsTextIn entered command text → ⊥)
-IsGivenIn entered command (One text) = IsTextIn entered command text × (IsTextless entered command → ⊥)
-IsGivenIn entered command Both = (IsTextless entered command → ⊥) × ((text : TextInput) → IsTextIn entered command text → ⊥)
+-- a word, if there is one
+abbrev pub list_of : Option Text → List Text
+list_of None = []
+list_of (Some word) = word ∷ []
 
--- the input of a run was entered, and the argument after it: an image and a schedule, followed by the argument `last`,
--- or a bundle in their place; turns may be in the place of the schedule, and a manifest and a schedule, with an argument
--- after them, in that of the bundle
-abbrev pub IsRunIn : Option (Text × List Row) → (command last : Text) → RunInput → Option Text → Type 0
-IsRunIn entered command last (OfImage image (InFile schedule)) further =
-    IsTextless entered command × (entered_text entered command (codes "by") ≡ None)
-    × (entered_text entered command (codes "IMAGE") ≡ Some image.now) × (entered_text entered command (codes "SCHEDULE") ≡ Some schedule.now)
-    × (entered_text entered command last ≡ further)
-IsRunIn entered command last (OfImage image (AsTurns turns)) further =
-    IsTextless entered command × (entered_text entered command (codes "by") ≡ Some turns.now)
-    × (entered_text entered command (codes "IMAGE") ≡ Some image.now) × (entered_text entered command (codes "SCHEDULE") ≡ further)
-    × (entered_text entered command last ≡ None)
-IsRunIn entered command last (Bundle bundle) further =
-    IsTextIn entered command bundle × (entered_text entered command (codes "by") ≡ None)
-    × (entered_text entered command (codes "IMAGE") ≡ further) × (entered_text entered command (codes "SCHEDULE") ≡ None)
-IsRunIn entered command last (OfManifest manifest (InFile schedule)) further =
-    IsTextIn entered command manifest × (entered_text entered command (codes "by") ≡ None)
-    × (entered_text entered command (codes "IMAGE") ≡ Some schedule.now) × (entered_text entered command (codes "SCHEDULE") ≡ further)
-    × (entered_text entered command last ≡ None) × (further ≢ None)
-IsRunIn entered command last (OfManifest manifest (AsTurns turns)) further =
-    IsTextIn entered command manifest × (entered_text entered command (codes "by") ≡ Some turns.now)
-    × (entered_text entered command (codes "IMAGE") ≡ further) × (entered_text entered command (codes "SCHEDULE") ≡ None)
+-- the words of a command beside its options, of which the last has this name
+abbrev pub words_entered : List Row → Text → List Text
+words_entered rows last = list_of (first_of (codes "FILE") rows) ++ list_of (first_of (codes "SCHEDULE") rows) ++ list_of (first_of last rows)
 
-abbrev pub AreRunTextsIn : Option (Text × List Row) → (command last : Text) → RunTexts → Type 0
-AreRunTextsIn entered command last texts = IsRunIn entered command last texts.run (option_map (λ text. text.now) texts.further)
+-- the input of a command and the words after it: a bundle or a source that an option names, or the first word
+abbrev pub IsGivenBy : (bundle source : Option Text) → List Text → InputFile → List Text → Type 0
+IsGivenBy bundle source words (input.Bundle name) rest = (bundle ≡ Some name.now) × (source ≡ None) × (rest ≡ words)
+IsGivenBy bundle source words (input.Any name) rest =
+    (bundle ≡ None) × (((source ≡ Some name.now) × (rest ≡ words)) ⊎ ((source ≡ None) × (words ≡ name.now ∷ rest)))
+IsGivenBy bundle source words (input.Source name) rest = ⊥
 
--- the same for a command without a further argument
-abbrev pub IsValidRunIn : Option (Text × List Row) → Text → RunInput → Type 0
-IsValidRunIn entered command (OfImage image schedule) =
-    IsTextless entered command × (entered_text entered command (codes "IMAGE") ≡ Some image.now)
-    × IsScheduleOf (entered_text entered command (codes "SCHEDULE")) (entered_text entered command (codes "by")) schedule
-IsValidRunIn entered command (Bundle bundle) =
-    IsTextIn entered command bundle × (entered_text entered command (codes "by") ≡ None)
-    × (entered_text entered command (codes "IMAGE") ≡ None) × (entered_text entered command (codes "SCHEDULE") ≡ None)
-IsValidRunIn entered command (OfManifest manifest schedule) =
-    IsTextIn entered command manifest × (entered_text entered command (codes "SCHEDULE") ≡ None)
-    × IsScheduleOf (entered_text entered command (codes "IMAGE")) (entered_text entered command (codes "by")) schedule
+abbrev pub IsGivenIn : List Row → Text → InputFile → List Text → Type 0
+IsGivenIn rows last file rest = IsGivenBy (first_of (codes "bundle") rows) (first_of (codes "source") rows) (words_entered rows last) file rest
 
--- the input with a tree was entered, and the argument after it: an image, followed by the argument `last`, or a
--- manifest in its place
-abbrev pub IsTreeIn : Option (Text × List Row) → (command last : Text) → TreeInput → Option Text → Type 0
-IsTreeIn entered command last (Image image) further =
-    IsTextless entered command × (entered_text entered command (codes "IMAGE") ≡ Some image.now)
-    × (entered_text entered command last ≡ further)
-IsTreeIn entered command last (Manifest manifest) further =
-    IsTextIn entered command manifest × (entered_text entered command (codes "IMAGE") ≡ further)
-    × (entered_text entered command last ≡ None)
+-- these are the words after a schedule that takes no word; `takes_last` says whether the command takes one
+abbrev pub AreLast : Bool → List Text → Option Text → Type 0
+AreLast takes_last words further = (words ≡ list_of further) × (takes_last ≡ false → further ≡ None)
 
-abbrev pub AreTreeTextsIn : Option (Text × List Row) → (command last : Text) → TreeTexts → Type 0
-AreTreeTextsIn entered command last texts = IsTreeIn entered command last texts.tree (option_map (λ text. text.now) texts.further)
+-- the schedule of a run, and the word after it
+abbrev pub IsScheduledBy : (by : Option Text) → (fair takes_last : Bool) → List Text → ScheduleInput → Option Text → Type 0
+IsScheduledBy by fair takes_last words (AsTurns turns) further = (by ≡ Some turns.now) × (fair ≡ false) × AreLast takes_last words further
+IsScheduledBy by fair takes_last words Fair further = (by ≡ None) × (fair ≡ true) × AreLast takes_last words further
+IsScheduledBy by fair takes_last words Own further = (by ≡ None) × (fair ≡ false) × AreLast takes_last words further
+IsScheduledBy by fair takes_last words (InFile name) further =
+    (by ≡ None) × (fair ≡ false) × (words ≡ name.now ∷ list_of further) × (is_some further ≡ takes_last)
 
--- the same for a command without a further argument
-abbrev pub IsValidTreeIn : Option (Text × List Row) → Text → TreeInput → Type 0
-IsValidTreeIn entered command tree = IsTreeIn entered command (codes "PATH") tree None
+abbrev pub IsScheduledIn : List Row → (takes_last : Bool) → List Text → ScheduleInput → Option Text → Type 0
+IsScheduledIn rows takes_last words schedule further =
+    IsScheduledBy (first_of (codes "by") rows) (is_set rows (codes "turns")) takes_last words schedule further
 
--- the numbers of steps of `turns`, or their defaults
-abbrev pub slice_entered : Option (Text × List Row) → Option ℕ
-slice_entered entered = count_or_default 1 (entered_text entered (codes "turns") (codes "slice"))
+abbrev pub input_file_name : InputFile → Text
+input_file_name (input.Any name) = name.now
+input_file_name (input.Bundle name) = name.now
+input_file_name (input.Source name) = name.now
 
-abbrev pub steps_entered : Option (Text × List Row) → Option ℕ
-steps_entered entered = count_or_default 1000 (entered_text entered (codes "turns") (codes "steps"))
+-- the input and the schedule are not both the standard input
+abbrev pub IsReadOnce : InputFile → ScheduleInput → Type 0
+IsReadOnce file (InFile name) = bytes_eq (input_file_name file) (codes "-") && bytes_eq name.now (codes "-") ≡ false
+IsReadOnce file schedule = ⊤
 
--- the number of states of a search, or its default
-abbrev pub states_entered : Option (Text × List Row) → Text → Option ℕ
-states_entered entered command = states_in (entered_text entered command (codes "states"))
+-- the input of a question about a run, its schedule, and the word after them
+pub record IsRunIn (rows : List Row) (last : Text) (takes_last : Bool) (file : InputFile) (schedule : ScheduleInput) (further : Option Text) : Type 0 where
+  pub rest : List Text
+  pub is_given : IsGivenIn rows last file rest
+  pub is_scheduled : IsScheduledIn rows takes_last rest schedule further
+  pub is_read_once : IsReadOnce file schedule
 
--- the version, or its default
-abbrev pub version_entered : Option (Text × List Row) → Option Version
-version_entered entered = version_in (entered_text entered (codes "import") (codes "image-version"))
+-- a word of digits
+abbrev pub is_digits : Text → Bool
+is_digits word = list_all (λ b. nat_le 48 b && nat_le b 57) word
 
--- the output of `source`
-abbrev pub output_entered : Option (Text × List Row) → Output
-output_entered entered = if is_given (entered_text entered (codes "source") (codes "lines")) then ProgramLines else Translation
+-- a single word after an input of `reach` that may be an image is the schedule, unless it has only digits
+abbrev pub IsMisplaced : InputFile → ScheduleInput → Option Text → Type 0
+IsMisplaced (input.Any name) Own (Some word) = is_digits word ≡ false
+IsMisplaced file schedule further = ⊥
 
--- the name of the command of a search
-abbrev pub search_name : Search → Text
-search_name (Explore kind) = codes "explore"
-search_name (Access kind files) = codes "access"
-search_name (Exposure kind files) = codes "exposure"
-search_name (Policy kind granted) = codes "policy"
-search_name (Graph lists_tree) = codes "graph"
+abbrev pub IsReachIn : List Row → InputFile → ScheduleInput → Option Text → Type 0
+IsReachIn rows file (InFile name) None =
+    IsRunIn rows (codes "PID") true file Own (Some name.now) × IsMisplaced file Own (Some name.now) × IsReadOnce file (InFile name)
+IsReachIn rows file schedule further = IsRunIn rows (codes "PID") true file schedule further × (IsMisplaced file schedule further → ⊥)
 
--- the kind of the search of a command, which the flag `reduced` chooses
-abbrev pub kind_entered : Option (Text × List Row) → Text → SearchKind
-kind_entered entered command = if is_given (entered_text entered command (codes "reduced")) then Reduced else Full
+-- the number in a word, if there is one
+abbrev pub IsNumberIn : Option Text → Option ℕ → Type 0
+IsNumberIn word number = option_map size_in word ≡ option_map (λ n. Some n) number
 
--- the texts of an argument that may be given more than once, if the command was entered
-abbrev pub entered_texts : Option (Text × List Row) → Text → Text → Option (List Text)
-entered_texts None command argument = None
-entered_texts (Some p) command argument = if bytes_eq p.0 command then all_of argument p.1 else None
+-- a question about a tree: its schedule is not used
+abbrev pub IsTreeIn : List Row → InputFile → List Text → ScheduleInput → Option ℕ → Type 0
+IsTreeIn rows file rest Own None = IsGivenIn rows (codes "PATH") file rest
+IsTreeIn rows file rest schedule steps = ⊥
+
+-- the file of `run-tree`, which the flag `source` makes a source
+abbrev pub IsTracedIn : List Row → InputFile → Type 0
+IsTracedIn rows (input.Bundle name) = (first_of (codes "FILE") rows ≡ Some name.now) × (is_set rows (codes "source") ≡ false)
+IsTracedIn rows (input.Source name) = (first_of (codes "FILE") rows ≡ Some name.now) × (is_set rows (codes "source") ≡ true)
+IsTracedIn rows (input.Any name) = ⊥
+
+abbrev pub IsTracedBy : Option Text → ScheduleInput → Type 0
+IsTracedBy by (AsTurns turns) = by ≡ Some turns.now
+IsTracedBy by Own = by ≡ None
+IsTracedBy by schedule = ⊥
+
+abbrev pub kind_in : List Row → SearchKind
+kind_in rows = if is_set rows (codes "reduced") then Reduced else Full
 
 -- the files of a search that were entered
-abbrev pub files_entered : Option (Text × List Row) → Text → List Text
-files_entered entered command = unwrap_or (entered_texts entered command (codes "file")) []
+abbrev pub files_entered : List Row → List Text
+files_entered rows = unwrap_or (all_of (codes "file") rows) []
 
 -- the paths that there are
 abbrev pub present_paths : List (Option (Bor (List ℕ))) → List Text
@@ -238,197 +191,111 @@ present_paths paths = filter_map (λ path. option_map (λ p. p.now) path) paths
 abbrev pub paths_in : Files → List Text
 paths_in files = present_paths (paths_of files)
 
--- the flags and files of the command of a search are those entered
-abbrev pub HasFlags : Option (Text × List Row) → Search → Type 0
-HasFlags entered (Explore kind) = kind_entered entered (codes "explore") ≡ kind
-HasFlags entered (Access kind files) =
-    (kind_entered entered (codes "access") ≡ kind) × (paths_in files ≡ files_entered entered (codes "access"))
-HasFlags entered (Exposure kind files) =
-    (kind_entered entered (codes "exposure") ≡ kind) × (paths_in files ≡ files_entered entered (codes "exposure"))
-HasFlags entered (Policy kind granted) =
-    (kind_entered entered (codes "policy") ≡ kind) × (is_given (entered_text entered (codes "policy") (codes "granted")) ≡ granted)
-HasFlags entered (Graph lists_tree) = is_given (entered_text entered (codes "graph") (codes "tree")) ≡ lists_tree
-
--- a question about a tree was entered, with its input
-abbrev pub IsTreeQuestionIn : Option (Text × List Row) → TreeQuestion → TreeInput → Type 0
-IsTreeQuestionIn entered Listing (Manifest manifest) = IsValidTreeIn entered (codes "ls") (Manifest manifest)
-IsTreeQuestionIn entered Listing (Image image) = ⊥
-IsTreeQuestionIn entered (File path) tree = IsTreeIn entered (codes "cat") (codes "PATH") tree (Some path.now)
-IsTreeQuestionIn entered (Turns slice steps) tree =
-    IsValidTreeIn entered (codes "turns") tree × (slice_entered entered ≡ Some slice) × (steps_entered entered ≡ Some steps)
-IsTreeQuestionIn entered (OfSearch search states) tree =
-    IsValidTreeIn entered (search_name search) tree × (states_entered entered (search_name search) ≡ Some states) × HasFlags entered search
-
--- whether both bundles are the standard input
-abbrev pub are_both_input : (first second : Text) → Bool
-are_both_input first second = bytes_eq first (codes "-") && bytes_eq second (codes "-")
-
--- two inputs to be compared were entered: two images, or a bundle and, in the place of the first image, another one
-abbrev pub AreComparedIn : Option (Text × List Row) → CompareInput → Type 0
-AreComparedIn entered (Images first second) =
-    (entered_text entered (codes "compare") (codes "bundle") ≡ None) × (entered_text entered (codes "compare") (codes "IMAGE") ≡ Some first.now)
-    × (entered_text entered (codes "compare") (codes "OTHER") ≡ Some second.now)
-AreComparedIn entered (Bundles first second) =
-    (entered_text entered (codes "compare") (codes "bundle") ≡ Some first.now) × (entered_text entered (codes "compare") (codes "IMAGE") ≡ Some second.now)
-    × (entered_text entered (codes "compare") (codes "OTHER") ≡ None) × (are_both_input first.now second.now ≡ false)
-
--- the text of a number, if there is one, is this number
-abbrev pub ParsesAsNumber : Option Text → Option ℕ → Type 0
-ParsesAsNumber word number = option_map size_in word ≡ option_map (λ n. Some n) number
-
--- the command of a question about a run
-abbrev pub question_name : Question → Text
-question_name Trace = codes "run-tree"
-question_name State = codes "state"
-question_name (Reach pid) = codes "reach"
-question_name (Explain errors allowed) = codes "explain"
-question_name (Needs granted) = codes "needs"
-question_name (Audit path) = codes "audit"
-question_name (Reasons path) = codes "audit"
-
--- the file of `run-tree` was entered, which the flag `source` makes a source
-abbrev pub IsTracedTextIn : Option (Text × List Row) → TextInput → Type 0
-IsTracedTextIn entered (Plain file) =
-    (entered_text entered (codes "run-tree") (codes "FILE") ≡ Some file.now) × (is_given (entered_text entered (codes "run-tree") (codes "source")) ≡ false)
-IsTracedTextIn entered (OfSource file) =
-    (entered_text entered (codes "run-tree") (codes "FILE") ≡ Some file.now) × (is_given (entered_text entered (codes "run-tree") (codes "source")) ≡ true)
-
--- the input of `run-tree` was entered: a bundle, or a manifest with turns
-abbrev pub IsTracedIn : Option (Text × List Row) → RunInput → Type 0
-IsTracedIn entered (Bundle bundle) = IsTracedTextIn entered bundle × (entered_text entered (codes "run-tree") (codes "by") ≡ None)
-IsTracedIn entered (OfManifest manifest (AsTurns turns)) =
-    IsTracedTextIn entered manifest × (entered_text entered (codes "run-tree") (codes "by") ≡ Some turns.now)
-IsTracedIn entered run = ⊥
-
 -- the reasons of errors and the lines of execve(2) are written, unless the flag `brief` is given without the flag `errors`
-abbrev pub errors_entered : Option (Text × List Row) → Bool
-errors_entered entered = is_given (entered_text entered (codes "explain") (codes "errors")) || not (is_given (entered_text entered (codes "explain") (codes "brief")))
+abbrev pub errors_entered : List Row → Bool
+errors_entered rows = is_set rows (codes "errors") || not (is_set rows (codes "brief"))
 
--- the reason why each walk is allowed is written
-abbrev pub allowed_entered : Option (Text × List Row) → Bool
-allowed_entered entered = is_given (entered_text entered (codes "explain") (codes "allowed"))
+-- the name of the command of a question
+abbrev pub question_name : Question → Text
+question_name asked.Trace = codes "run-tree"
+question_name asked.State = codes "state"
+question_name (asked.Reach pid) = codes "reach"
+question_name (asked.Explain errors allowed) = codes "explain"
+question_name (asked.Needs granted) = codes "needs"
+question_name (asked.Audit path) = codes "audit"
+question_name (asked.Reasons path) = codes "audit"
+question_name asked.Listing = codes "ls"
+question_name (asked.File path) = codes "cat"
+question_name (asked.Turns slice steps) = codes "turns"
+question_name (asked.Explore kind states) = codes "explore"
+question_name (asked.Access kind files states) = codes "access"
+question_name (asked.Exposure kind files states) = codes "exposure"
+question_name (asked.Policy kind granted states) = codes "policy"
+question_name (asked.Graph tree states) = codes "graph"
 
--- a question about a run was entered, with its input
-abbrev pub IsQuestionIn : Option (Text × List Row) → Question → RunInput → Type 0
-IsQuestionIn entered Trace run = IsTracedIn entered run
-IsQuestionIn entered State run = IsValidRunIn entered (codes "state") run
-IsQuestionIn entered (Reach pid) run = (word : Option Text) × IsRunIn entered (codes "reach") (codes "PID") run word × ParsesAsNumber word pid
-IsQuestionIn entered (Explain errors allowed) run =
-    IsValidRunIn entered (codes "explain") run × (errors_entered entered ≡ errors) × (allowed_entered entered ≡ allowed)
-IsQuestionIn entered (Needs granted) run =
-    IsValidRunIn entered (codes "needs") run × (is_given (entered_text entered (codes "needs") (codes "granted")) ≡ granted)
-IsQuestionIn entered (Audit path) run =
-    IsRunIn entered (codes "audit") (codes "PATH") run (option_map (λ bytes. bytes.now) path) × (is_given (entered_text entered (codes "audit") (codes "reasons")) ≡ false)
-IsQuestionIn entered (Reasons path) run =
-    IsRunIn entered (codes "audit") (codes "PATH") run (option_map (λ bytes. bytes.now) path) × (is_given (entered_text entered (codes "audit") (codes "reasons")) ≡ true)
+module _ (rows : List Row) (file : InputFile) (schedule : ScheduleInput) (steps : Option ℕ) where
+  -- a question about a run, with the word after its schedule; and one about a tree, with the words after its input
+  abbrev pub IsAskedOfRun : Type 0
+  IsAskedOfRun = IsRunIn rows (codes "PATH") false file schedule None × IsNumberIn (first_of (codes "steps") rows) steps
 
--- the text of the number of steps of the question, if there is one
-abbrev pub steps_word : Option (Text × List Row) → Question → Option Text
-steps_word entered question = entered_text entered (question_name question) (codes "steps")
+  abbrev pub IsAskedOfSearch : SearchKind → ℕ → Type 0
+  IsAskedOfSearch kind states =
+      IsTreeIn rows file [] schedule steps × (states_in (first_of (codes "states") rows) ≡ Some states) × (kind_in rows ≡ kind)
 
--- the question about a complete run is not another command: `run-tree` of a plain bundle, or `audit` of an image
--- and a schedule
-abbrev pub IsUnderTurns : RunInput → Type 0
-IsUnderTurns (Bundle (Plain file)) = ⊥
-IsUnderTurns run = ⊤
+  -- the arguments of a question, its input and its schedule were entered
+  abbrev pub IsQuestionIn : Question → Type 0
+  IsQuestionIn asked.Trace = IsTracedIn rows file × IsTracedBy (first_of (codes "by") rows) schedule × IsNumberIn (first_of (codes "steps") rows) steps
+  IsQuestionIn asked.State = IsAskedOfRun
+  IsQuestionIn (asked.Reach pid) =
+      (word : Option Text) × IsReachIn rows file schedule word × IsNumberIn word pid × IsNumberIn (first_of (codes "steps") rows) steps
+  IsQuestionIn (asked.Explain errors allowed) = IsAskedOfRun × (errors_entered rows ≡ errors) × (is_set rows (codes "allowed") ≡ allowed)
+  IsQuestionIn (asked.Needs granted) = IsAskedOfRun × (is_set rows (codes "granted") ≡ granted)
+  IsQuestionIn (asked.Audit path) =
+      IsRunIn rows (codes "PATH") true file schedule (option_map (λ p. p.now) path) × IsNumberIn (first_of (codes "steps") rows) steps × (is_set rows (codes "reasons") ≡ false)
+  IsQuestionIn (asked.Reasons path) =
+      IsRunIn rows (codes "PATH") true file schedule (option_map (λ p. p.now) path) × IsNumberIn (first_of (codes "steps") rows) steps × (is_set rows (codes "reasons") ≡ true)
+  IsQuestionIn asked.Listing = IsTreeIn rows file [] schedule steps
+  IsQuestionIn (asked.File path) = IsTreeIn rows file (path.now ∷ []) schedule steps
+  IsQuestionIn (asked.Turns slice limit) =
+      IsTreeIn rows file [] schedule steps × (count_or_default 1 (first_of (codes "slice") rows) ≡ Some slice) × (count_or_default 1000 (first_of (codes "steps") rows) ≡ Some limit)
+  IsQuestionIn (asked.Explore kind states) = IsAskedOfSearch kind states
+  IsQuestionIn (asked.Access kind files states) = IsAskedOfSearch kind states × (paths_in files ≡ files_entered rows)
+  IsQuestionIn (asked.Exposure kind files states) = IsAskedOfSearch kind states × (paths_in files ≡ files_entered rows)
+  IsQuestionIn (asked.Policy kind granted states) = IsAskedOfSearch kind states × (is_set rows (codes "granted") ≡ granted)
+  IsQuestionIn (asked.Graph tree states) =
+      IsTreeIn rows file [] schedule steps × (states_in (first_of (codes "states") rows) ≡ Some states) × (is_set rows (codes "tree") ≡ tree)
 
-abbrev pub IsOtherThanFiles : RunInput → Type 0
-IsOtherThanFiles (OfImage image (InFile schedule)) = ⊥
-IsOtherThanFiles run = ⊤
+-- two inputs that are compared: two words, or a bundle and a word; only one of them is the standard input
+abbrev pub IsComparedIn : List Row → InputFile → InputFile → Type 0
+IsComparedIn rows (input.Any first) (input.Any second) =
+    (first_of (codes "bundle") rows ≡ None) × (first_of (codes "FILE") rows ≡ Some first.now) × (first_of (codes "OTHER") rows ≡ Some second.now)
+    × (bytes_eq first.now (codes "-") && bytes_eq second.now (codes "-") ≡ false)
+IsComparedIn rows (input.Bundle first) (input.Bundle second) =
+    (first_of (codes "bundle") rows ≡ Some first.now) × (first_of (codes "FILE") rows ≡ Some second.now) × (first_of (codes "OTHER") rows ≡ None)
+    × (bytes_eq first.now (codes "-") && bytes_eq second.now (codes "-") ≡ false)
+IsComparedIn rows first second = ⊥
 
-abbrev pub IsOwnWholly : Question → RunInput → Type 0
-IsOwnWholly Trace run = IsUnderTurns run
-IsOwnWholly (Audit path) run = IsOtherThanFiles run
-IsOwnWholly question run = ⊤
+abbrev pub IsExportedIn : List Row → InputFile → Type 0
+IsExportedIn rows (input.Any name) = first_of (codes "FILE") rows ≡ Some name.now
+IsExportedIn rows file = ⊥
 
-abbrev pub IsOwnQuestion : Question → Option ℕ → RunInput → Type 0
-IsOwnQuestion question (Some steps) run = ⊤
-IsOwnQuestion question None run = IsOwnWholly question run
+-- the text of an argument is this number
+abbrev pub IsSizeIn : List Row → Text → ℕ → Type 0
+IsSizeIn rows argument size = IsNumberIn (first_of argument rows) (Some size)
 
--- the command of a question
-abbrev pub IsCommandOf : RunQuestion → RunInput → Command → Type 0
-IsCommandOf question run (RunTree file) = (question.question ≡ Trace) × (question.steps ≡ None) × (run ≡ Bundle (Plain file))
-IsCommandOf question run (AuditImage image schedule path) =
-    (question.question ≡ Audit path) × (question.steps ≡ None) × (run ≡ OfImage image (InFile schedule))
-IsCommandOf question run (Ask asked input) = (asked ≡ question) × (input ≡ run) × IsOwnQuestion question.question question.steps run
-IsCommandOf question run command = ⊥
+-- the arguments of a command were entered under this name
+abbrev pub IsEnteredUnder : Text → List Row → Command → Type 0
+IsEnteredUnder name rows (Ask asking) = (name ≡ question_name asking.question) × IsQuestionIn rows asking.input asking.schedule asking.steps asking.question
+IsEnteredUnder name rows (Compare first second pairs) =
+    (name ≡ codes "compare") × IsComparedIn rows first second × (states_in (first_of (codes "states") rows) ≡ Some pairs)
+IsEnteredUnder name rows (WriteSource source kind) =
+    (name ≡ codes "source") × (first_of (codes "FILE") rows ≡ Some source.now) × ((if is_set rows (codes "lines") then ProgramLines else Translation) ≡ kind)
+IsEnteredUnder name rows (MakeImage manifest image) =
+    (name ≡ codes "mkimg") × (first_of (codes "MANIFEST") rows ≡ Some manifest.now) × (first_of (codes "IMAGE") rows ≡ Some image.now)
+IsEnteredUnder name rows (RunImage image schedule out) =
+    (name ≡ codes "run") × (first_of (codes "IMAGE") rows ≡ Some image.now) × (first_of (codes "SCHEDULE") rows ≡ Some schedule.now) × (first_of (codes "OUT") rows ≡ Some out.now)
+IsEnteredUnder name rows (MigrateImage image out blocks inodes) =
+    (name ≡ codes "migrate") × (first_of (codes "IMAGE") rows ≡ Some image.now) × (first_of (codes "OUT") rows ≡ Some out.now)
+    × IsSizeIn rows (codes "BLOCKS") blocks × IsSizeIn rows (codes "INODES") inodes
+IsEnteredUnder name rows (ImportDirectory import) =
+    (name ≡ codes "import") × (first_of (codes "DIR") rows ≡ Some import.directory.now) × (first_of (codes "IMAGE") rows ≡ Some import.image.now)
+    × (version_in (first_of (codes "image-version") rows) ≡ Some import.version) × (is_set rows (codes "skip") ≡ import.skips)
+    × (option_map (λ text. text.now) import.source ≡ first_of (codes "with") rows)
+IsEnteredUnder name rows (ExportImage file directory) = (name ≡ codes "export") × IsExportedIn rows file × (first_of (codes "DIR") rows ≡ Some directory.now)
 
 -- the matches of a subcommand are those of this command and its arguments
 abbrev pub IsCommandIn : Option (Text × List Row) → Command → Type 0
-IsCommandIn entered (RunTree file) = IsQuestionIn entered Trace (Bundle (Plain file)) × (steps_word entered Trace ≡ None)
-IsCommandIn entered (MakeImage manifest image) =
-    (entered_text entered (codes "mkimg") (codes "MANIFEST") ≡ Some manifest.now) × (entered_text entered (codes "mkimg") (codes "IMAGE") ≡ Some image.now)
-IsCommandIn entered (ListImage image) = IsValidTreeIn entered (codes "ls") (Image image)
-IsCommandIn entered (RunImage image schedule out) =
-    (entered_text entered (codes "run") (codes "IMAGE") ≡ Some image.now) × (entered_text entered (codes "run") (codes "SCHEDULE") ≡ Some schedule.now)
-    × (entered_text entered (codes "run") (codes "OUT") ≡ Some out.now)
-IsCommandIn entered (MigrateImage image out blocks inodes) =
-    (entered_text entered (codes "migrate") (codes "IMAGE") ≡ Some image.now) × (entered_text entered (codes "migrate") (codes "OUT") ≡ Some out.now)
-    × EncodesSize entered (codes "migrate") (codes "BLOCKS") blocks × EncodesSize entered (codes "migrate") (codes "INODES") inodes
-IsCommandIn entered (ImportDirectory directory image version skips source) =
-    (entered_text entered (codes "import") (codes "DIR") ≡ Some directory.now) × (entered_text entered (codes "import") (codes "IMAGE") ≡ Some image.now)
-    × (version_entered entered ≡ Some version) × (is_given (entered_text entered (codes "import") (codes "skip")) ≡ skips)
-    × (option_map (λ text. text.now) source ≡ entered_text entered (codes "import") (codes "with"))
-IsCommandIn entered (ExportImage image directory) =
-    (entered_text entered (codes "export") (codes "IMAGE") ≡ Some image.now) × (entered_text entered (codes "export") (codes "DIR") ≡ Some directory.now)
-IsCommandIn entered (AuditImage image schedule path) =
-    IsQuestionIn entered (Audit path) (OfImage image (InFile schedule)) × (steps_word entered (Audit path) ≡ None)
-IsCommandIn entered (WriteSource file kind) =
-    (entered_text entered (codes "source") (codes "FILE") ≡ Some file.now) × (output_entered entered ≡ kind)
-IsCommandIn entered (Ask question run) =
-    IsQuestionIn entered question.question run × ParsesAsNumber (steps_word entered question.question) question.steps
-    × IsOwnQuestion question.question question.steps run
-IsCommandIn entered (AskTree question tree) = IsTreeQuestionIn entered question tree
-IsCommandIn entered (Compare inputs pairs) = AreComparedIn entered inputs × (states_entered entered (codes "compare") ≡ Some pairs)
-
--- the texts of a migration were entered
-pub record HasTexts (entered : Option (Text × List Row)) (image out blocks inodes : Text) : Type 0 where
-  pub has_image : entered_text entered (codes "migrate") (codes "IMAGE") ≡ Some image
-  pub has_out : entered_text entered (codes "migrate") (codes "OUT") ≡ Some out
-  pub has_blocks : entered_text entered (codes "migrate") (codes "BLOCKS") ≡ Some blocks
-  pub has_inodes : entered_text entered (codes "migrate") (codes "INODES") ≡ Some inodes
-
-abbrev pub AreMigrationTextsIn : Option (Text × List Row) → Migration → Type 0
-AreMigrationTextsIn entered texts = HasTexts entered texts.image.now texts.out.now texts.blocks.now texts.inodes.now
-
--- the command with these texts, if both numbers are numbers
-abbrev pub IsMigrationOf : Migration → Command → Type 0
-IsMigrationOf texts (MigrateImage image out blocks inodes) =
-    (image.now ≡ texts.image.now) × (out.now ≡ texts.out.now) × (size_in texts.blocks.now ≡ Some blocks) × (size_in texts.inodes.now ≡ Some inodes)
-IsMigrationOf texts command = ⊥
-
--- a command that requires each of its texts, and has no number
-abbrev pub IsPlain : Command → Type 0
-IsPlain (WriteSource file kind) = ⊤
-IsPlain (MakeImage manifest image) = ⊤
-IsPlain (RunImage image schedule out) = ⊤
-IsPlain (ExportImage image directory) = ⊤
-IsPlain command = ⊥
-
--- a command without a number
-abbrev pub IsWithoutNumbers : Command → Type 0
-IsWithoutNumbers (RunTree file) = ⊥
-IsWithoutNumbers (MigrateImage image out blocks inodes) = ⊥
-IsWithoutNumbers (ImportDirectory directory image version skips source) = ⊥
-IsWithoutNumbers (AuditImage image schedule path) = ⊥
-IsWithoutNumbers (Ask question run) = ⊥
-IsWithoutNumbers (AskTree (Turns slice steps) tree) = ⊥
-IsWithoutNumbers (AskTree (OfSearch search states) tree) = ⊥
-IsWithoutNumbers (Compare inputs pairs) = ⊥
-IsWithoutNumbers command = ⊤
+IsCommandIn None command = ⊥
+IsCommandIn (Some p) command = IsEnteredUnder p.0 p.1 command
 
 -- the paths of the files of a command
-abbrev pub files_of_search : Search → List Text
-files_of_search (Access kind files) = paths_in files
-files_of_search (Exposure kind files) = paths_in files
-files_of_search search = []
-
-abbrev pub files_of_question : TreeQuestion → List Text
-files_of_question (OfSearch search states) = files_of_search search
+abbrev pub files_of_question : Question → List Text
+files_of_question (asked.Access kind files states) = paths_in files
+files_of_question (asked.Exposure kind files states) = paths_in files
 files_of_question question = []
 
 abbrev pub command_files : Command → List Text
-command_files (AskTree question tree) = files_of_question question
+command_files (Ask asking) = files_of_question asking.question
 command_files command = []
 
 -- the files of a command; without files it has no path
@@ -451,18 +318,21 @@ abbrev pub AreFaultyFiles : Command → Option Text → Type 0
 AreFaultyFiles command path = AreFaultyPaths (command_files command) path
 
 -- the turns of a command, in place of a schedule
-abbrev pub turns_of_run : RunInput → Option Text
-turns_of_run (OfImage image (AsTurns turns)) = Some turns.now
-turns_of_run (OfManifest manifest (AsTurns turns)) = Some turns.now
-turns_of_run run = None
+abbrev pub turns_in : ScheduleInput → Option Text
+turns_in (AsTurns turns) = Some turns.now
+turns_in schedule = None
 
 abbrev pub turns_of : Command → Option Text
-turns_of (Ask question run) = turns_of_run run
+turns_of (Ask asking) = turns_in asking.schedule
 turns_of command = None
 
 -- without words, the command is to run the bundle on the standard input
+abbrev pub IsTraceOfInput : Question → InputFile → ScheduleInput → Option ℕ → Type 0
+IsTraceOfInput asked.Trace (input.Bundle file) Own None = file.now ≡ codes "-"
+IsTraceOfInput question file schedule steps = ⊥
+
 abbrev pub IsWithoutWords : Command → Type 0
-IsWithoutWords (RunTree file) = file.now ≡ codes "-"
+IsWithoutWords (Ask asking) = IsTraceOfInput asking.question asking.input asking.schedule asking.steps
 IsWithoutWords command = ⊥
 
 -- the turns of a command are valid, or they are invalid
@@ -507,20 +377,77 @@ of_kind kind error = line.Parser error
 abbrev pub of_parser : Error → LineFault
 of_parser error = of_kind (kind_of error) error
 
--- the parser rejects the words, or its matches have no command; the kind of the error is one that the words have
+-- a word is a number, as an argument of a command wants it
+abbrev pub is_number_for : (command argument word : Text) → Bool
+is_number_for command argument word =
+    if bytes_eq argument (codes "states") then is_some (states_in (Some word))
+    else (if bytes_eq argument (codes "image-version") then is_some (version_in (Some word))
+    else (if bytes_eq argument (codes "slice") || (bytes_eq argument (codes "steps") && bytes_eq command (codes "turns")) then is_some (count_or_default 1 (Some word))
+    else is_some (size_in word)))
+
+-- the numeric arguments, beside the process of `reach`
+abbrev pub IsNumeric : Text → Type 0
+IsNumeric argument = (argument ≡ codes "steps") ⊎ ((argument ≡ codes "slice") ⊎ ((argument ≡ codes "states") ⊎ ((argument ≡ codes "BLOCKS") ⊎ ((argument ≡ codes "INODES") ⊎ (argument ≡ codes "image-version")))))
+
+-- an argument of the command is not a number, or the process of `reach`
+abbrev pub LacksArgument : Text → List Row → Type 0
+LacksArgument name rows = (argument word : Text) × IsNumeric argument × (first_of argument rows ≡ Some word) × (is_number_for name argument word ≡ false)
+
+abbrev pub LacksProcess : Text → List Row → Type 0
+LacksProcess name rows =
+    (name ≡ codes "reach") × (file : InputFile) × (schedule : ScheduleInput) × (word : Text) × IsReachIn rows file schedule (Some word) × (size_in word ≡ None)
+
+-- a numeric argument is not a number
+abbrev pub LacksNumber : Option (Text × List Row) → Type 0
+LacksNumber None = ⊥
+LacksNumber (Some p) = LacksArgument p.0 p.1 ⊎ LacksProcess p.0 p.1
+
+-- the name of another search
+abbrev pub IsSearchName : Text → Type 0
+IsSearchName name = (name ≡ codes "explore") ⊎ ((name ≡ codes "policy") ⊎ (name ≡ codes "graph"))
+
+-- the name of a search that may be about given files
+abbrev pub IsAboutFiles : Text → Type 0
+IsAboutFiles name = (name ≡ codes "access") ⊎ (name ≡ codes "exposure")
+
+-- such a search was entered with more files than a question has
+abbrev pub HasManyNamed : Text → List Row → Type 0
+HasManyNamed name rows = IsAboutFiles name × (file : InputFile) × IsGivenIn rows (codes "PATH") file [] × (8 < length (files_entered rows))
+
+abbrev pub HasManyFiles : Option (Text × List Row) → Type 0
+HasManyFiles None = ⊥
+HasManyFiles (Some p) = HasManyNamed p.0 p.1
+
+-- why the matches of a command have no command: one of its words is missing or there are too many, an argument is not a
+-- number, or there are too many files
+abbrev pub LacksNamed : Text → List Row → NoCommand → Type 0
+LacksNamed name rows lacks.Words = Never (IsEnteredUnder name rows)
+LacksNamed name rows lacks.Number = LacksArgument name rows ⊎ LacksProcess name rows
+LacksNamed name rows lacks.ManyFiles = HasManyNamed name rows
+
+-- the command in the matches of a command with this name, or why there is none
+abbrev pub FindsNamed : Text → List Row → Result Command NoCommand → Type 0
+FindsNamed name rows (Ok command) = IsEnteredUnder name rows command
+FindsNamed name rows (Err lack) = LacksNamed name rows lack
+
+-- why matches have no command
+abbrev pub LacksCommand : Option (Text × List Row) → NoCommand → Type 0
+LacksCommand entered lacks.Words = Never (IsCommandIn entered)
+LacksCommand entered lacks.Number = LacksNumber entered
+LacksCommand entered lacks.ManyFiles = HasManyFiles entered
+
+-- the parser rejects the words, with a kind of error that they have: for help and the version this is the request; or it
+-- finds no fault in the words, and they have no command
+abbrev pub IsRejected : List Text → Error → Type 0
+IsRejected words error = (takes pvsim_app words ≡ false) × IsAmong (kind_of error) (fault_of pvsim_app words)
+
+abbrev pub IsIncomplete : List Text → Error → Type 0
+IsIncomplete words error =
+    (fault_of pvsim_app words ≡ []) × (kind_of error ≡ MissingRequiredArgument) × Never (IsCommandIn (subcommand_of pvsim_app words))
+
 pub record IsCommandLineError (words : List Text) (error : Error) : Type 0 where
   pub kind : kind_of error ≢ OutOfMemory
-  pub is_among : IsAmong (kind_of error) (fault_of pvsim_app words) ⊎ (kind_of error ≡ MissingRequiredArgument)
-  pub none : takes pvsim_app words ≡ true → (command : Command) → IsCommandIn (subcommand_of pvsim_app words) command → ⊥
-
--- a migration was entered with an argument that is not a number
-pub record LacksSize (entered : Option (Text × List Row)) : Type 0 where
-  pub image : Text
-  pub out : Text
-  pub blocks : Text
-  pub inodes : Text
-  pub are_entered : HasTexts entered image out blocks inodes
-  pub is_none : (size_in blocks ≡ None) ⊎ (size_in inodes ≡ None)
+  pub why : IsRejected words error ⊎ IsIncomplete words error
 
 -- the words ask for a command with invalid turns
 pub record RefusesTurns (words : List Text) (error : Error) : Type 0 where
@@ -538,80 +465,15 @@ pub record RefusesFiles (words : List Text) (error : Error) : Type 0 where
   pub is_command : IsCommandIn (subcommand_of pvsim_app words) command
   pub are_none : list_all is_plain_path (command_files command) ≡ false
 
--- the name of the command of a search that may be about given files
-abbrev pub IsAboutFiles : Text → Type 0
-IsAboutFiles command = (command ≡ codes "access") ⊎ (command ≡ codes "exposure")
-
--- such a search was entered with more files than a question has
-pub record HasManyFiles (entered : Option (Text × List Row)) : Type 0 where
-  pub command : Text
-  pub is_about_files : IsAboutFiles command
-  pub tree : TreeInput
-  pub are_entered : IsValidTreeIn entered command tree
-  pub are_many : 8 < length (files_entered entered command)
-
 -- the words ask for a search with more files than a question has
 pub record RefusesMany (words : List Text) (error : Error) : Type 0 where
   pub kind : kind_of error ≡ ValueValidation
   pub are_many : HasManyFiles (subcommand_of pvsim_app words)
 
--- a question about a run was entered with a number of steps that is not a number
-pub record LacksSteps (entered : Option (Text × List Row)) : Type 0 where
-  pub question : Question
-  pub run : RunInput
-  pub are_entered : IsQuestionIn entered question run
-  pub word : Text
-  pub is_word : steps_word entered question ≡ Some word
-  pub is_none : size_in word ≡ None
-
--- `reach` was entered with a process that is not a number
-pub record LacksProcess (entered : Option (Text × List Row)) : Type 0 where
-  pub run : RunInput
-  pub word : Text
-  pub are_entered : IsRunIn entered (codes "reach") (codes "PID") run (Some word)
-  pub is_none : size_in word ≡ None
-
--- `turns` was entered with a number of steps that is not a number or out of range
-pub record LacksCount (entered : Option (Text × List Row)) : Type 0 where
-  pub tree : TreeInput
-  pub are_entered : IsValidTreeIn entered (codes "turns") tree
-  pub is_none : (slice_entered entered ≡ None) ⊎ (steps_entered entered ≡ None)
-
--- a search was entered with a number of states that is not a number, or 0
-pub record LacksStates (entered : Option (Text × List Row)) : Type 0 where
-  pub search : Search
-  pub tree : TreeInput
-  pub are_entered : IsValidTreeIn entered (search_name search) tree
-  pub is_none : states_entered entered (search_name search) ≡ None
-
--- `compare` was entered with a number of pairs that is not a number, or 0
-pub record LacksPairs (entered : Option (Text × List Row)) : Type 0 where
-  pub inputs : CompareInput
-  pub are_entered : AreComparedIn entered inputs
-  pub is_none : states_entered entered (codes "compare") ≡ None
-
--- `import` was entered with a version that does not exist
-pub record LacksVersion (entered : Option (Text × List Row)) : Type 0 where
-  pub directory : Text
-  pub image : Text
-  pub is_directory : entered_text entered (codes "import") (codes "DIR") ≡ Some directory
-  pub is_image : entered_text entered (codes "import") (codes "IMAGE") ≡ Some image
-  pub is_none : version_entered entered ≡ None
-
--- a numeric argument is not a number
-abbrev pub LacksNumber : Option (Text × List Row) → Type 0
-LacksNumber entered =
-    LacksSize entered ⊎ (LacksProcess entered ⊎ (LacksCount entered ⊎ (LacksStates entered ⊎ (LacksVersion entered ⊎ (LacksSteps entered ⊎ LacksPairs entered)))))
-
--- the result of reading the matches of a subcommand
-abbrev pub IsReadFrom : Option (Text × List Row) → Parsed → Type 0
-IsReadFrom entered (found.Command command) = IsCommandIn entered command
-IsReadFrom entered found.Number = LacksNumber entered
-IsReadFrom entered found.ManyFiles = HasManyFiles entered
-
 -- a refusal of the words after the name of the program
 abbrev pub RefusesWords : List Text → LineFault → Type 0
-RefusesWords words (line.Parser error) = IsCommandLineError words error ⊎ (RefusesTurns words error ⊎ (RefusesFiles words error ⊎ RefusesMany words error))
+RefusesWords words (line.Parser error) =
+    IsCommandLineError words error ⊎ (RefusesTurns words error ⊎ (RefusesFiles words error ⊎ RefusesMany words error))
 RefusesWords words line.Number = LacksNumber (subcommand_of pvsim_app words)
 RefusesWords words line.Memory = ⊤
 

@@ -28,11 +28,11 @@ renamed_rule name old = record (long_rule name) { aliases = old ∷ [] }
 abbrev pub repeated_rule : Text → Rule
 repeated_rule name = record (long_rule name) { action = Some Append }
 
--- a bundle, in place of an image and a schedule
+-- a bundle, in place of the input
 abbrev pub bundle_rule : Rule
 bundle_rule = record (long_rule (codes "bundle")) { short = Some 98 }
 
--- a source, in place of an image and a schedule
+-- the input, as an option
 abbrev pub source_rule : Rule
 source_rule = record (long_rule (codes "source")) { short = Some 115 }
 
@@ -60,19 +60,22 @@ source_flag_rule = record (flag_rule (codes "source")) { short = Some 115 }
 abbrev pub command_app : Text → List Rule → App
 command_app name rules = fold with_rule (with_flags (new_app name)) rules
 
--- `IMAGE`, or `--bundle FILE` or `--source FILE`
+-- `FILE`, or `--bundle FILE` or `--source FILE`
 abbrev pub tree_rules : List Rule
-tree_rules = bundle_rule ∷ source_rule ∷ optional_rule (codes "IMAGE") ∷ []
+tree_rules = bundle_rule ∷ source_rule ∷ optional_rule (codes "FILE") ∷ []
 
 -- `--by TURNS` and `--steps N`
 abbrev pub schedule_rules : List Rule
 schedule_rules = long_rule (codes "by") ∷ long_rule (codes "steps") ∷ []
 
--- `IMAGE SCHEDULE`, or `--bundle FILE` or `--source FILE`
+-- `FILE [SCHEDULE]`, or `--bundle FILE` or `--source FILE` in place of `FILE`, and `--by TURNS` or `--turns` in place of
+-- `SCHEDULE`
 abbrev pub question_rules : List Rule
-question_rules = bundle_rule ∷ source_rule ∷ schedule_rules ++ optional_rule (codes "IMAGE") ∷ optional_rule (codes "SCHEDULE") ∷ []
+question_rules =
+    bundle_rule ∷ source_rule ∷ long_rule (codes "by") ∷ flag_rule (codes "turns") ∷ long_rule (codes "steps")
+    ∷ optional_rule (codes "FILE") ∷ optional_rule (codes "SCHEDULE") ∷ []
 
--- `IMAGE`, or `--bundle FILE` or `--source FILE`, with `--states N`
+-- `FILE`, or `--bundle FILE` or `--source FILE`, with `--states N`
 abbrev pub search_rules : List Rule
 search_rules = tree_rules ++ long_rule (codes "states") ∷ []
 
@@ -109,13 +112,13 @@ search_apps =
     ∷ command_app (codes "access") file_rules
     ∷ command_app (codes "exposure") file_rules
     ∷ command_app (codes "policy") (kind_rules ++ flag_rule (codes "granted") ∷ [])
-    ∷ command_app (codes "compare") (bundle_rule ∷ optional_rule (codes "IMAGE") ∷ optional_rule (codes "OTHER") ∷ long_rule (codes "states") ∷ [])
+    ∷ command_app (codes "compare") (bundle_rule ∷ optional_rule (codes "FILE") ∷ optional_rule (codes "OTHER") ∷ long_rule (codes "states") ∷ [])
     ∷ command_app (codes "graph") (search_rules ++ flag_rule (codes "tree") ∷ [])
     ∷ command_app (codes "migrate")
     (text_rule (codes "IMAGE") ∷ text_rule (codes "OUT") ∷ text_rule (codes "BLOCKS") ∷ text_rule (codes "INODES") ∷ [])
     ∷ command_app (codes "import")
     (text_rule (codes "DIR") ∷ text_rule (codes "IMAGE") ∷ renamed_rule (codes "image-version") (codes "version") ∷ flag_rule (codes "skip") ∷ long_rule (codes "with") ∷ [])
-    ∷ command_app (codes "export") (text_rule (codes "IMAGE") ∷ text_rule (codes "DIR") ∷ [])
+    ∷ command_app (codes "export") (text_rule (codes "FILE") ∷ text_rule (codes "DIR") ∷ [])
     ∷ []
 
 -- the program without commands: it has a version, requires a command, and takes these flags

@@ -1,24 +1,22 @@
 -- The result of a complete run of the program.
-use Rattle.std.specs.Prelude.{◌≡◌, ◌≢◌, ℕ, Bool, true, false, ◌&&◌, not, List, [], Result, Ok, Err, IsOk, IsErr}
+use Rattle.std.specs.Prelude.{◌≡◌, ◌≢◌, ◌⊎◌, ℕ, Bool, true, false, ◌&&◌, not, List, [], ◌∷◌, codes, Result, Ok, Err, IsOk, IsErr}
 use Rattle.pv_model.specs.declared.stream.Failed.{Failed}
 use Rattle.pv_model.specs.declared.stream.Sink.{Ghosts as Writing}
 use Rattle.pv_model.specs.declared.stream.Source.{Ghosts as Reading}
 use Rattle.pv_model.specs.Machine.{Bytes}
 use Rattle.pv_cli_commands.specs.declared.command.Command.{Command}
-use Rattle.pv_cli_commands.specs.declared.fault.Fault.{Fault as CommandFault}
-use Rattle.pv_cli_commands.specs.declared.fault.Fault.TheVariants.{Importing, Source}
+use Rattle.pv_cli_commands.specs.OfQuestions.declared.failure.Failure.{Failure}
+use Rattle.pv_cli_commands.specs.OfQuestions.declared.failure.Failure.TheVariants.{Refused}
 use Rattle.pv_cli_commands.specs.declared.system.HostSystem.{HostSystem}
-use Rattle.pv_cli_commands.specs.Commands.{KeepsErrors, Notes, Performs, ReadsFiles, WritesFile}
-use Rattle.pv_cli_commands.specs.Faults.{CommandResult}
-use Rattle.pv_cli_commands.specs.Status.{LeavesFlushed, is_reported_by_command}
+use Rattle.pv_cli_commands.specs.Commands.{LeavesFlushed, KeepsErrors, Performs, ReadsFiles, WritesFile}
+use Rattle.pv_cli_commands.specs.Created.{CreatesOnly, directory_made, file_written}
+use Rattle.pv_cli_commands.specs.OfQuestions.Failures.{is_reported_by_command}
 use Rattle.pv_cli_commands.specs.Streams.{Disk, Host}
-use Rattle.pv_cli_commands.specs.OfHostCopy.declared.image.ImportStop.TheVariants.{Refused}
-use Rattle.pv_source.specs.declared.source.SourceStop.TheVariants.{Refused as RefusedSource}
 use Rattle.pv_streams.specs.Sinks.{Writes}
 use Rattle.pv_cli_line.specs.declared.command.LineFault.{LineFault}
 use Rattle.pv_cli_line.specs.declared.command.LineFault.TheVariants.{Number}
 use Rattle.pv_cli_line.specs.declared.fault.Fault.{Fault}
-use Rattle.pv_cli_line.specs.declared.fault.Fault.TheVariants.{Command as OfCommand, Line, Words, Write}
+use Rattle.pv_cli_line.specs.declared.fault.Fault.TheVariants.{Command as OfCommand, Line, Words}
 use Rattle.pv_cli_line.specs.Line.{IsAsked, RefusesLine, is_verbose_line}
 use Rattle.pv_cli_line.specs.Messages.{WritesMessage, WritesMore}
 use Rattle.pv_cli_line.specs.Status.{exit_status_of}
@@ -53,10 +51,9 @@ is_reported (OfCommand fault) = is_reported_by_command fault
 is_reported fault = false
 
 -- an error can be explained: it is not yet reported, or the entries of an import or the lines of a source are refused
-abbrev pub is_explained : CommandFault → Bool
-is_explained (Importing Refused) = true
-is_explained (Source RefusedSource) = true
-is_explained fault = not (is_reported_by_command fault)
+abbrev pub is_explained : Failure → Bool
+is_explained (Refused refusal) = true
+is_explained failure = not (is_reported_by_command failure)
 
 -- an error was reported: nothing is new if it is already reported; otherwise its message was written, to the standard
 -- error or, for help and the version, to the standard output
@@ -90,15 +87,16 @@ pub record WritesNotes {F I O E : Type 0} (reporting : Writing E) (requested : B
 
 -- the words ask for a command, which was carried out and changed nothing else; its output is flushed
 pub record Runs {F R V T I O E : Type 0} (disk : Disk F R V) (host : Host F T) (reading : Reading I) (writing : Writing O) (reporting : Writing E)
-    (words : List Bytes) (notes : Bytes) (before after : HostSystem F I O E) (answer : CommandResult) : Type 0 where
+    (words : List Bytes) (notes : Bytes) (before after : HostSystem F I O E) (result : Result (Unit {0}) Failure) : Type 0 where
   pub command : Command
   pub asked : IsAsked words command
-  pub does : Performs disk host reading writing reporting command before after answer
-  pub noted : Notes disk.files.bytes reading.remaining command before [] notes answer
-  pub flushed : LeavesFlushed writing before.output after.output answer
+  pub does : Performs disk host reading writing reporting command before after [] notes result
+  pub flushed : LeavesFlushed writing before.output after.output result
   pub unread : ReadsFiles command → after.input ≡ before.input
   pub silent : WritesFile command → after.output ≡ before.output
   pub unreported : KeepsErrors command → after.errors ≡ before.errors
+  pub created : CreatesOnly (file_written command) (disk.files.created before.files) (disk.files.created after.files)
+  pub targets : CreatesOnly (directory_made command) (host.targets before.files) (host.targets after.files)
 
 -- an argument is not a number
 abbrev pub is_number_error : LineFault → Bool
@@ -119,7 +117,15 @@ ComesTo {F} {R} {V} {T} {I} {O} {E} disk host reading writing reporting words be
 ComesTo disk host reading writing reporting words before after status (Err (Line fault)) =
     RefusesLine words fault × ReportsAll writing reporting (Line fault) (is_number_error fault) before after status
 ComesTo disk host reading writing reporting words before after status (Err Words) = ⊥
-ComesTo disk host reading writing reporting words before after status (Err Write) = ⊥
+
+-- the words are the name of the program and a request for help or the version
+abbrev pub IsRequest : List Bytes → Type 0
+IsRequest (program ∷ word ∷ []) = (word ≡ codes "--help") ⊎ ((word ≡ codes "-h") ⊎ ((word ≡ codes "--version") ⊎ (word ≡ codes "-V")))
+IsRequest words = ⊥
+
+-- help or the version was shown, or there was no memory for it
+abbrev pub EndsRequest : {F I O E : Type 0} → Writing O → Writing E → HostSystem F I O E → HostSystem F I O E → ℕ → Type 0
+EndsRequest writing reporting before after status = (status ≡ 3) ⊎ Shows writing reporting before after status
 
 -- the result of a complete run, with its status
 abbrev pub EndsWith : {F R V T I O E : Type 0} → Disk F R V → Host F T → Reading I → Writing O → Writing E → List Bytes → HostSystem F I O E → HostSystem F I O E → ℕ → Type 0

@@ -1,14 +1,14 @@
 -- The exit status: 0 for success, 1 for invalid input, 2 for the command line, 3 for out of memory, 4 for a failed read
--- or write, 5 for a search that left a state out.
+-- or write, 5 for a search that left a state out, 6 for a difference.
 use Rattle.std.specs.Prelude.{ℕ}
 use Rattle.clap.specs.Words.{kind_of}
 use Rattle.clap.specs.declared.error.kind.ErrorKind.{ErrorKind}
 use Rattle.clap.specs.declared.error.kind.ErrorKind.TheVariants.{DisplayHelp, DisplayVersion}
-use Rattle.pv_cli_commands.specs.Status.{command_status}
+use Rattle.pv_cli_commands.specs.OfQuestions.Failures.{failure_status as command_status}
 use Rattle.pv_cli_line.specs.declared.command.LineFault.{LineFault}
 use Rattle.pv_cli_line.specs.declared.command.LineFault.TheVariants as line
 use Rattle.pv_cli_line.specs.declared.fault.Fault.{Fault}
-use Rattle.pv_cli_line.specs.declared.fault.Fault.TheVariants.{Command, Line, Words, Write}
+use Rattle.pv_cli_line.specs.declared.fault.Fault.TheVariants.{Command, Line, Words}
 
 -- help and the version were requested; any other result of the parser is an error in the words
 abbrev pub kind_status : ErrorKind → ℕ
@@ -25,4 +25,3 @@ abbrev pub exit_status_of : Fault → ℕ
 exit_status_of (Command fault) = command_status fault
 exit_status_of (Line fault) = line_status fault
 exit_status_of Words = 2
-exit_status_of Write = 4

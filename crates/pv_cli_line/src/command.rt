@@ -6,15 +6,15 @@ ghost use Rattle.pv_cli_line.specs.Line.{AreFaultyFiles, AreFaultyPaths, AreGive
 ghost use Rattle.pv_cli_line.specs.Parser.{pvsim_app};
 ghost use Rattle.pv_cli_line.specs.Program.{is_number_error};
 
-use crate::matches::{Parsed, found_in};
+use crate::matches::{NoCommand, found_in};
 use crate::parser::parser;
 use crate::paths::is_plain_path;
 use crate::superfluous::{Superfluous, superfluous_in};
 use crate::texts::is_verbose;
 use clap::error::ErrorKind;
 use clap::{ArgMatches, Command as Parser, Error as ParserError};
-use pv_cli_commands::questions::{Files, Search, TreeQuestion, is_turns};
-use pv_cli_commands::{Command, RunInput, ScheduleInput};
+use pv_cli_commands::questions::{Files, Question, is_turns};
+use pv_cli_commands::{Asking, Command, InputFile, ScheduleInput};
 use std::alloc::{AllocError, Global};
 use std::convert::AsStr;
 use thiserror::Error;
@@ -80,17 +80,10 @@ fn turns_of(command: Command<'_>) -> Option<&str>
     ensures { option_map (λ text. text.now) result ≡ turns_text_of command.entry }
 {
     match command {
-        Command::Ask {
-            run: RunInput::Image {
-                schedule: ScheduleInput::Turns(turns),
-                ..
-            }
-            | RunInput::Manifest {
-                schedule: ScheduleInput::Turns(turns),
-                ..
-            },
-            ..
-        } => Some(turns),
+        Command::Ask(asking) => match asking.schedule {
+            ScheduleInput::Turns(turns) => Some(turns),
+            ScheduleInput::Own | ScheduleInput::File(_) | ScheduleInput::Fair => None,
+        },
         _ => None,
     }
 }
@@ -127,13 +120,10 @@ fn files_of(command: Command<'_>) -> Option<Files<'_>>
     ensures { AreGivenPaths command.entry result }
 {
     match command {
-        Command::AskTree {
-            question: TreeQuestion::Search {
-                search: Search::Access { files, .. } | Search::Exposure { files, .. },
-                ..
-            },
-            ..
-        } => Some(files),
+        Command::Ask(asking) => match asking.question {
+            Question::Access { files, .. } | Question::Exposure { files, .. } => Some(files),
+            _ => None,
+        },
         _ => None,
     }
 }
@@ -220,10 +210,10 @@ fn checked<'a>(
 fn expected(matches: &ArgMatches<'_>) -> &'static str {
     match matches.subcommand() {
         Some(("compare", _)) => {
-            "expected IMAGE and OTHER, or --bundle FILE and a second bundle in place of IMAGE; only one of them may be '-'"
+            "expected FILE and OTHER, or --bundle FILE and a second bundle in place of FILE; only one of them may be '-'"
         }
         _ => {
-            "expected IMAGE and its further arguments, or one of --bundle FILE and --source FILE in place of IMAGE and SCHEDULE"
+            "expected FILE and its further arguments, or one of --bundle FILE and --source FILE in place of FILE; one of SCHEDULE, --by and --turns; and '-' only once"
         }
     }
 }
@@ -256,12 +246,12 @@ fn parsed<'a, S: AsStr>(alloc: Global, words: &'a [S]) -> Result<CommandLine<'a>
     let mut parser = parser(alloc)?;
     let matches = parser.try_get_matches_from_mut(words)?;
     match found_in(&matches) {
-        Some(Parsed::Command(command)) => {
-            checked(alloc, &mut parser, command, is_verbose(&matches))
+        Ok(command) => checked(alloc, &mut parser, command, is_verbose(&matches)),
+        Err(NoCommand::Number) => Err(LineFault::Number),
+        Err(NoCommand::ManyFiles) => Err(LineFault::Parser(many_files(alloc, &mut parser)?)),
+        Err(NoCommand::Words) => {
+            Err(LineFault::Parser(no_command(alloc, &mut parser, &matches)?))
         }
-        Some(Parsed::Number) => Err(LineFault::Number),
-        Some(Parsed::ManyFiles) => Err(LineFault::Parser(many_files(alloc, &mut parser)?)),
-        None => Err(LineFault::Parser(no_command(alloc, &mut parser, &matches)?)),
     }
 }
 
@@ -286,7 +276,12 @@ pub fn command_line_of<'a, S: AsStr>(
 {
     if words.len() <= 1 {
         return Ok(CommandLine {
-            command: Command::RunTree("-"),
+            command: Command::Ask(Asking {
+                question: Question::Trace,
+                input: InputFile::Bundle("-"),
+                schedule: ScheduleInput::Own,
+                steps: None,
+            }),
             is_verbose: true,
         });
     }

@@ -1,124 +1,26 @@
-//! The explanation of an error: the file, the reason of the operating system, the line, and its expected form.
+//! The explanation of a failure: the file, the reason of the operating system, the line, and its expected form.
 //!
 //! A contract says only that an explanation is written to the standard error. Each of its lines begins with two spaces.
-ghost use Rattle.std.specs.Prelude.{◌≡◌};
+ghost use Rattle.std.specs.Prelude.{◌≡◌, ◌≤◌, IfSome, vec_len};
 ghost use Rattle.pv_cli_line.specs.Messages.{WritesMore};
 ghost use Rattle.pv_cli_line.specs.Program.{is_explained};
 
 use crate::kinds::{Kind, has_typographic_quotes, kind_of, push_encoding};
 use crate::lines::{push_line, push_reason, push_shown};
-use crate::names::{Names, names_of};
+use crate::names::{Names, Wanted, names_of};
 use crate::places::{push_path, push_process};
 use crate::readings::{push_directory, push_readings};
-use pv_cli_commands::host_copy::{ExportFault, ImportStop};
-use pv_cli_commands::questions::{AskStop, TreeQuestion, Unshown, ask_tree};
-use pv_cli_commands::run::MigrateStop;
-use pv_cli_commands::{Command, Fault, Files};
-use pv_model::{
-    AuditFault, ImageFault, Layout, ListFault, ManifestFault, MigrateFault, RunFault, Version,
+use pv_cli_commands::questions::{
+    Format, Input, Inputs, Question, Turns, Unshown, answer, is_source,
 };
-use pv_source::{Faults, SourceStop, faults_of};
+use pv_cli_commands::{
+    Asking, Command, Failure, Files, Import, InputFile, Origin, Refusal, ScheduleInput, Target,
+};
+use pv_model::{Layout, Version};
+use pv_source::{Faults, faults_of};
 use pv_streams::{Gathered, SOURCE_BYTES, Sink, read_whole, write_through};
 use pv_text::lines::split_line;
 use std::alloc::{AllocError, Global};
-
-// The location of an error.
-#[derive(Clone, Copy)]
-enum Cause {
-    // A file that could not be opened or read.
-    Reading,
-    // A directory, or an entry in it, that could not be read.
-    Directory,
-    // The directory in which a tree is made.
-    Target,
-    // The file that is written.
-    Writing,
-    // The standard output.
-    Output,
-    // The text of a manifest or a program, with the number of its line if the error names one.
-    Text(Option<u32>),
-    // This line of a schedule.
-    Schedule(u32),
-    // This line of the program of process 1, or 0 if its file is not executable.
-    Init(u16),
-    // An image.
-    Image,
-    // The sizes of a new image.
-    Sizes,
-    // A path in a tree.
-    Path(AuditFault),
-    // A process.
-    Process,
-    // The entries of a directory that an image cannot hold.
-    Entries,
-    // The lines of a source, which are already reported.
-    Source,
-    // Memory, or an error that is already reported.
-    Nothing,
-}
-
-// Returns the location of a run's error.
-fn run_cause(fault: RunFault) -> Cause {
-    match fault {
-        RunFault::Read => Cause::Reading,
-        RunFault::WriteTrace => Cause::Output,
-        RunFault::WriteImage => Cause::Writing,
-        RunFault::Memory
-        | RunFault::Image(ImageFault::Memory)
-        | RunFault::Manifest(ManifestFault::Memory) => Cause::Nothing,
-        RunFault::Image(_) => Cause::Image,
-        RunFault::Schedule(line) => Cause::Schedule(line),
-        RunFault::Init(line) => Cause::Init(line),
-        RunFault::Manifest(ManifestFault::Size) => Cause::Text(None),
-        RunFault::Manifest(
-            ManifestFault::Form(line)
-            | ManifestFault::Parent(line)
-            | ManifestFault::Exists(line)
-            | ManifestFault::Source(line)
-            | ManifestFault::Room(line),
-        ) => Cause::Text(Some(line)),
-    }
-}
-
-// Returns the location of a command's error.
-fn cause_of(fault: Fault) -> Cause {
-    match fault {
-        Fault::Run(fault) | Fault::Asking(AskStop::Machine(fault)) => run_cause(fault),
-        Fault::Listing(ListFault::Read)
-        | Fault::Migrating(MigrateStop::Read)
-        | Fault::Source(SourceStop::Read)
-        | Fault::Exporting(ExportFault::Read) => Cause::Reading,
-        Fault::Importing(ImportStop::Read) => Cause::Directory,
-        Fault::Importing(ImportStop::Refused) => Cause::Entries,
-        Fault::Source(SourceStop::Refused) => Cause::Source,
-        Fault::Exporting(ExportFault::Directory) => Cause::Target,
-        Fault::Listing(ListFault::Write)
-        | Fault::Asking(AskStop::Write)
-        | Fault::Source(SourceStop::Write) => Cause::Output,
-        Fault::Migrating(MigrateStop::Write) | Fault::Importing(ImportStop::WriteImage) => {
-            Cause::Writing
-        }
-        Fault::Listing(ListFault::Memory | ListFault::Image(ImageFault::Memory))
-        | Fault::Migrating(
-            MigrateStop::Refused(MigrateFault::Memory | MigrateFault::Image(ImageFault::Memory)),
-        )
-        | Fault::Asking(AskStop::Incomplete | AskStop::Different)
-        | Fault::Source(SourceStop::Memory)
-        | Fault::Importing(ImportStop::Memory | ImportStop::WriteLines)
-        | Fault::Exporting(
-            ExportFault::Memory
-            | ExportFault::Image(ImageFault::Memory)
-            | ExportFault::Make
-            | ExportFault::WriteLine,
-        ) => Cause::Nothing,
-        Fault::Listing(ListFault::Image(_))
-        | Fault::Exporting(ExportFault::Image(_))
-        | Fault::Migrating(MigrateStop::Refused(MigrateFault::Image(_))) => Cause::Image,
-        Fault::Migrating(MigrateStop::Refused(MigrateFault::Small)) => Cause::Sizes,
-        Fault::Asking(AskStop::Audited(fault) | AskStop::File(fault)) => Cause::Path(fault),
-        Fault::Asking(AskStop::NoProcess) => Cause::Process,
-    }
-}
 
 // Returns the line of a text with this number, counted from 1.
 fn line_at(text: &[u8], number: u32) -> Option<&[u8]> {
@@ -132,7 +34,9 @@ fn line_at(text: &[u8], number: u32) -> Option<&[u8]> {
 }
 
 // Returns the bytes of a file, if it can be read again.
-fn bytes_of<F: Files>(alloc: Global, files: &F, name: &str) -> Option<Vec<u8>> {
+fn bytes_of<F: Files>(alloc: Global, files: &F, name: &str) -> Option<Vec<u8>>
+    ensures { IfSome result (λ bytes. vec_len bytes ≤ SOURCE_BYTES) }
+{
     if !files.is_regular(name) {
         return None;
     }
@@ -142,6 +46,10 @@ fn bytes_of<F: Files>(alloc: Global, files: &F, name: &str) -> Option<Vec<u8>> {
 
 // The message for a bundle that ends before its schedule.
 const UNSCHEDULED: &str = "the line 'schedule' is missing; expected it and a schedule below it";
+
+// The message for a source that ends before its schedule.
+const UNGIVEN: &str =
+    "the line 'schedule' is missing; expected it and a schedule below it, or SCHEDULE, --by or --turns";
 
 // Returns the message for a line that only a source may have, or for a text that ends before the line.
 fn wanted_of(shown: Option<&[u8]>) -> &'static str {
@@ -241,7 +149,7 @@ fn push_kind(
     let Some(words) = kind.words() else {
         return Ok(false);
     };
-    let hint = if matches!(kind, Kind::Image | Kind::Manifest) {
+    let hint = if matches!(kind, Kind::Image | Kind::Text) {
         hint
     } else {
         ""
@@ -262,10 +170,10 @@ fn push_unlike(
     text: &[u8],
 ) -> Result<bool, AllocError> {
     let kind = kind_of(alloc, text)?;
-    if kind == Kind::Manifest {
+    if kind == Kind::Text {
         return push_encoding(alloc, out, name, text);
     }
-    if push_kind(alloc, out, name, kind, names.wanted, names.hint)? {
+    if push_kind(alloc, out, name, kind, names.words, names.hint)? {
         return Ok(true);
     }
     push_encoding(alloc, out, name, text)
@@ -282,11 +190,15 @@ fn push_text<F: Files>(
     let Some(name) = names.first_file() else {
         return push_line(out, "standard input");
     };
-    if !names.is_text {
-        return push_line(out, name);
-    }
-    if names.is_source && named.is_some() {
-        return push_line(out, format!(in alloc; "{name}: {UNSCHEDULED}")?.as_str());
+    match (names.wanted, named) {
+        (Wanted::Any, Some(_)) => {
+            return push_line(out, format!(in alloc; "{name}: {UNGIVEN}")?.as_str());
+        }
+        (Wanted::Source, Some(_)) => {
+            return push_line(out, format!(in alloc; "{name}: {UNSCHEDULED}")?.as_str());
+        }
+        (Wanted::Image, _) => return push_line(out, name),
+        _ => {}
     }
     let Some(bytes) = bytes_of(alloc, files, name) else {
         return push_line(out, name);
@@ -344,14 +256,31 @@ fn push_turn<F: Files>(
 
 // Returns the bytes of `/init` in an image, if the image can be read again and has that file.
 fn init_of<F: Files>(alloc: Global, files: &F, name: &str) -> Option<Vec<u8>> {
-    if !files.is_regular(name) {
-        return None;
-    }
-    let mut reader = files.open(name).ok()?;
-    let mut init = Gathered::new(alloc);
-    let question = TreeQuestion::File(b"/init");
-    ask_tree(alloc, question, &mut reader, &mut Unshown, &mut init).ok()?;
+    let input = Input {
+        format: Format::Image,
+        bytes: bytes_of(alloc, files, name)?,
+    };
+    let inputs = Inputs {
+        input,
+        turns: Turns::Own,
+        steps: None,
+    };
+    let (mut notes, mut init) = (Vec::new(alloc), Gathered::new(alloc));
+    let question = Question::File("/init");
+    answer(alloc, question, inputs, &mut notes, &mut Unshown, &mut init).ok()?;
     Some(init.bytes)
+}
+
+// Returns whether the first file is a text.
+fn is_text<F: Files>(alloc: Global, files: &F, names: &Names<'_>) -> bool {
+    match names.wanted {
+        Wanted::Text | Wanted::Source => true,
+        Wanted::Image => false,
+        Wanted::Any => match names.first_file() {
+            Some(name) => bytes_of(alloc, files, name).is_some_and(|bytes| is_source(&bytes)),
+            None => true,
+        },
+    }
 }
 
 // Appends the explanation of an error in the program of process 1: in a text, or in the file `/init` of an image.
@@ -362,7 +291,7 @@ fn push_init<F: Files>(
     names: &Names<'_>,
     line: u16,
 ) -> Result<(), AllocError> {
-    if names.is_text {
+    if is_text(alloc, files, names) {
         return push_text(alloc, out, files, names, None);
     }
     let name = names.first;
@@ -384,6 +313,43 @@ fn push_init<F: Files>(
     }
 }
 
+// What a file is not that is neither an image nor a source.
+const NEITHER: &str =
+    "is neither an image (it does not begin with PVIMAGE1 or PVIMAGE2) nor a source (it does not begin with a line 'image BLOCKS INODES')";
+
+// Appends that a file is neither an image nor a source, and what it is.
+fn push_neither(
+    alloc: Global,
+    out: &mut Vec<u8>,
+    name: &str,
+    kind: Kind,
+) -> Result<(), AllocError> {
+    match kind.words() {
+        Some(words) => push_line(
+            out,
+            format!(in alloc; "{name} {NEITHER}; {words}")?.as_str(),
+        ),
+        None => push_line(out, format!(in alloc; "{name} {NEITHER}")?.as_str()),
+    }
+}
+
+// Appends the explanation of bytes that are not the image that they begin as.
+fn push_damaged(
+    alloc: Global,
+    out: &mut Vec<u8>,
+    name: &str,
+    bytes: &[u8],
+    command: Command<'_>,
+) -> Result<(), AllocError> {
+    let is_later = bytes.starts_with(Version::V2.magic());
+    let what = if is_later && matches!(command, Command::MigrateImage { .. }) {
+        "this is an image of version 2: expected one of version 1"
+    } else {
+        "this image is damaged: expected one that pvsim wrote"
+    };
+    push_line(out, format!(in alloc; "{name}: {what}")?.as_str())
+}
+
 // Appends the explanation of an error in an image.
 fn push_image<F: Files>(
     alloc: Global,
@@ -392,23 +358,27 @@ fn push_image<F: Files>(
     names: &Names<'_>,
     command: Command<'_>,
 ) -> Result<(), AllocError> {
-    let name = names.first;
+    let name = names.first_words();
+    let Some(name) = names.first_file() else {
+        return push_line(out, name);
+    };
     let Some(bytes) = bytes_of(alloc, files, name) else {
         return push_line(out, name);
     };
     let kind = kind_of(alloc, &bytes)?;
-    let is_later = bytes.starts_with(Version::V2.magic());
-    let what = match kind {
-        Kind::Image if is_later && matches!(command, Command::MigrateImage { .. }) => {
-            "this is an image of version 2: expected one of version 1"
-        }
-        Kind::Image => "this image is damaged: expected one that pvsim wrote",
-        Kind::Other => "expected an image, which begins with PVIMAGE1 or PVIMAGE2",
-        _ => {
-            let _is_pushed = push_kind(alloc, out, name, kind, names.wanted, names.hint)?;
+    if kind == Kind::Image {
+        return push_damaged(alloc, out, name, &bytes, command);
+    }
+    if names.wanted == Wanted::Any {
+        if push_encoding(alloc, out, name, &bytes)? {
             return Ok(());
         }
-    };
+        return push_neither(alloc, out, name, kind);
+    }
+    if push_kind(alloc, out, name, kind, names.words, names.hint)? {
+        return Ok(());
+    }
+    let what = "expected an image, which begins with PVIMAGE1 or PVIMAGE2";
     push_line(out, format!(in alloc; "{name}: {what}")?.as_str())
 }
 
@@ -448,7 +418,7 @@ fn push_limits(alloc: Global, out: &mut Vec<u8>, version: Version) -> Result<(),
 
 // Appends the ways out if an image cannot hold the entries of a directory.
 fn push_ways_out(alloc: Global, out: &mut Vec<u8>, command: Command<'_>) -> Result<(), AllocError> {
-    let Command::ImportDirectory { version, skips, .. } = command else {
+    let Command::ImportDirectory(Import { version, skips, .. }) = command else {
         return Ok(());
     };
     push_limits(alloc, out, version)?;
@@ -461,85 +431,183 @@ fn push_ways_out(alloc: Global, out: &mut Vec<u8>, command: Command<'_>) -> Resu
     )
 }
 
-// Appends the explanation of an error in the input of a command.
-fn push_input<F: Files>(
+// Appends the explanation of an error in a line of the schedule of a command.
+fn push_schedule<F: Files>(
     alloc: Global,
     out: &mut Vec<u8>,
     files: &F,
     names: &Names<'_>,
     command: Command<'_>,
-    cause: Cause,
+    line: u32,
 ) -> Result<(), AllocError> {
-    match cause {
-        Cause::Reading => push_readings(alloc, out, files, names.first_file(), names.schedule),
-        Cause::Directory => match command {
-            Command::ImportDirectory { directory, .. } => {
-                push_directory(alloc, out, files, directory)
-            }
-            _ => Ok(()),
-        },
-        Cause::Text(named) => push_text(alloc, out, files, names, named),
-        Cause::Schedule(line) => match names.schedule {
-            Some(name) => push_turn(alloc, out, files, name, line),
-            None => push_text(alloc, out, files, names, None),
-        },
-        Cause::Init(line) => push_init(alloc, out, files, names, line),
-        Cause::Image => push_image(alloc, out, files, names, command),
-        Cause::Path(fault) => push_path(alloc, out, command, names.first_words(), fault),
-        Cause::Process => push_process(alloc, out, command, names.first_words()),
-        Cause::Source => push_source(alloc, out, files, names),
+    if let Some(name) = names.second {
+        return push_turn(alloc, out, files, name, line);
+    }
+    match command {
+        Command::Ask(
+            Asking {
+                question: Question::Audit(Some(name)) | Question::Reasons(Some(name)),
+                schedule: ScheduleInput::Own,
+                ..
+            },
+        ) if !is_text(alloc, files, names) => push_turn(alloc, out, files, name, line),
+        Command::Ask(
+            Asking {
+                schedule: ScheduleInput::File(_),
+                ..
+            },
+        ) => push_line(out, "standard input"),
+        _ => push_text(alloc, out, files, names, None),
+    }
+}
+
+// Appends the explanation of a refused input.
+fn push_refusal<F: Files>(
+    alloc: Global,
+    out: &mut Vec<u8>,
+    files: &F,
+    names: &Names<'_>,
+    command: Command<'_>,
+    refusal: Refusal,
+) -> Result<(), AllocError> {
+    match refusal {
+        Refusal::Short
+        | Refusal::Magic
+        | Refusal::Sizes
+        | Refusal::Inode(_)
+        | Refusal::Block(_)
+        | Refusal::Directory(_)
+        | Refusal::Tree(_) => push_image(alloc, out, files, names, command),
+        Refusal::ManifestSizes => push_text(alloc, out, files, names, None),
+        Refusal::Form(line)
+        | Refusal::Parent(line)
+        | Refusal::Exists(line)
+        | Refusal::Source(line)
+        | Refusal::Room(line) => push_text(alloc, out, files, names, Some(line)),
+        Refusal::Schedule(line) => push_schedule(alloc, out, files, names, command, line),
+        Refusal::Unscheduled => {
+            let name = names.first_words();
+            let what = "an image has no schedule; expected SCHEDULE, --by or --turns";
+            push_line(out, format!(in alloc; "{name}: {what}")?.as_str())
+        }
+        Refusal::Init(line) => push_init(alloc, out, files, names, line),
+        Refusal::NoProcess => push_process(alloc, out, command, names.first_words()),
+        Refusal::NotAudited(fault) | Refusal::NotFile(fault) => {
+            push_path(alloc, out, command, names.first_words(), fault)
+        }
+        Refusal::Small => push_sizes(alloc, out, command),
+        Refusal::Lines => push_source(alloc, out, files, names),
+        Refusal::Entries => push_ways_out(alloc, out, command),
+    }
+}
+
+// Appends the explanation of a failed write.
+fn push_target<F: Files>(
+    alloc: Global,
+    out: &mut Vec<u8>,
+    files: &F,
+    names: &Names<'_>,
+    target: Target,
+) -> Result<(), AllocError> {
+    match (target, names.out) {
+        (Target::Output, _) => push_line(out, "standard output"),
+        (Target::File, Some(name)) => push_reason(
+            alloc,
+            out,
+            name,
+            files.write_reason(alloc, name),
+        ),
+        (Target::Directory, Some(name)) => {
+            let wanted = "expected a directory that is empty or does not exist";
+            push_line(out, format!(in alloc; "{name}: {wanted}")?.as_str())
+        }
         _ => Ok(()),
     }
 }
 
-// Returns the explanation of an error of a command.
+// Appends the explanation of a failed read.
+fn push_origin<F: Files>(
+    alloc: Global,
+    out: &mut Vec<u8>,
+    files: &F,
+    names: &Names<'_>,
+    command: Command<'_>,
+    origin: Origin,
+) -> Result<(), AllocError> {
+    match (origin, command) {
+        (Origin::Directory, Command::ImportDirectory(import)) => {
+            push_directory(alloc, out, files, import.directory)
+        }
+        _ => push_readings(
+            alloc,
+            out,
+            files,
+            names.first_file(),
+            second_file(alloc, files, names, command),
+        ),
+    }
+}
+
+// Returns the second file that a command reads.
+fn second_file<'a, F: Files>(
+    alloc: Global,
+    files: &F,
+    names: &Names<'a>,
+    command: Command<'a>,
+) -> Option<&'a str> {
+    match command {
+        Command::Ask(
+            Asking {
+                question: Question::Audit(Some(name)) | Question::Reasons(Some(name)),
+                schedule: ScheduleInput::Own,
+                input: InputFile::Any(_),
+                ..
+            },
+        ) if !is_text(alloc, files, names) => Some(name),
+        _ => names.second,
+    }
+}
+
+// Returns the explanation of a command's failure.
 fn explanation<F: Files>(
     alloc: Global,
     files: &F,
     command: Command<'_>,
-    cause: Cause,
+    failure: Failure,
 ) -> Result<Vec<u8>, AllocError> {
     let names = &names_of(alloc, files, command);
     let mut out = Vec::new(alloc);
-    match (cause, names.out) {
-        (Cause::Writing, Some(name)) => {
-            push_reason(alloc, &mut out, name, files.write_reason(alloc, name))?;
+    match failure {
+        Failure::Read(origin) => push_origin(alloc, &mut out, files, names, command, origin)?,
+        Failure::Write(target) => push_target(alloc, &mut out, files, names, target)?,
+        Failure::Refused(refusal) => {
+            push_refusal(alloc, &mut out, files, names, command, refusal)?;
         }
-        (Cause::Target, Some(name)) => {
-            let wanted = "expected a directory that is empty or does not exist";
-            push_line(&mut out, format!(in alloc; "{name}: {wanted}")?.as_str())?;
-        }
-        (Cause::Output, _) => push_line(&mut out, "standard output")?,
-        (Cause::Entries, _) => push_ways_out(alloc, &mut out, command)?,
-        (Cause::Sizes, _) => push_sizes(alloc, &mut out, command)?,
-        _ => push_input(alloc, &mut out, files, names, command, cause)?,
+        Failure::Memory | Failure::Incomplete | Failure::Different => {}
     }
     Ok(out)
 }
 
-// Returns whether an error can be explained: it is not yet reported, or the entries of an import or the lines of a
+// Returns whether a failure can be explained: it is not yet reported, or the entries of an import or the lines of a
 // source are refused.
-pub(crate) fn is_explained(fault: Fault) -> bool
-    ensures { result ≡ is_explained fault }
+pub(crate) fn is_explained(failure: Failure) -> bool
+    ensures { result ≡ is_explained failure }
 {
-    match fault {
-        Fault::Importing(ImportStop::Refused) | Fault::Source(SourceStop::Refused) => true,
-        _ => !fault.is_reported(),
-    }
+    matches!(failure, Failure::Refused(_)) || !failure.is_reported()
 }
 
-// Writes the explanation of a command's error. If there is no memory or a write fails, nothing more is written.
+// Writes the explanation of a command's failure. If there is no memory or a write fails, nothing more is written.
 #[tactic(auto, using(crate::proofs::MessageParts::more_written, crate::proofs::MessageParts::more_nothing))]
 pub(crate) fn explain<F: Files, E: Sink>(
     alloc: Global,
     files: &F,
     command: Command<'_>,
-    fault: Fault,
+    failure: Failure,
     errors: &mut E,
 )
     ensures { WritesMore E.Sink errors.old errors.new }
 {
-    let Ok(text) = explanation(alloc, files, command, cause_of(fault)) else {
+    let Ok(text) = explanation(alloc, files, command, failure) else {
         return;
     };
     let _written = write_through(errors, &text);

@@ -5,25 +5,22 @@ ghost use Rattle.pv_cli_line.specs.Status.{kind_status, exit_status_of};
 
 use crate::command::LineFault;
 use clap::error::ErrorKind;
-use pv_cli_commands::Fault as CommandFault;
+use pv_cli_commands::Failure;
 use std::fmt;
 use thiserror::Error;
 
 /// The reason why the program fails. Its `Display` is the whole message for a person, with a newline at its end.
 #[derive(Debug, Drop, Error)]
 pub enum Fault {
-    /// The command was refused or ended early.
+    /// The command failed.
     #[error("{0}")]
-    Command(CommandFault),
+    Command(Failure),
     /// The words of the command line are not a command, or ask for help or the version.
     #[error("{0}")]
     Line(LineFault),
     /// The words of the command line are not UTF-8.
     #[error("pvsim: the command line is not UTF-8\n")]
     Words,
-    /// Help or the version was requested and could not be written.
-    #[error("pvsim: write\n")]
-    Write,
 }
 
 // Returns the status of an error of the parser, or of a request for help or the version.
@@ -37,17 +34,16 @@ fn parser_status(kind: ErrorKind) -> u8
 }
 
 impl Fault {
-    /// Returns the exit status: 1 for invalid input, 2 for an error in the command line, 3 for out of memory, 4 for a
-    /// failed read or write, 5 for a search that left a state out, and 0 if help or the version was requested.
+    /// Returns the exit status: that of the failure of a command, 2 for an error in the command line, 3 if there is no
+    /// memory for it, and 0 if help or the version was requested.
     pub fn status(&self) -> u8
         ensures { result ≡ exit_status_of self.now }
     {
         match self {
-            Fault::Command(fault) => fault.status(),
+            Fault::Command(failure) => failure.status(),
             Fault::Line(LineFault::Parser(error)) => parser_status(error.kind()),
             Fault::Line(LineFault::Memory) => 3,
             Fault::Line(LineFault::Number) | Fault::Words => 2,
-            Fault::Write => 4,
         }
     }
 
@@ -56,7 +52,7 @@ impl Fault {
         ensures { result ≡ is_reported self.now }
     {
         match self {
-            Fault::Command(fault) => fault.is_reported(),
+            Fault::Command(failure) => failure.is_reported(),
             _ => false,
         }
     }

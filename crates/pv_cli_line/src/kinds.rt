@@ -1,7 +1,7 @@
 //! The kind of a file that a command cannot use, by the bytes of the file: an image in place of a text, or a text that
 //! is not UTF-8.
 use crate::lines::push_line;
-use pv_cli_commands::questions::is_turns;
+use pv_cli_commands::questions::{is_source, is_turns};
 use pv_model::Version;
 use std::alloc::{AllocError, Global};
 
@@ -13,25 +13,11 @@ pub(crate) enum Kind {
     // An image of either version.
     Image,
     // A manifest, a bundle or a source.
-    Manifest,
+    Text,
     // A schedule.
     Schedule,
     // Any other bytes.
     Other,
-}
-
-// Returns whether a line of a text is blank or a comment.
-fn is_skipped(line: &[u8]) -> bool {
-    matches!(line.trim_ascii_start(), [] | [b'#', ..])
-}
-
-// Returns whether the first line of a text that is neither blank nor a comment begins as a manifest.
-fn is_manifest(text: &[u8]) -> bool {
-    let mut lines = text.split(|byte| *byte == b'\n');
-    match lines.find(|line| !is_skipped(line)) {
-        Some(line) => line.trim_ascii_start().starts_with(b"image ".as_slice()),
-        None => false,
-    }
 }
 
 // Returns the kind of a file with these bytes.
@@ -42,8 +28,8 @@ pub(crate) fn kind_of(alloc: Global, bytes: &[u8]) -> Result<Kind, AllocError> {
     if bytes.starts_with(Version::V1.magic()) || bytes.starts_with(Version::V2.magic()) {
         return Ok(Kind::Image);
     }
-    if is_manifest(bytes) {
-        return Ok(Kind::Manifest);
+    if is_source(bytes) {
+        return Ok(Kind::Text);
     }
     if is_turns(alloc, bytes)? {
         return Ok(Kind::Schedule);
@@ -57,7 +43,7 @@ impl Kind {
         match self {
             Kind::Empty => Some("this file is empty"),
             Kind::Image => Some("this is an image"),
-            Kind::Manifest => Some("this is a manifest, a bundle or a source"),
+            Kind::Text => Some("this is a manifest, a bundle or a source"),
             Kind::Schedule => Some("this is a schedule"),
             Kind::Other => None,
         }

@@ -1,96 +1,566 @@
 //! The command in the matches of the parser.
-ghost use Rattle.std.specs.Prelude.{◌≡◌, ◌⊎◌, ◌<◌, ℕ, List, codes, length, Option, None, Some, IfSome};
-ghost use Rattle.clap.specs.Words.{subcommand_rows_of as entered};
-ghost use Rattle.pv_cli_line.specs.Line.{AreComparedIn, AreMigrationTextsIn, HasFlags, HasTexts, IsAboutFiles, IsCommandIn, IsCommandOf, IsReadFrom, IsMigrationOf, IsPlain, IsQuestionIn, IsRunIn, IsTracedIn, IsTracedTextIn, IsTreeIn, IsValidRunIn, IsValidTreeIn, IsWithoutNumbers, Never, NeverBoth, entered_text, errors_entered, files_entered, kind_entered, output_entered, question_name, search_name, size_in};
+ghost use Rattle.std.specs.Prelude.{◌≡◌, ◌≤◌, ◌++◌, [], codes, false, length, None, Some, true, IfErr, IfOk, option_map};
+ghost use Rattle.std.specs.Option.{IsSomeAnd};
+ghost use Rattle.clap.specs.Words.{first_of, found_of, rows_of, subcommand_rows_of as entered};
+ghost use Rattle.pv_cli_line.specs.Line.{AreLast, FindsNamed, IsCommandIn, IsComparedIn, IsAboutFiles, IsGivenBy, IsGivenIn, IsNumberIn, IsReachIn, IsReadOnce, IsRunIn, IsScheduledBy, IsScheduledIn, IsSearchName, IsTracedBy, IsTracedIn, LacksCommand, Never, NeverBoth, NeverRun, errors_entered, is_digits, kind_in, input_file_name, list_of, size_in, words_entered};
+ghost use Rattle.pv_cli_line.specs.Words.{IsAsking, asking_of_tree, number_or_lack, words_of};
 
-use crate::texts::{
-    RunTexts, TreeTexts, count_of, files_in, is_flag_given, run_in, run_texts_in, size_of,
-    states_of, text_of, tree_in, tree_texts_in, version_of,
-};
+use crate::texts::{count_of, files_in, is_given, size_of, states_of, text_in, version_of};
 use clap::ArgMatches;
-use pv_cli_commands::questions::{Question, RunQuestion, Search, SearchKind, TreeQuestion};
-use pv_cli_commands::{
-    Command, CompareInput, Output, RunInput, ScheduleInput, TextInput, TreeInput,
-};
+use pv_cli_commands::questions::{Question, SearchKind};
+use pv_cli_commands::{Asking, Command, Import, InputFile, Output, ScheduleInput};
 
-// Returns the `mkimg` command, if the matches are of it.
-fn make_image_in<'a>(matches: &ArgMatches<'a>) -> Option<Command<'a>>
-    ensures found { IfSome result (IsCommandIn (entered matches.now)) }
-    ensures none { result ≡ None → (manifest image : List ℕ)
-        → entered_text (entered matches.now) (codes "mkimg") (codes "MANIFEST") ≡ Some manifest
-        → entered_text (entered matches.now) (codes "mkimg") (codes "IMAGE") ≡ Some image → ⊥ }
-{
-    let manifest = text_of(matches, "mkimg", "MANIFEST")?;
-    let image = text_of(matches, "mkimg", "IMAGE")?;
-    Some(Command::MakeImage { manifest, image })
+// Why matches have no command.
+#[derive(Clone, Copy, PartialEq, Eq)]
+pub(crate) enum NoCommand {
+    // Words are missing, or there are too many.
+    Words,
+    // A numeric argument is not a number.
+    Number,
+    // There are more files than a question has.
+    ManyFiles,
 }
 
-// Returns the `run` command, if the matches are of it.
-fn run_image_in<'a>(matches: &ArgMatches<'a>) -> Option<Command<'a>>
-    ensures found { IfSome result (IsCommandIn (entered matches.now)) }
-    ensures none { result ≡ None → (image schedule out : List ℕ)
-        → entered_text (entered matches.now) (codes "run") (codes "IMAGE") ≡ Some image
-        → entered_text (entered matches.now) (codes "run") (codes "SCHEDULE") ≡ Some schedule
-        → entered_text (entered matches.now) (codes "run") (codes "OUT") ≡ Some out → ⊥ }
+// The words of a command beside its options, in order.
+#[derive(Clone, Copy)]
+enum Words<'a> {
+    // There is none.
+    Zero,
+    // There is one.
+    One(&'a str),
+    // There are two.
+    Two(&'a str, &'a str),
+    // There are three.
+    Three(&'a str, &'a str, &'a str),
+}
+
+// The input of a command, and the words after it.
+#[derive(Clone, Copy)]
+struct Given<'a> {
+    input: InputFile<'a>,
+    words: Words<'a>,
+}
+
+// The input of a question about a run, its schedule, and the word after them.
+#[derive(Clone, Copy)]
+pub(crate) struct Run<'a> {
+    input: InputFile<'a>,
+    schedule: ScheduleInput<'a>,
+    pub(crate) further: Option<&'a str>,
+}
+
+// Returns a number, if there is one.
+fn number(value: Option<u32>) -> Result<u32, NoCommand>
+    ensures { result ≡ number_or_lack value }
 {
-    let image = text_of(matches, "run", "IMAGE")?;
-    let schedule = text_of(matches, "run", "SCHEDULE")?;
-    let out = text_of(matches, "run", "OUT")?;
-    Some(Command::RunImage {
+    value.ok_or(NoCommand::Number)
+}
+
+// Returns the text of a required argument.
+fn required<'a>(inner: &ArgMatches<'a>, argument: &str) -> Result<&'a str, NoCommand>
+    ensures found { IfOk result (λ text. first_of argument.now (rows_of (found_of inner.now)) ≡ Some text.now) }
+    ensures none { IfErr result (λ lack. (lack ≡ NoCommand.Words) × (first_of argument.now (rows_of (found_of inner.now)) ≡ None)) }
+{
+    text_in(inner, argument).ok_or(NoCommand::Words)
+}
+
+// Returns a word before others. There are at most two others.
+fn before<'a>(first: Option<&'a str>, words: Words<'a>) -> Words<'a>
+    requires { length (words_of words) ≤ 2 }
+    ensures { words_of result ≡ list_of (option_map (λ word. word.now) first.entry) ++ words_of words.entry }
+{
+    match (first, words) {
+        (Some(first), Words::Zero) => Words::One(first),
+        (Some(first), Words::One(second)) => Words::Two(first, second),
+        (Some(first), Words::Two(second, third)) => Words::Three(first, second, third),
+        (Some(_), Words::Three(..)) | (None, _) => words,
+    }
+}
+
+// Returns the words of a command beside its options. `last` is the name of the last.
+fn words_in<'a>(inner: &ArgMatches<'a>, last: &str) -> Words<'a>
+    ensures { words_of result ≡ words_entered (rows_of (found_of inner.now)) last.now }
+{
+    let third = before(text_in(inner, last), Words::Zero);
+    let second = before(text_in(inner, "SCHEDULE"), third);
+    before(text_in(inner, "FILE"), second)
+}
+
+// Returns the input of a command and the words after it, if no option names the input: the first word is the input.
+fn given_first<'a>(words: Words<'a>) -> Result<Given<'a>, NoCommand>
+    ensures found { IfOk result (λ given. IsGivenBy None None (words_of words.entry) given.input (words_of given.words)) }
+    ensures none { IfErr result (λ lack. (lack ≡ NoCommand.Words) × NeverBoth (IsGivenBy None None (words_of words.entry))) }
+{
+    let (name, words) = match words {
+        Words::Zero => return Err(NoCommand::Words),
+        Words::One(name) => (name, Words::Zero),
+        Words::Two(name, first) => (name, Words::One(first)),
+        Words::Three(name, first, second) => (name, Words::Two(first, second)),
+    };
+    Ok(Given {
+        input: InputFile::Any(name),
+        words,
+    })
+}
+
+// Returns the input of a command and the words after it: that of `--bundle` or `--source`, or the first word. `last` is
+// the name of the last word.
+fn given_in<'a>(inner: &ArgMatches<'a>, last: &str) -> Result<Given<'a>, NoCommand>
+    ensures found { IfOk result (λ given. IsGivenIn (rows_of (found_of inner.now)) last.now given.input (words_of given.words)) }
+    ensures none { IfErr result (λ lack. (lack ≡ NoCommand.Words) × NeverBoth (IsGivenIn (rows_of (found_of inner.now)) last.now)) }
+{
+    let words = words_in(inner, last);
+    match (text_in(inner, "bundle"), text_in(inner, "source")) {
+        (Some(_), Some(_)) => Err(NoCommand::Words),
+        (Some(name), None) => Ok(Given {
+            input: InputFile::Bundle(name),
+            words,
+        }),
+        (None, Some(name)) => Ok(Given {
+            input: InputFile::Any(name),
+            words,
+        }),
+        (None, None) => given_first(words),
+    }
+}
+
+// Returns the word after a schedule that takes no word, if these words are no more. `is_last` says whether the command
+// takes a word after its schedule.
+fn last_of<'a>(words: Words<'a>, is_last: bool) -> Result<Option<&'a str>, NoCommand>
+    ensures found { IfOk result (λ further. AreLast is_last (words_of words.entry) (option_map (λ word. word.now) further)) }
+    ensures none { IfErr result (λ lack. (lack ≡ NoCommand.Words) × Never (AreLast is_last (words_of words.entry))) }
+{
+    match words {
+        Words::Zero => Ok(None),
+        Words::One(word) if is_last => Ok(Some(word)),
+        _ => Err(NoCommand::Words),
+    }
+}
+
+// Returns the schedule of a question about a run and the word after it, if these words are they and no option gives the
+// schedule.
+fn schedule_first<'a>(
+    words: Words<'a>,
+    is_last: bool,
+) -> Result<(ScheduleInput<'a>, Option<&'a str>), NoCommand>
+    ensures found { IfOk result (λ p. IsScheduledBy None false is_last (words_of words.entry) p.0 (option_map (λ word. word.now) p.1)) }
+    ensures none { IfErr result (λ lack. (lack ≡ NoCommand.Words) × NeverBoth (IsScheduledBy None false is_last (words_of words.entry))) }
+{
+    match words {
+        Words::One(name) if !is_last => Ok((ScheduleInput::File(name), None)),
+        Words::Two(name, word) if is_last => Ok((ScheduleInput::File(name), Some(word))),
+        _ => Ok((ScheduleInput::Own, last_of(words, is_last)?)),
+    }
+}
+
+// Returns the schedule of a question about a run and the word after it, if these words are they. `is_last` says whether
+// the command takes a word after the schedule.
+fn schedule_of<'a>(
+    inner: &ArgMatches<'a>,
+    words: Words<'a>,
+    is_last: bool,
+) -> Result<(ScheduleInput<'a>, Option<&'a str>), NoCommand>
+    ensures found { IfOk result (λ p. IsScheduledIn (rows_of (found_of inner.now)) is_last (words_of words.entry) p.0 (option_map (λ word. word.now) p.1)) }
+    ensures none { IfErr result (λ lack. (lack ≡ NoCommand.Words) × NeverBoth (IsScheduledIn (rows_of (found_of inner.now)) is_last (words_of words.entry))) }
+{
+    match (text_in(inner, "by"), is_given(inner, "turns")) {
+        (Some(_), true) => Err(NoCommand::Words),
+        (Some(turns), false) => Ok((ScheduleInput::Turns(turns), last_of(words, is_last)?)),
+        (None, true) => Ok((ScheduleInput::Fair, last_of(words, is_last)?)),
+        (None, false) => schedule_first(words, is_last),
+    }
+}
+
+// Returns the name of the file of an input.
+fn name_of(input: InputFile<'_>) -> &str
+    ensures { result.now ≡ input_file_name input.entry }
+{
+    match input {
+        InputFile::Any(name) | InputFile::Bundle(name) | InputFile::Source(name) => name,
+    }
+}
+
+// Returns the input and the schedule of a question about a run, if they are not both the standard input.
+fn run_of<'a>(
+    input: InputFile<'a>,
+    schedule: ScheduleInput<'a>,
+    further: Option<&'a str>,
+) -> Result<Run<'a>, NoCommand>
+    ensures found { IfOk result (λ run. (run.input ≡ input.entry) × (run.schedule ≡ schedule.entry) × (run.further ≡ further.entry) × IsReadOnce input.entry schedule.entry) }
+    ensures none { IfErr result (λ lack. (lack ≡ NoCommand.Words) × (IsReadOnce input.entry schedule.entry → ⊥)) }
+{
+    if name_of(input) == "-" && matches!(schedule, ScheduleInput::File("-")) {
+        return Err(NoCommand::Words);
+    }
+    Ok(Run {
+        input,
+        schedule,
+        further,
+    })
+}
+
+// Returns the input and the schedule of a question about a run.
+fn run_in<'a>(inner: &ArgMatches<'a>) -> Result<Run<'a>, NoCommand>
+    ensures found { IfOk result (λ run. IsRunIn (rows_of (found_of inner.now)) (codes "PATH") false run.input run.schedule (option_map (λ word. word.now) run.further)) }
+    ensures none { IfErr result (λ lack. (lack ≡ NoCommand.Words) × NeverRun (IsRunIn (rows_of (found_of inner.now)) (codes "PATH") false)) }
+{
+    let given = given_in(inner, "PATH")?;
+    let (schedule, further) = schedule_of(inner, given.words, false)?;
+    run_of(given.input, schedule, further)
+}
+
+// Returns the input and the schedule of a question about a run, and the word with the name `last` after them.
+fn run_and_word_in<'a>(inner: &ArgMatches<'a>, last: &str) -> Result<Run<'a>, NoCommand>
+    ensures found { IfOk result (λ run. IsRunIn (rows_of (found_of inner.now)) last.now true run.input run.schedule (option_map (λ word. word.now) run.further)) }
+    ensures none { IfErr result (λ lack. (lack ≡ NoCommand.Words) × NeverRun (IsRunIn (rows_of (found_of inner.now)) last.now true)) }
+{
+    let given = given_in(inner, last)?;
+    let (schedule, further) = schedule_of(inner, given.words, true)?;
+    run_of(given.input, schedule, further)
+}
+
+// Returns whether a word has only digits.
+fn is_digits(word: &str) -> bool
+    ensures { result ≡ is_digits word.now }
+{
+    word.as_bytes().iter().all(|byte| byte.is_ascii_digit())
+}
+
+// Returns the input and the schedule of `reach`, and the word of the process. A single word after an input that may be
+// an image is the schedule, unless it has only digits.
+pub(crate) fn reached_in<'a>(inner: &ArgMatches<'a>) -> Result<Run<'a>, NoCommand>
+    ensures found { IfOk result (λ run. IsReachIn (rows_of (found_of inner.now)) run.input run.schedule (option_map (λ word. word.now) run.further)) }
+    ensures none { IfErr result (λ lack. (lack ≡ NoCommand.Words) × NeverRun (IsReachIn (rows_of (found_of inner.now)))) }
+{
+    let run = run_and_word_in(inner, "PID")?;
+    match run {
+        Run {
+            input: InputFile::Any(_),
+            schedule: ScheduleInput::Own,
+            further: Some(word),
+        } if !is_digits(word) => run_of(run.input, ScheduleInput::File(word), None),
+        _ => Ok(run),
+    }
+}
+
+// Returns the number of steps after which a schedule is cut.
+fn steps_in(inner: &ArgMatches<'_>) -> Result<Option<u32>, NoCommand>
+    ensures found { IfOk result (IsNumberIn (first_of (codes "steps") (rows_of (found_of inner.now)))) }
+    ensures none { IfErr result (λ lack. (lack ≡ NoCommand.Number) × IsSomeAnd (first_of (codes "steps") (rows_of (found_of inner.now))) (λ word. size_in word ≡ None)) }
+{
+    match text_in(inner, "steps") {
+        Some(word) => Ok(Some(number(size_of(word))?)),
+        None => Ok(None),
+    }
+}
+
+// Returns the command of a question about a run.
+fn asked<'a>(
+    inner: &ArgMatches<'a>,
+    question: Question<'a>,
+    run: Run<'a>,
+) -> Result<Command<'a>, NoCommand>
+    ensures found { IfOk result (IsAsking question.entry run.entry (first_of (codes "steps") (rows_of (found_of inner.now)))) }
+    ensures none { IfErr result (λ lack. (lack ≡ NoCommand.Number) × IsSomeAnd (first_of (codes "steps") (rows_of (found_of inner.now))) (λ word. size_in word ≡ None)) }
+{
+    let Run {
+        input,
+        schedule,
+        ..
+    } = run;
+    let steps = steps_in(inner)?;
+    Ok(Command::Ask(Asking {
+        question,
+        input,
+        schedule,
+        steps,
+    }))
+}
+
+// Returns the input of `run-tree`.
+fn traced_input<'a>(inner: &ArgMatches<'a>) -> Result<InputFile<'a>, NoCommand>
+    ensures found { IfOk result (IsTracedIn (rows_of (found_of inner.now))) }
+    ensures none { IfErr result (λ lack. (lack ≡ NoCommand.Words) × Never (IsTracedIn (rows_of (found_of inner.now)))) }
+{
+    let file = required(inner, "FILE")?;
+    if is_given(inner, "source") {
+        return Ok(InputFile::Source(file));
+    }
+    Ok(InputFile::Bundle(file))
+}
+
+// Returns the schedule of `run-tree`.
+fn traced_schedule<'a>(inner: &ArgMatches<'a>) -> ScheduleInput<'a>
+    ensures { IsTracedBy (first_of (codes "by") (rows_of (found_of inner.now))) result }
+{
+    match text_in(inner, "by") {
+        Some(turns) => ScheduleInput::Turns(turns),
+        None => ScheduleInput::Own,
+    }
+}
+
+// Returns the `run-tree` command.
+fn traced_in<'a>(inner: &ArgMatches<'a>) -> Result<Command<'a>, NoCommand>
+    ensures { FindsNamed (codes "run-tree") (rows_of (found_of inner.now)) result }
+{
+    let run = Run {
+        input: traced_input(inner)?,
+        schedule: traced_schedule(inner),
+        further: None,
+    };
+    asked(inner, Question::Trace, run)
+}
+
+// Returns the `reach` command.
+fn reach_in<'a>(inner: &ArgMatches<'a>) -> Result<Command<'a>, NoCommand>
+    ensures { FindsNamed (codes "reach") (rows_of (found_of inner.now)) result }
+{
+    let run = reached_in(inner)?;
+    let pid = match run.further {
+        Some(word) => Some(number(size_of(word))?),
+        None => None,
+    };
+    asked(inner, Question::Reach(pid), run)
+}
+
+// Returns the `audit` command.
+fn audit_in<'a>(inner: &ArgMatches<'a>) -> Result<Command<'a>, NoCommand>
+    ensures { FindsNamed (codes "audit") (rows_of (found_of inner.now)) result }
+{
+    let run = run_and_word_in(inner, "PATH")?;
+    if is_given(inner, "reasons") {
+        return asked(inner, Question::Reasons(run.further), run);
+    }
+    asked(inner, Question::Audit(run.further), run)
+}
+
+// Returns whether `explain` writes the reasons of errors and the lines of execve(2): unless `brief` is given without
+// `errors`.
+fn has_reasons(inner: &ArgMatches<'_>) -> bool
+    ensures { result ≡ errors_entered (rows_of (found_of inner.now)) }
+{
+    is_given(inner, "errors") || !is_given(inner, "brief")
+}
+
+// Returns the `explain` command.
+fn explain_in<'a>(inner: &ArgMatches<'a>) -> Result<Command<'a>, NoCommand>
+    ensures { FindsNamed (codes "explain") (rows_of (found_of inner.now)) result }
+{
+    let run = run_in(inner)?;
+    let question = Question::Explain {
+        errors: has_reasons(inner),
+        allowed: is_given(inner, "allowed"),
+    };
+    asked(inner, question, run)
+}
+
+// Returns the `state` command.
+fn state_in<'a>(inner: &ArgMatches<'a>) -> Result<Command<'a>, NoCommand>
+    ensures { FindsNamed (codes "state") (rows_of (found_of inner.now)) result }
+{
+    let run = run_in(inner)?;
+    asked(inner, Question::State, run)
+}
+
+// Returns the `needs` command.
+fn needs_in<'a>(inner: &ArgMatches<'a>) -> Result<Command<'a>, NoCommand>
+    ensures { FindsNamed (codes "needs") (rows_of (found_of inner.now)) result }
+{
+    let run = run_in(inner)?;
+    let granted = is_given(inner, "granted");
+    asked(inner, Question::Needs { granted }, run)
+}
+
+// Returns the command of a question about a tree.
+fn asked_of_tree<'a>(question: Question<'a>, input: InputFile<'a>) -> Command<'a>
+    ensures { result ≡ asking_of_tree question.entry input.entry }
+{
+    Command::Ask(Asking {
+        question,
+        input,
+        schedule: ScheduleInput::Own,
+        steps: None,
+    })
+}
+
+// Returns the input of a command that takes no further word.
+fn tree_in<'a>(inner: &ArgMatches<'a>) -> Result<InputFile<'a>, NoCommand>
+    ensures found { IfOk result (λ file. IsGivenIn (rows_of (found_of inner.now)) (codes "PATH") file []) }
+    ensures none { IfErr result (λ lack. (lack ≡ NoCommand.Words) × Never (λ file. IsGivenIn (rows_of (found_of inner.now)) (codes "PATH") file [])) }
+{
+    match given_in(inner, "PATH")? {
+        Given {
+            input,
+            words: Words::Zero,
+        } => Ok(input),
+        _ => Err(NoCommand::Words),
+    }
+}
+
+// Returns the `ls` command.
+fn listing_in<'a>(inner: &ArgMatches<'a>) -> Result<Command<'a>, NoCommand>
+    ensures { FindsNamed (codes "ls") (rows_of (found_of inner.now)) result }
+{
+    let input = tree_in(inner)?;
+    Ok(asked_of_tree(Question::Listing, input))
+}
+
+// Returns the `cat` command.
+fn cat_in<'a>(inner: &ArgMatches<'a>) -> Result<Command<'a>, NoCommand>
+    ensures { FindsNamed (codes "cat") (rows_of (found_of inner.now)) result }
+{
+    match given_in(inner, "PATH")? {
+        Given {
+            input,
+            words: Words::One(path),
+        } => Ok(asked_of_tree(Question::File(path), input)),
+        _ => Err(NoCommand::Words),
+    }
+}
+
+// Returns the `turns` command.
+fn turns_in<'a>(inner: &ArgMatches<'a>) -> Result<Command<'a>, NoCommand>
+    ensures { FindsNamed (codes "turns") (rows_of (found_of inner.now)) result }
+{
+    let input = tree_in(inner)?;
+    let slice = number(count_of(text_in(inner, "slice"), 1))?;
+    let steps = number(count_of(text_in(inner, "steps"), 1_000))?;
+    Ok(asked_of_tree(Question::Turns { slice, steps }, input))
+}
+
+// Returns the kind of a search, which the flag `reduced` chooses.
+fn kind_in(inner: &ArgMatches<'_>) -> SearchKind
+    ensures { result ≡ kind_in (rows_of (found_of inner.now)) }
+{
+    if is_given(inner, "reduced") {
+        SearchKind::Reduced
+    } else {
+        SearchKind::Full
+    }
+}
+
+// Returns the command of a search that may be about given files.
+fn about_files_in<'a>(inner: &ArgMatches<'a>, name: &str) -> Result<Command<'a>, NoCommand>
+    requires { IsAboutFiles name.now }
+    ensures { FindsNamed name.now (rows_of (found_of inner.now)) result }
+{
+    let input = tree_in(inner)?;
+    let files = files_in(inner).ok_or(NoCommand::ManyFiles)?;
+    let states = number(states_of(text_in(inner, "states")))?;
+    let kind = kind_in(inner);
+    if name == "access" {
+        let question = Question::Access {
+            kind,
+            files,
+            states,
+        };
+        return Ok(asked_of_tree(question, input));
+    }
+    let question = Question::Exposure {
+        kind,
+        files,
+        states,
+    };
+    Ok(asked_of_tree(question, input))
+}
+
+// Returns the command of another search.
+fn search_in<'a>(inner: &ArgMatches<'a>, name: &str) -> Result<Command<'a>, NoCommand>
+    requires { IsSearchName name.now }
+    ensures { FindsNamed name.now (rows_of (found_of inner.now)) result }
+{
+    let input = tree_in(inner)?;
+    let states = number(states_of(text_in(inner, "states")))?;
+    let kind = kind_in(inner);
+    if name == "policy" {
+        let granted = is_given(inner, "granted");
+        let question = Question::Policy {
+            kind,
+            granted,
+            states,
+        };
+        return Ok(asked_of_tree(question, input));
+    }
+    if name == "graph" {
+        let tree = is_given(inner, "tree");
+        return Ok(asked_of_tree(Question::Graph { tree, states }, input));
+    }
+    Ok(asked_of_tree(Question::Explore { kind, states }, input))
+}
+
+// Returns the two inputs of `compare`: two words, or a bundle and a word.
+fn compared_in<'a>(inner: &ArgMatches<'a>) -> Result<(InputFile<'a>, InputFile<'a>), NoCommand>
+    ensures found { IfOk result (λ p. IsComparedIn (rows_of (found_of inner.now)) p.0 p.1) }
+    ensures none { IfErr result (λ lack. (lack ≡ NoCommand.Words) × NeverBoth (IsComparedIn (rows_of (found_of inner.now)))) }
+{
+    let file = required(inner, "FILE")?;
+    match (text_in(inner, "bundle"), text_in(inner, "OTHER")) {
+        (Some("-"), None) if file == "-" => Err(NoCommand::Words),
+        (Some(bundle), None) => Ok((InputFile::Bundle(bundle), InputFile::Bundle(file))),
+        (None, Some("-")) if file == "-" => Err(NoCommand::Words),
+        (None, Some(other)) => Ok((InputFile::Any(file), InputFile::Any(other))),
+        _ => Err(NoCommand::Words),
+    }
+}
+
+// Returns the `compare` command.
+fn compare_in<'a>(inner: &ArgMatches<'a>) -> Result<Command<'a>, NoCommand>
+    ensures { FindsNamed (codes "compare") (rows_of (found_of inner.now)) result }
+{
+    let (first, second) = compared_in(inner)?;
+    let pairs = number(states_of(text_in(inner, "states")))?;
+    Ok(Command::Compare {
+        first,
+        second,
+        pairs,
+    })
+}
+
+// Returns the `source` command.
+fn source_in<'a>(inner: &ArgMatches<'a>) -> Result<Command<'a>, NoCommand>
+    ensures { FindsNamed (codes "source") (rows_of (found_of inner.now)) result }
+{
+    let kind = if is_given(inner, "lines") {
+        Output::ProgramLines
+    } else {
+        Output::Translation
+    };
+    let source = required(inner, "FILE")?;
+    Ok(Command::WriteSource { source, kind })
+}
+
+// Returns the `mkimg` command.
+fn make_image_in<'a>(inner: &ArgMatches<'a>) -> Result<Command<'a>, NoCommand>
+    ensures { FindsNamed (codes "mkimg") (rows_of (found_of inner.now)) result }
+{
+    let manifest = required(inner, "MANIFEST")?;
+    let image = required(inner, "IMAGE")?;
+    Ok(Command::MakeImage { manifest, image })
+}
+
+// Returns the `run` command.
+fn run_image_in<'a>(inner: &ArgMatches<'a>) -> Result<Command<'a>, NoCommand>
+    ensures { FindsNamed (codes "run") (rows_of (found_of inner.now)) result }
+{
+    let image = required(inner, "IMAGE")?;
+    let schedule = required(inner, "SCHEDULE")?;
+    let out = required(inner, "OUT")?;
+    Ok(Command::RunImage {
         image,
         schedule,
         out,
     })
 }
 
-// Returns the `export` command, if the matches are of it.
-fn export_in<'a>(matches: &ArgMatches<'a>) -> Option<Command<'a>>
-    ensures found { IfSome result (IsCommandIn (entered matches.now)) }
-    ensures none { result ≡ None → (image directory : List ℕ)
-        → entered_text (entered matches.now) (codes "export") (codes "IMAGE") ≡ Some image
-        → entered_text (entered matches.now) (codes "export") (codes "DIR") ≡ Some directory → ⊥ }
+// Returns the `migrate` command.
+fn migrate_in<'a>(inner: &ArgMatches<'a>) -> Result<Command<'a>, NoCommand>
+    ensures { FindsNamed (codes "migrate") (rows_of (found_of inner.now)) result }
 {
-    let image = text_of(matches, "export", "IMAGE")?;
-    let directory = text_of(matches, "export", "DIR")?;
-    Some(Command::ExportImage { image, directory })
-}
-
-// The texts of `migrate`.
-#[derive(Clone, Copy)]
-struct Migration<'a> {
-    image: &'a str,
-    out: &'a str,
-    blocks: &'a str,
-    inodes: &'a str,
-}
-
-impl<'a> Migration<'a> {
-    // Returns the command, if both texts are numbers.
-    fn command(self) -> Option<Command<'a>>
-        ensures found { IfSome result (IsMigrationOf self.entry) }
-        ensures none { result ≡ None → (size_in self.entry.blocks.now ≡ None) ⊎ (size_in self.entry.inodes.now ≡ None) }
-    {
-        let blocks = size_of(self.blocks)?;
-        let inodes = size_of(self.inodes)?;
-        Some(Command::MigrateImage {
-            image: self.image,
-            out: self.out,
-            blocks,
-            inodes,
-        })
-    }
-}
-
-// Returns the texts of `migrate`, if the matches are of it.
-fn migration_in<'a>(matches: &ArgMatches<'a>) -> Option<Migration<'a>>
-    ensures found { IfSome result (AreMigrationTextsIn (entered matches.now)) }
-    ensures none { result ≡ None → (image out blocks inodes : List ℕ) → HasTexts (entered matches.now) image out blocks inodes → ⊥ }
-{
-    let image = text_of(matches, "migrate", "IMAGE")?;
-    let out = text_of(matches, "migrate", "OUT")?;
-    let blocks = text_of(matches, "migrate", "BLOCKS")?;
-    let inodes = text_of(matches, "migrate", "INODES")?;
-    Some(Migration {
+    let image = required(inner, "IMAGE")?;
+    let out = required(inner, "OUT")?;
+    let blocks = number(size_of(required(inner, "BLOCKS")?))?;
+    let inodes = number(size_of(required(inner, "INODES")?))?;
+    Ok(Command::MigrateImage {
         image,
         out,
         blocks,
@@ -98,505 +568,65 @@ fn migration_in<'a>(matches: &ArgMatches<'a>) -> Option<Migration<'a>>
     })
 }
 
-// The result of reading the matches.
-#[derive(Clone, Copy)]
-pub(crate) enum Parsed<'a> {
-    // A command.
-    Command(Command<'a>),
-    // A command with a numeric argument that is not a number.
-    Number,
-    // A command with more files than a question has.
-    ManyFiles,
-}
-
-// Returns the name of the command that asks a question about a run.
-fn name_of(question: Question<'_>) -> &'static str
-    ensures { result.now ≡ question_name question.entry }
+// Returns the `import` command.
+fn import_in<'a>(inner: &ArgMatches<'a>) -> Result<Command<'a>, NoCommand>
+    ensures { FindsNamed (codes "import") (rows_of (found_of inner.now)) result }
 {
-    match question {
-        Question::Trace => "run-tree",
-        Question::State => "state",
-        Question::Reach(_) => "reach",
-        Question::Explain { .. } => "explain",
-        Question::Needs { .. } => "needs",
-        Question::Audit(_) | Question::Reasons(_) => "audit",
-    }
-}
-
-// Returns the command of the trace of a complete run. The trace of a plain bundle is a command of its own.
-fn whole_trace<'a>(question: RunQuestion<'a>, run: RunInput<'a>) -> Command<'a>
-    requires trace { question.question ≡ Question.Trace }
-    requires whole { question.steps ≡ None }
-    ensures { IsCommandOf question.entry run.entry result }
-{
-    match run {
-        RunInput::Bundle(TextInput::Plain(file)) => Command::RunTree(file),
-        RunInput::Bundle(TextInput::Source(_))
-        | RunInput::Image { .. }
-        | RunInput::Manifest { .. } => Command::Ask { question, run },
-    }
-}
-
-// Returns the command of an audit after a complete run. That of an image and a schedule in files is a command of its
-// own.
-fn whole_audit<'a>(
-    question: RunQuestion<'a>,
-    path: Option<&'a [u8]>,
-    run: RunInput<'a>,
-) -> Command<'a>
-    requires audit { question.question ≡ Question.Audit path }
-    requires whole { question.steps ≡ None }
-    ensures { IsCommandOf question.entry run.entry result }
-{
-    match run {
-        RunInput::Image {
-            image,
-            schedule: ScheduleInput::File(schedule),
-        } => Command::AuditImage {
-            image,
-            schedule,
-            path,
-        },
-        RunInput::Image {
-            schedule: ScheduleInput::Turns(_),
-            ..
-        }
-        | RunInput::Bundle(_)
-        | RunInput::Manifest { .. } => Command::Ask { question, run },
-    }
-}
-
-// Returns the command of a question about a run.
-fn command_of_question<'a>(question: RunQuestion<'a>, run: RunInput<'a>) -> Command<'a>
-    ensures { IsCommandOf question.entry run.entry result }
-{
-    match question.steps {
-        Some(_) => Command::Ask { question, run },
-        None => match question.question {
-            Question::Trace => whole_trace(question, run),
-            Question::Audit(path) => whole_audit(question, path, run),
-            Question::State
-            | Question::Reach(_)
-            | Question::Explain { .. }
-            | Question::Needs { .. }
-            | Question::Reasons(_) => Command::Ask { question, run },
-        },
-    }
-}
-
-// Returns the command of a question about a run that is in the matches, with its number of steps.
-#[tactic(auto, using(crate::proofs::QuestionMatches::found_command, crate::proofs::QuestionMatches::no_number))]
-fn with_steps<'a>(matches: &ArgMatches<'a>, question: Question<'a>, run: RunInput<'a>) -> Parsed<'a>
-    requires { IsQuestionIn (entered matches.now) question run }
-    ensures { IsReadFrom (entered matches.now) result }
-{
-    let Some(word) = text_of(matches, name_of(question), "steps") else {
-        let steps = None;
-        return Parsed::Command(command_of_question(RunQuestion { question, steps }, run));
-    };
-    let Some(steps) = size_of(word) else {
-        return Parsed::Number;
-    };
-    let steps = Some(steps);
-    Parsed::Command(command_of_question(RunQuestion { question, steps }, run))
-}
-
-// Returns the `reach` command, if the matches are of it.
-fn reach_in<'a>(matches: &ArgMatches<'a>) -> Option<Parsed<'a>>
-    ensures found { IfSome result (IsReadFrom (entered matches.now)) }
-    ensures none { result ≡ None → NeverBoth (λ pid. IsQuestionIn (entered matches.now) (Question.Reach pid)) }
-{
-    let RunTexts { run, further } = run_texts_in(matches, "reach", "PID")?;
-    let Some(word) = further else {
-        return Some(with_steps(matches, Question::Reach(None), run));
-    };
-    let Some(pid) = size_of(word) else {
-        return Some(Parsed::Number);
-    };
-    Some(with_steps(matches, Question::Reach(Some(pid)), run))
-}
-
-// Returns the `audit` command, if the matches are of it.
-fn audit_in<'a>(matches: &ArgMatches<'a>) -> Option<Parsed<'a>>
-    ensures found { IfSome result (IsReadFrom (entered matches.now)) }
-    ensures none { result ≡ None → NeverBoth (IsRunIn (entered matches.now) (codes "audit") (codes "PATH")) }
-{
-    let RunTexts { run, further } = run_texts_in(matches, "audit", "PATH")?;
-    let path = further.map(|path| path.as_bytes());
-    let question = if is_flag_given(matches, "audit", "reasons") {
-        Question::Reasons(path)
-    } else {
-        Question::Audit(path)
-    };
-    Some(with_steps(matches, question, run))
-}
-
-// Returns the file of `run-tree`, if the matches are of it.
-fn traced_text_in<'a>(matches: &ArgMatches<'a>) -> Option<TextInput<'a>>
-    ensures found { IfSome result (IsTracedTextIn (entered matches.now)) }
-    ensures none { result ≡ None → Never (IsTracedTextIn (entered matches.now)) }
-{
-    let file = text_of(matches, "run-tree", "FILE")?;
-    if is_flag_given(matches, "run-tree", "source") {
-        Some(TextInput::Source(file))
-    } else {
-        Some(TextInput::Plain(file))
-    }
-}
-
-// Returns the input of `run-tree`, if the matches are of it.
-fn traced_in<'a>(matches: &ArgMatches<'a>) -> Option<RunInput<'a>>
-    ensures found { IfSome result (IsTracedIn (entered matches.now)) }
-    ensures none { result ≡ None → Never (IsTracedIn (entered matches.now)) }
-{
-    let manifest = traced_text_in(matches)?;
-    let Some(turns) = text_of(matches, "run-tree", "by") else {
-        return Some(RunInput::Bundle(manifest));
-    };
-    let schedule = ScheduleInput::Turns(turns);
-    Some(RunInput::Manifest { manifest, schedule })
-}
-
-// Returns the `needs` command, if the matches are of it.
-fn needs_in<'a>(matches: &ArgMatches<'a>) -> Option<Parsed<'a>>
-    ensures found { IfSome result (IsReadFrom (entered matches.now)) }
-    ensures none { result ≡ None → Never (IsValidRunIn (entered matches.now) (codes "needs")) }
-{
-    let run = run_in(matches, "needs")?;
-    let granted = is_flag_given(matches, "needs", "granted");
-    Some(with_steps(matches, Question::Needs { granted }, run))
-}
-
-// Returns whether the reasons of errors and the lines of execve(2) are written: they are, unless `brief` is given without
-// `errors`.
-fn are_errors_explained(matches: &ArgMatches<'_>) -> bool
-    ensures { result ≡ errors_entered (entered matches.now) }
-{
-    is_flag_given(matches, "explain", "errors") || !is_flag_given(matches, "explain", "brief")
-}
-
-// Returns the `explain` command, if the matches are of it.
-fn explain_in<'a>(matches: &ArgMatches<'a>) -> Option<Parsed<'a>>
-    ensures found { IfSome result (IsReadFrom (entered matches.now)) }
-    ensures none { result ≡ None → Never (IsValidRunIn (entered matches.now) (codes "explain")) }
-{
-    let run = run_in(matches, "explain")?;
-    let errors = are_errors_explained(matches);
-    let allowed = is_flag_given(matches, "explain", "allowed");
-    Some(with_steps(matches, Question::Explain { errors, allowed }, run))
-}
-
-// Returns the command of a question about a run, if the matches are of one.
-#[tactic(auto, using(crate::proofs::QuestionMatches::no_question))]
-fn question_in<'a>(matches: &ArgMatches<'a>) -> Option<Parsed<'a>>
-    ensures found { IfSome result (IsReadFrom (entered matches.now)) }
-    ensures none { result ≡ None → NeverBoth (IsQuestionIn (entered matches.now)) }
-{
-    if let Some(run) = traced_in(matches) {
-        return Some(with_steps(matches, Question::Trace, run));
-    }
-    if let Some(run) = run_in(matches, "state") {
-        return Some(with_steps(matches, Question::State, run));
-    }
-    if let Some(found) = explain_in(matches) {
-        return Some(found);
-    }
-    if let Some(found) = needs_in(matches) {
-        return Some(found);
-    }
-    if let Some(found) = audit_in(matches) {
-        return Some(found);
-    }
-    reach_in(matches)
-}
-
-// Returns the `ls` command, if the matches are of it.
-fn list_in<'a>(matches: &ArgMatches<'a>) -> Option<Command<'a>>
-    ensures found { IfSome result (IsCommandIn (entered matches.now)) }
-    ensures none { result ≡ None → Never (IsValidTreeIn (entered matches.now) (codes "ls")) }
-{
-    let tree = tree_in(matches, "ls")?;
-    match tree {
-        TreeInput::Image(image) => Some(Command::ListImage(image)),
-        TreeInput::Manifest(_) => Some(Command::AskTree {
-            question: TreeQuestion::Listing,
-            tree,
-        }),
-    }
-}
-
-// Returns the `cat` command, if the matches are of it.
-fn cat_in<'a>(matches: &ArgMatches<'a>) -> Option<Command<'a>>
-    ensures found { IfSome result (IsCommandIn (entered matches.now)) }
-    ensures none { result ≡ None → (path : List ℕ) (tree : TreeInput) → IsTreeIn (entered matches.now) (codes "cat") (codes "PATH") tree (Some path) → ⊥ }
-{
-    let TreeTexts { tree, further } = tree_texts_in(matches, "cat", "PATH")?;
-    Some(Command::AskTree {
-        question: TreeQuestion::File(further?.as_bytes()),
-        tree,
-    })
-}
-
-// Returns the `turns` command, if the matches are of it.
-fn turns_in<'a>(matches: &ArgMatches<'a>) -> Option<Parsed<'a>>
-    ensures found { IfSome result (IsReadFrom (entered matches.now)) }
-    ensures none { result ≡ None → Never (IsValidTreeIn (entered matches.now) (codes "turns")) }
-{
-    let tree = tree_in(matches, "turns")?;
-    let Some(slice) = count_of(text_of(matches, "turns", "slice"), 1) else {
-        return Some(Parsed::Number);
-    };
-    let Some(steps) = count_of(text_of(matches, "turns", "steps"), 1_000) else {
-        return Some(Parsed::Number);
-    };
-    Some(Parsed::Command(Command::AskTree {
-        question: TreeQuestion::Turns { slice, steps },
-        tree,
-    }))
-}
-
-// Returns the name of the command of a search.
-fn name_of_search(search: Search<'_>) -> &'static str
-    ensures { result.now ≡ search_name search.entry }
-{
-    match search {
-        Search::Explore(_) => "explore",
-        Search::Access { .. } => "access",
-        Search::Exposure { .. } => "exposure",
-        Search::Policy { .. } => "policy",
-        Search::Graph { .. } => "graph",
-    }
-}
-
-// Returns the command of a search, if the matches are of it.
-fn search_by<'a>(matches: &ArgMatches<'a>, search: Search<'a>) -> Option<Parsed<'a>>
-    requires { HasFlags (entered matches.now) search }
-    ensures found { IfSome result (IsReadFrom (entered matches.now)) }
-    ensures none { result ≡ None → Never (IsValidTreeIn (entered matches.now) (search_name search.entry)) }
-{
-    let command = name_of_search(search);
-    let tree = tree_in(matches, command)?;
-    let Some(states) = states_of(text_of(matches, command, "states")) else {
-        return Some(Parsed::Number);
-    };
-    Some(Parsed::Command(Command::AskTree {
-        question: TreeQuestion::Search { search, states },
-        tree,
-    }))
-}
-
-// Returns the kind of the search of a command, which the flag `reduced` chooses.
-fn kind_in(matches: &ArgMatches<'_>, command: &str) -> SearchKind
-    ensures { result ≡ kind_entered (entered matches.now) command.now }
-{
-    if is_flag_given(matches, command, "reduced") {
-        SearchKind::Reduced
-    } else {
-        SearchKind::Full
-    }
-}
-
-// Returns that a search has more files than a question, if the matches are of the given command.
-#[tactic(auto, using(crate::proofs::Files::has_many_files))]
-fn many_files_in<'a>(matches: &ArgMatches<'a>, command: &str) -> Option<Parsed<'a>>
-    requires name { IsAboutFiles command.now }
-    requires many { 8 < length (files_entered (entered matches.now) command.now) }
-    ensures found { IfSome result (IsReadFrom (entered matches.now)) }
-    ensures none { result ≡ None → Never (IsValidTreeIn (entered matches.now) command.now) }
-{
-    tree_in(matches, command)?;
-    Some(Parsed::ManyFiles)
-}
-
-// Returns the command of `access`, if the matches are of it.
-fn access_in<'a>(matches: &ArgMatches<'a>) -> Option<Parsed<'a>>
-    ensures found { IfSome result (IsReadFrom (entered matches.now)) }
-    ensures none { result ≡ None → Never (IsValidTreeIn (entered matches.now) (codes "access")) }
-{
-    let kind = kind_in(matches, "access");
-    let Some(files) = files_in(matches, "access") else {
-        return many_files_in(matches, "access");
-    };
-    search_by(matches, Search::Access { kind, files })
-}
-
-// Returns the command of `exposure`, if the matches are of it.
-fn exposure_in<'a>(matches: &ArgMatches<'a>) -> Option<Parsed<'a>>
-    ensures found { IfSome result (IsReadFrom (entered matches.now)) }
-    ensures none { result ≡ None → Never (IsValidTreeIn (entered matches.now) (codes "exposure")) }
-{
-    let kind = kind_in(matches, "exposure");
-    let Some(files) = files_in(matches, "exposure") else {
-        return many_files_in(matches, "exposure");
-    };
-    search_by(matches, Search::Exposure { kind, files })
-}
-
-// Returns the command of a search, if there is one in the matches.
-fn search_in<'a>(matches: &ArgMatches<'a>) -> Option<Parsed<'a>>
-    ensures found { IfSome result (IsReadFrom (entered matches.now)) }
-    ensures none { result ≡ None → NeverBoth (λ search. IsValidTreeIn (entered matches.now) (search_name search)) }
-{
-    let explore = Search::Explore(kind_in(matches, "explore"));
-    if let Some(found) = search_by(matches, explore) {
-        return Some(found);
-    }
-    if let Some(found) = access_in(matches) {
-        return Some(found);
-    }
-    if let Some(found) = exposure_in(matches) {
-        return Some(found);
-    }
-    let policy = Search::Policy {
-        kind: kind_in(matches, "policy"),
-        granted: is_flag_given(matches, "policy", "granted"),
-    };
-    if let Some(found) = search_by(matches, policy) {
-        return Some(found);
-    }
-    let tree = is_flag_given(matches, "graph", "tree");
-    search_by(matches, Search::Graph { tree })
-}
-
-// Returns the two inputs of `compare`, if the matches are of it.
-fn compared_in<'a>(matches: &ArgMatches<'a>) -> Option<CompareInput<'a>>
-    ensures found { IfSome result (AreComparedIn (entered matches.now)) }
-    ensures none { result ≡ None → Never (AreComparedIn (entered matches.now)) }
-{
-    let image = text_of(matches, "compare", "IMAGE")?;
-    let other = text_of(matches, "compare", "OTHER");
-    let Some(bundle) = text_of(matches, "compare", "bundle") else {
-        return Some(CompareInput::Images {
-            first: image,
-            second: other?,
-        });
-    };
-    if other.is_some() || (bundle == "-" && image == "-") {
-        return None;
-    }
-    Some(CompareInput::Bundles {
-        first: bundle,
-        second: image,
-    })
-}
-
-// Returns the `compare` command, if the matches are of it.
-fn compare_in<'a>(matches: &ArgMatches<'a>) -> Option<Parsed<'a>>
-    ensures found { IfSome result (IsReadFrom (entered matches.now)) }
-    ensures none { result ≡ None → Never (AreComparedIn (entered matches.now)) }
-{
-    let inputs = compared_in(matches)?;
-    let Some(pairs) = states_of(text_of(matches, "compare", "states")) else {
-        return Some(Parsed::Number);
-    };
-    Some(Parsed::Command(Command::Compare { inputs, pairs }))
-}
-
-// Returns the output of `source`.
-fn output_in(matches: &ArgMatches<'_>) -> Output
-    ensures { result ≡ output_entered (entered matches.now) }
-{
-    if is_flag_given(matches, "source", "lines") {
-        Output::ProgramLines
-    } else {
-        Output::Translation
-    }
-}
-
-// Returns the plain command in the matches, if there is one.
-#[tactic(auto, using(crate::proofs::LineMatches::no_plain_command))]
-fn plain_command_in<'a>(matches: &ArgMatches<'a>) -> Option<Command<'a>>
-    ensures found { IfSome result (IsCommandIn (entered matches.now)) }
-    ensures none { result ≡ None → (command : Command) → IsPlain command → IsCommandIn (entered matches.now) command → ⊥ }
-{
-    if let Some(file) = text_of(matches, "source", "FILE") {
-        return Some(Command::WriteSource {
-            source: file,
-            kind: output_in(matches),
-        });
-    }
-    if let Some(command) = make_image_in(matches) {
-        return Some(command);
-    }
-    if let Some(command) = run_image_in(matches) {
-        return Some(command);
-    }
-    export_in(matches)
-}
-
-// Returns the `migrate` command, if the matches are of it.
-fn migrate_in<'a>(matches: &ArgMatches<'a>) -> Option<Parsed<'a>>
-    ensures found { IfSome result (IsReadFrom (entered matches.now)) }
-    ensures none { result ≡ None → (image out blocks inodes : List ℕ) → HasTexts (entered matches.now) image out blocks inodes → ⊥ }
-{
-    let migration = migration_in(matches)?;
-    match migration.command() {
-        Some(command) => Some(Parsed::Command(command)),
-        None => Some(Parsed::Number),
-    }
-}
-
-// Returns the `import` command, if the matches are of it.
-fn import_in<'a>(matches: &ArgMatches<'a>) -> Option<Parsed<'a>>
-    ensures found { IfSome result (IsReadFrom (entered matches.now)) }
-    ensures none { result ≡ None → (directory image : List ℕ)
-        → entered_text (entered matches.now) (codes "import") (codes "DIR") ≡ Some directory
-        → entered_text (entered matches.now) (codes "import") (codes "IMAGE") ≡ Some image → ⊥ }
-{
-    let directory = text_of(matches, "import", "DIR")?;
-    let image = text_of(matches, "import", "IMAGE")?;
-    let Some(version) = version_of(text_of(matches, "import", "image-version")) else {
-        return Some(Parsed::Number);
-    };
-    let skips = is_flag_given(matches, "import", "skip");
-    let source = text_of(matches, "import", "with");
-    Some(Parsed::Command(Command::ImportDirectory {
+    let directory = required(inner, "DIR")?;
+    let image = required(inner, "IMAGE")?;
+    let version = version_of(text_in(inner, "image-version")).ok_or(NoCommand::Number)?;
+    Ok(Command::ImportDirectory(Import {
         directory,
         image,
         version,
-        skips,
-        source,
+        skips: is_given(inner, "skip"),
+        source: text_in(inner, "with"),
     }))
 }
 
-// Returns the command without numeric arguments in the matches, if there is one.
-#[tactic(auto, using(crate::proofs::LineMatches::no_command))]
-fn command_in<'a>(matches: &ArgMatches<'a>) -> Option<Command<'a>>
-    ensures found { IfSome result (IsCommandIn (entered matches.now)) }
-    ensures none { result ≡ None → (command : Command) → IsWithoutNumbers command → IsCommandIn (entered matches.now) command → ⊥ }
+// Returns the `export` command.
+fn export_in<'a>(inner: &ArgMatches<'a>) -> Result<Command<'a>, NoCommand>
+    ensures { FindsNamed (codes "export") (rows_of (found_of inner.now)) result }
 {
-    if let Some(command) = plain_command_in(matches) {
-        return Some(command);
-    }
-    if let Some(command) = list_in(matches) {
-        return Some(command);
-    }
-    cat_in(matches)
+    let input = InputFile::Any(required(inner, "FILE")?);
+    let directory = required(inner, "DIR")?;
+    Ok(Command::ExportImage { input, directory })
 }
 
-// Returns the command in the matches, if there is one.
-#[tactic(auto, using(crate::proofs::LineMatches::no_command_at_all))]
-pub(crate) fn found_in<'a>(matches: &ArgMatches<'a>) -> Option<Parsed<'a>>
-    ensures found { IfSome result (IsReadFrom (entered matches.now)) }
-    ensures none { result ≡ None → Never (IsCommandIn (entered matches.now)) }
+// Returns the command with a name in its matches.
+fn named_in<'a>(name: &str, inner: &ArgMatches<'a>) -> Result<Command<'a>, NoCommand>
+    ensures { FindsNamed name.now (rows_of (found_of inner.now)) result }
 {
-    if let Some(command) = command_in(matches) {
-        return Some(Parsed::Command(command));
+    match name {
+        "run-tree" => traced_in(inner),
+        "source" => source_in(inner),
+        "mkimg" => make_image_in(inner),
+        "ls" => listing_in(inner),
+        "run" => run_image_in(inner),
+        "audit" => audit_in(inner),
+        "state" => state_in(inner),
+        "reach" => reach_in(inner),
+        "explain" => explain_in(inner),
+        "needs" => needs_in(inner),
+        "cat" => cat_in(inner),
+        "turns" => turns_in(inner),
+        "compare" => compare_in(inner),
+        "migrate" => migrate_in(inner),
+        "import" => import_in(inner),
+        "export" => export_in(inner),
+        "access" | "exposure" => about_files_in(inner, name),
+        "explore" | "policy" | "graph" => search_in(inner, name),
+        _ => Err(NoCommand::Words),
     }
-    if let Some(found) = migrate_in(matches) {
-        return Some(found);
-    }
-    if let Some(found) = import_in(matches) {
-        return Some(found);
-    }
-    if let Some(found) = turns_in(matches) {
-        return Some(found);
-    }
-    if let Some(found) = search_in(matches) {
-        return Some(found);
-    }
-    if let Some(found) = compare_in(matches) {
-        return Some(found);
-    }
-    question_in(matches)
+}
+
+// Returns the command in the matches.
+pub(crate) fn found_in<'a>(matches: &ArgMatches<'a>) -> Result<Command<'a>, NoCommand>
+    ensures found { IfOk result (IsCommandIn (entered matches.now)) }
+    ensures none { IfErr result (LacksCommand (entered matches.now)) }
+{
+    let Some((name, inner)) = matches.subcommand() else {
+        return Err(NoCommand::Words);
+    };
+    named_in(name, inner)
 }

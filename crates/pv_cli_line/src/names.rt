@@ -1,30 +1,42 @@
 //! The files of a command, as the explanation of an error names them.
+ghost use Rattle.std.specs.Prelude.{◌≤◌, IfSome, length, vec_len};
+
 use pv_cli_commands::questions::{
-    Format, Question, RunQuestion, TreeQuestion, Unshown, ask_manifest, ask_tree,
+    Format, Input, Inputs, Question, Turns, Unshown, answer, is_source,
 };
-use pv_cli_commands::{
-    Command, CompareInput, Files, RunInput, ScheduleInput, TextInput, TreeInput,
-};
-use pv_streams::Gathered;
+use pv_cli_commands::{Asking, Command, Files, Import, InputFile, ScheduleInput};
+use pv_source::translate;
+use pv_streams::{Gathered, SOURCE_BYTES, read_whole};
 use std::alloc::Global;
+
+// What a file is expected to be.
+#[derive(Clone, Copy, PartialEq, Eq)]
+pub(crate) enum Wanted {
+    // An image or a source.
+    Any,
+    // An image.
+    Image,
+    // A text that is taken as it is: a bundle or a manifest.
+    Text,
+    // A source.
+    Source,
+}
 
 // The files of a command.
 #[derive(Clone, Copy)]
 pub(crate) struct Names<'a> {
     // The file of the bundle, the manifest, the source or the image.
     pub(crate) first: &'a str,
-    // The expected kind of that file.
-    pub(crate) wanted: &'static str,
+    // What that file is expected to be.
+    pub(crate) wanted: Wanted,
+    // The same in words.
+    pub(crate) words: &'static str,
     // The advice if that file is an image in place of a text, or a text in place of an image.
     pub(crate) hint: &'static str,
-    // Whether that file is a text.
-    pub(crate) is_text: bool,
-    // Whether that text is a source, which is translated first.
-    pub(crate) is_source: bool,
     // Whether `-` means the standard input.
     pub(crate) has_input: bool,
-    // The file of the schedule.
-    pub(crate) schedule: Option<&'a str>,
+    // The file of the schedule, or the other of two inputs.
+    pub(crate) second: Option<&'a str>,
     // The file that is written.
     pub(crate) out: Option<&'a str>,
 }
@@ -44,206 +56,209 @@ impl<'a> Names<'a> {
     }
 }
 
-// Returns the files of a command that reads a text, possibly from the standard input.
-fn text_named<'a>(
-    text: TextInput<'a>,
-    wanted: &'static str,
-    schedule: Option<&'a str>,
-) -> Names<'a> {
-    let (first, is_source) = match text {
-        TextInput::Plain(name) => (name, false),
-        TextInput::Source(name) => (name, true),
+// Returns the files of a command that reads an input. `words` is what a bundle is expected to be.
+fn input_named<'a>(input: InputFile<'a>, words: &'static str) -> Names<'a> {
+    let (first, wanted, words, hint) = match input {
+        InputFile::Any(name) => (name, Wanted::Any, "an image or a source", ""),
+        InputFile::Bundle(name) => (name, Wanted::Text, words, "; omit -b for an image"),
+        InputFile::Source(name) => (name, Wanted::Source, "a source", ""),
     };
     Names {
         first,
-        wanted: if is_source { "a source" } else { wanted },
-        hint: if is_source {
-            "; omit -s for an image"
-        } else {
-            "; omit -b for an image"
-        },
-        is_text: true,
-        is_source,
+        wanted,
+        words,
+        hint,
         has_input: true,
-        schedule,
+        second: None,
         out: None,
     }
 }
 
-// Returns the files of a command that reads a text alone.
-fn text_alone_named<'a>(name: &'a str, wanted: &'static str) -> Names<'a> {
+// Returns the files of a command that reads a text and never an image in place of it.
+fn text_named<'a>(input: InputFile<'a>, words: &'static str) -> Names<'a> {
     Names {
         hint: "",
-        ..text_named(TextInput::Plain(name), wanted, None)
+        ..input_named(input, words)
     }
 }
 
 // Returns the files of a command that reads an image and never a text in place of it.
-fn image_alone_named<'a>(
-    first: &'a str,
-    schedule: Option<&'a str>,
-    out: Option<&'a str>,
-) -> Names<'a> {
+fn image_named<'a>(first: &'a str, second: Option<&'a str>, out: Option<&'a str>) -> Names<'a> {
     Names {
         first,
-        wanted: "an image",
+        wanted: Wanted::Image,
+        words: "an image",
         hint: "; 'pvsim mkimg' makes one from a manifest",
-        is_text: false,
-        is_source: false,
         has_input: false,
-        schedule,
+        second,
         out,
     }
 }
 
-// Returns the files of a command that reads an image, or a text in place of it.
-fn image_named<'a>(first: &'a str, schedule: Option<&'a str>) -> Names<'a> {
-    Names {
-        hint: "; use -b for a manifest or bundle, or -s for a source",
-        ..image_alone_named(first, schedule, None)
+// Returns the name of the file of an input, if it is not the standard input.
+fn file_of(input: InputFile<'_>) -> Option<&str> {
+    match input {
+        InputFile::Any("-") | InputFile::Bundle("-") | InputFile::Source("-") => None,
+        InputFile::Any(name) | InputFile::Bundle(name) | InputFile::Source(name) => Some(name),
     }
 }
 
-// Returns the files of the input of a run.
-fn run_named(run: RunInput<'_>) -> Names<'_> {
-    match run {
-        RunInput::Image { image, schedule } => image_named(image, file_of(schedule)),
-        RunInput::Bundle(bundle) => text_named(bundle, "a bundle", None),
-        RunInput::Manifest { manifest, schedule } => {
-            text_named(manifest, "a manifest or bundle", file_of(schedule))
+// Returns the translation of a source, if it has no errors and is not too long.
+fn translation_of(alloc: Global, source: &[u8]) -> Option<Vec<u8>>
+    requires { length source.now ≤ SOURCE_BYTES }
+    ensures { IfSome result (λ text. vec_len text ≤ SOURCE_BYTES) }
+{
+    let mut reported = Gathered::new(alloc);
+    let text = translate(alloc, b"", source, &mut reported).ok()?;
+    if text.len() > SOURCE_BYTES {
+        return None;
+    }
+    Some(text)
+}
+
+// Returns the input that a file is, if it can be read again.
+fn read_again<F: Files>(alloc: Global, files: &F, input: InputFile<'_>) -> Option<Input> {
+    let name = file_of(input)?;
+    if !files.is_regular(name) {
+        return None;
+    }
+    let mut reader = files.open(name).ok()?;
+    let bytes = read_whole(alloc, &mut reader).ok()?;
+    match input {
+        InputFile::Bundle(_) => {
+            let format = Format::Text;
+            Some(Input { format, bytes })
+        }
+        InputFile::Any(_) if !is_source(&bytes) => {
+            let format = Format::Image;
+            Some(Input { format, bytes })
+        }
+        InputFile::Any(_) | InputFile::Source(_) => {
+            let bytes = translation_of(alloc, &bytes)?;
+            let format = Format::Text;
+            Some(Input { format, bytes })
         }
     }
 }
 
-// Returns the file of a schedule.
-fn file_of(schedule: ScheduleInput<'_>) -> Option<&str> {
-    match schedule {
-        ScheduleInput::File(name) => Some(name),
-        ScheduleInput::Turns(_) => None,
-    }
-}
-
 // Returns whether the machine on the tree of an input starts.
-fn starts<F: Files>(alloc: Global, files: &F, format: Format, name: &str) -> bool {
-    if !files.is_regular(name) {
-        return false;
-    }
-    let Ok(mut reader) = files.open(name) else {
+fn starts<F: Files>(alloc: Global, files: &F, input: InputFile<'_>) -> bool {
+    let Some(input) = read_again(alloc, files, input) else {
         return false;
     };
-    let question = TreeQuestion::Turns { slice: 1, steps: 1 };
-    let mut turns = Gathered::new(alloc);
-    let end = match format {
-        Format::Image => ask_tree(alloc, question, &mut reader, &mut Unshown, &mut turns),
-        Format::Manifest => ask_manifest(alloc, question, &mut reader, &mut Unshown, &mut turns),
+    let inputs = Inputs {
+        input,
+        turns: Turns::Own,
+        steps: None,
     };
-    end.is_ok()
+    let (mut notes, mut turns) = (Vec::new(alloc), Gathered::new(alloc));
+    let question = Question::Turns { slice: 1, steps: 1 };
+    answer(
+        alloc,
+        question,
+        inputs,
+        &mut notes,
+        &mut Unshown,
+        &mut turns,
+    )
+    .is_ok()
 }
 
-// Returns the files of a comparison of images. The one in error comes first.
-fn images_named<'a, F: Files>(
+// Returns the files of a comparison. The one in error comes first.
+fn compared_named<'a, F: Files>(
     alloc: Global,
     files: &F,
-    first: &'a str,
-    second: &'a str,
+    first: InputFile<'a>,
+    second: InputFile<'a>,
 ) -> Names<'a> {
-    let (at_fault, other) = if starts(alloc, files, Format::Image, first) {
+    let words = "a manifest or bundle";
+    let is_second = starts(alloc, files, first)
+        || file_of(first).is_none() && !starts(alloc, files, second);
+    let (at_fault, other) = if is_second {
         (second, first)
     } else {
         (first, second)
     };
     Names {
-        hint: "; use -b for manifests or bundles",
-        ..image_named(at_fault, Some(other))
+        second: file_of(other),
+        ..input_named(at_fault, words)
     }
 }
 
-// Returns the files of a comparison of bundles. The one in error comes first.
-fn bundles_named<'a, F: Files>(
-    alloc: Global,
-    files: &F,
-    first: &'a str,
-    second: &'a str,
-) -> Names<'a> {
-    let wanted = "a manifest or bundle";
-    if first == "-" && starts(alloc, files, Format::Manifest, second) {
-        return text_named(TextInput::Plain(first), wanted, Some(second));
+// Returns the files of a question about an input.
+fn asked_named(asking: Asking<'_>) -> Names<'_> {
+    let Asking {
+        question,
+        input,
+        schedule,
+        ..
+    } = asking;
+    let second = match schedule {
+        ScheduleInput::File("-")
+        | ScheduleInput::Own
+        | ScheduleInput::Turns(_)
+        | ScheduleInput::Fair => None,
+        ScheduleInput::File(name) => Some(name),
+    };
+    let takes_manifest = matches!(
+        question,
+        Question::Listing
+            | Question::File(_)
+            | Question::Turns { .. }
+            | Question::Explore { .. }
+            | Question::Access { .. }
+            | Question::Exposure { .. }
+            | Question::Policy { .. }
+            | Question::Graph { .. }
+    );
+    let words = if takes_manifest || !matches!(schedule, ScheduleInput::Own) {
+        "a manifest or bundle"
+    } else {
+        "a bundle"
+    };
+    let names = Names {
+        second,
+        ..input_named(input, words)
+    };
+    match question {
+        Question::Trace => Names { hint: "", ..names },
+        _ => names,
     }
-    if first == "-" {
-        return text_named(TextInput::Plain(second), wanted, None);
+}
+
+// Returns the files of an import.
+fn import_named(import: Import<'_>) -> Names<'_> {
+    let out = Some(import.image);
+    match import.source {
+        Some(source) => Names {
+            out,
+            ..text_named(InputFile::Source(source), "a source")
+        },
+        None => image_named(import.directory, None, out),
     }
-    if starts(alloc, files, Format::Manifest, first) {
-        return text_named(TextInput::Plain(second), wanted, Some(first));
-    }
-    let other = if second == "-" { None } else { Some(second) };
-    text_named(TextInput::Plain(first), wanted, other)
 }
 
 // Returns the files of a command.
 pub(crate) fn names_of<'a, F: Files>(alloc: Global, files: &F, command: Command<'a>) -> Names<'a> {
     match command {
-        Command::Compare {
-            inputs: CompareInput::Images { first, second },
-            ..
-        } => images_named(alloc, files, first, second),
-        Command::Compare {
-            inputs: CompareInput::Bundles { first, second },
-            ..
-        } => bundles_named(alloc, files, first, second),
-        Command::RunTree(name) => text_alone_named(name, "a bundle"),
-        Command::WriteSource { source, .. } => text_alone_named(source, "a source"),
-        Command::AskTree {
-            tree: TreeInput::Manifest(manifest),
-            ..
-        } => text_named(manifest, "a manifest or bundle", None),
+        Command::Compare { first, second, .. } => compared_named(alloc, files, first, second),
+        Command::Ask(asking) => asked_named(asking),
+        Command::WriteSource { source, .. } => text_named(InputFile::Source(source), "a source"),
         Command::MakeImage { manifest, image } => Names {
             has_input: false,
             out: Some(image),
-            ..text_alone_named(manifest, "a manifest")
+            ..text_named(InputFile::Bundle(manifest), "a manifest")
         },
-        Command::ListImage(image)
-        | Command::AskTree {
-            tree: TreeInput::Image(image),
-            ..
-        } => image_named(image, None),
         Command::RunImage {
             image,
             schedule,
             out,
-        } => image_alone_named(image, Some(schedule), Some(out)),
-        Command::ImportDirectory {
-            image,
-            source: Some(source),
-            ..
-        } => Names {
-            out: Some(image),
-            ..text_alone_named(source, "a source")
+        } => image_named(image, Some(schedule), Some(out)),
+        Command::ImportDirectory(import) => import_named(import),
+        Command::MigrateImage { image, out, .. } => image_named(image, None, Some(out)),
+        Command::ExportImage { input, directory } => Names {
+            out: Some(directory),
+            ..input_named(input, "")
         },
-        Command::ImportDirectory {
-            directory,
-            image,
-            source: None,
-            ..
-        } => image_alone_named(directory, None, Some(image)),
-        Command::MigrateImage { image, out, .. } => image_alone_named(image, None, Some(out)),
-        Command::ExportImage { image, directory } => {
-            image_alone_named(image, None, Some(directory))
-        }
-        Command::AuditImage {
-            image,
-            schedule,
-            ..
-        } => image_named(image, Some(schedule)),
-        Command::Ask {
-            question: RunQuestion {
-                question: Question::Trace,
-                ..
-            },
-            run,
-        } => Names {
-            hint: "",
-            ..run_named(run)
-        },
-        Command::Ask { run, .. } => run_named(run),
     }
 }

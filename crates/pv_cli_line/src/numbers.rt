@@ -2,8 +2,9 @@
 ghost use Rattle.pv_cli_line.specs.Messages.{WritesMore};
 
 use crate::lines::push_excerpt;
+use crate::matches::reached_in;
 use crate::parser::parser;
-use crate::texts::{RunTexts, count_of, is_verbose, run_texts_in, size_of, states_of, version_of};
+use crate::texts::{count_of, is_verbose, size_of, states_of, version_of};
 use clap::ArgMatches;
 use pv_streams::{Sink, write_through};
 use std::alloc::{AllocError, Global};
@@ -98,17 +99,19 @@ fn faulty_word<'a>(shown: &'static str, word: Option<&'a str>, form: Form) -> Op
 }
 
 // Returns the process of `reach`, if it is not a number.
-fn faulty_process<'a>(matches: &ArgMatches<'a>) -> Option<Faulty<'a>> {
-    let RunTexts { further, .. } = run_texts_in(matches, "reach", "PID")?;
-    faulty_word("PID", further, Form::Size)
+fn faulty_process<'a>(inner: &ArgMatches<'a>) -> Option<Faulty<'a>> {
+    let run = reached_in(inner).ok()?;
+    faulty_word("PID", run.further, Form::Size)
 }
 
 // Returns the first numeric argument in the matches that is not a number.
 fn faulty_in<'a>(matches: &ArgMatches<'a>) -> Option<Faulty<'a>> {
-    if let Some(faulty) = faulty_process(matches) {
-        return Some(faulty);
-    }
     let (command, inner) = matches.subcommand()?;
+    if command == "reach" {
+        if let Some(faulty) = faulty_process(inner) {
+            return Some(faulty);
+        }
+    }
     for row in NUMBERS {
         let word = inner.get_str(row.argument);
         if let Some(faulty) = faulty_word(row.shown, word, row.form) {

@@ -67,27 +67,33 @@ const QUIET: Argument = Flag {
     help: "do not explain an error, and leave out notes; without -q the file, the system's reason, the line and the expected form follow it",
 };
 
-// The option that names a bundle, in place of an image and a schedule.
+// The option that names a bundle, in place of the input.
 const BUNDLE: Argument = Named {
     name: "bundle",
     short: Some('b'),
     value: "FILE",
-    help: "a bundle in place of IMAGE and SCHEDULE; '-' is standard input",
+    help: "a bundle or a manifest in place of FILE, taken as it is; '-' is standard input",
 };
 
-// The option that names a source, in place of an image and a schedule.
+// The option that names the input.
 const SOURCE: Argument = Named {
     name: "source",
     short: Some('s'),
     value: "FILE",
-    help: "a source in place of IMAGE and SCHEDULE: 'pvsim source' translates it to a bundle; '-' is standard input",
+    help: "the same as FILE",
 };
 
-// An image, which is omitted if a bundle or a source is given.
-const IMAGE: Argument = Optional("IMAGE", "the image");
+// The input that has a tree. It is omitted if an option names it.
+const FILE: Argument = Optional(
+    "FILE",
+    "an image, or a source, which 'pvsim source' translates to a manifest or bundle; '-' is standard input",
+);
 
-// A schedule. It is omitted if turns are given, and may be omitted if a bundle or a source is given.
-const SCHEDULE: Argument = Optional("SCHEDULE", "the schedule: the turns of the processes");
+// A schedule. It is omitted if turns are given, or if the input has its own.
+const SCHEDULE: Argument = Optional(
+    "SCHEDULE",
+    "the schedule: the turns of the processes (default: that of the source); '-' is standard input",
+);
 
 // The turns of a run, in place of a schedule.
 const BY: Argument = Named {
@@ -95,6 +101,13 @@ const BY: Argument = Named {
     short: None,
     value: "TURNS",
     help: "turns in place of SCHEDULE, as 'explore' writes them: 'PID COUNT, PID COUNT'",
+};
+
+// The flag of the fair schedule, in place of a schedule.
+const FAIR: Argument = Flag {
+    name: "turns",
+    short: None,
+    help: "in place of SCHEDULE, the one that 'turns' writes: the processes in turn, until none can go on, for at most 65536 steps",
 };
 
 // The number of steps after which the schedule of a run is cut.
@@ -105,18 +118,21 @@ const FIRST: Argument = Named {
     help: "run only the first N steps of the schedule",
 };
 
-// The first of two images, which is omitted if a bundle is given.
-const FIRST_IMAGE: Argument = Optional("IMAGE", "the first image; with -b, the second bundle");
+// The first of two inputs, which is the second if a bundle is given.
+const FIRST_INPUT: Argument = Optional(
+    "FILE",
+    "an image or a source; with -b, the second bundle; '-' is standard input",
+);
 
-// The second of two images.
-const OTHER: Argument = Optional("OTHER", "the second image");
+// The second of two inputs.
+const OTHER: Argument = Optional("OTHER", "the other image or source");
 
-// The first of two bundles, in place of the first of two images.
+// The first of two bundles, in place of the first of two inputs.
 const FIRST_BUNDLE: Argument = Named {
     name: "bundle",
     short: Some('b'),
     value: "FILE",
-    help: "the first bundle; IMAGE is then the second bundle; '-' is standard input",
+    help: "the first bundle; the word is then the second bundle; both are taken as they are",
 };
 
 // The maximum number of pairs of states that a comparison visits.
@@ -205,9 +221,9 @@ const RUNS: &[CommandRow] = &[
     },
     CommandRow {
         name: "ls",
-        about: "List the tree of an image",
-        example: "Example, with the files of examples/:\n  pvsim ls -b motd.bundle",
-        arguments: &[BUNDLE, SOURCE, IMAGE],
+        about: "List the tree of an image or a source",
+        example: "Example, with the files of examples/:\n  pvsim ls motd.bundle",
+        arguments: &[BUNDLE, SOURCE, FILE],
     },
     CommandRow {
         name: "run",
@@ -221,14 +237,15 @@ const RUNS: &[CommandRow] = &[
     },
     CommandRow {
         name: "audit",
-        about: "Run an image under a schedule, and report which files are sealed",
-        example: "'sealed' is about later calls, of any program. Bytes that were read before and copies are not covered.\n\nExample, with the files of examples/:\n  pvsim audit -b sealed.bundle",
+        about: "Run an image or a source, and report which files are sealed",
+        example: "'sealed' is about later calls, of any program. Bytes that were read before and copies are not covered.\n\nExample, with the files of examples/:\n  pvsim audit sealed.bundle",
         arguments: &[
             BUNDLE,
             SOURCE,
             BY,
+            FAIR,
             FIRST,
-            IMAGE,
+            FILE,
             SCHEDULE,
             Optional("PATH", "a file in the image (default: all files)"),
             Flag {
@@ -240,34 +257,36 @@ const RUNS: &[CommandRow] = &[
     },
     CommandRow {
         name: "state",
-        about: "Run an image under a schedule, and print the state of each process",
-        example: "Example, with the files of examples/:\n  pvsim state -b privsep.bundle --steps 9",
-        arguments: &[BUNDLE, SOURCE, BY, FIRST, IMAGE, SCHEDULE],
+        about: "Run an image or a source, and print the state of each process",
+        example: "Example, with the files of examples/:\n  pvsim state privsep.bundle --steps 9",
+        arguments: &[BUNDLE, SOURCE, BY, FAIR, FIRST, FILE, SCHEDULE],
     },
     CommandRow {
         name: "reach",
-        about: "Run an image under a schedule, and print the operations that each process may perform at each place",
-        example: "This is about the next call alone: two calls may do what neither may do, see audit.\n\nExample, with the files of examples/:\n  pvsim reach -b daemon.bundle",
+        about: "Run an image or a source, and print the operations that each process may perform at each place",
+        example: "This is about the next call alone: two calls may do what neither may do, see audit.\n\nExample, with the files of examples/:\n  pvsim reach daemon.bundle",
         arguments: &[
             BUNDLE,
             SOURCE,
             BY,
+            FAIR,
             FIRST,
-            IMAGE,
+            FILE,
             SCHEDULE,
             Optional("PID", "a process number (default: all processes)"),
         ],
     },
     CommandRow {
         name: "explain",
-        about: "Run an image under a schedule, and write the trace with the reason for each result",
-        example: "Example, with the files of examples/:\n  pvsim explain -b error.bundle",
+        about: "Run an image or a source, and write the trace with the reason for each result",
+        example: "Example, with the files of examples/:\n  pvsim explain error.bundle",
         arguments: &[
             BUNDLE,
             SOURCE,
             BY,
+            FAIR,
             FIRST,
-            IMAGE,
+            FILE,
             SCHEDULE,
             Flag {
                 name: "errors",
@@ -288,29 +307,29 @@ const RUNS: &[CommandRow] = &[
     },
     CommandRow {
         name: "needs",
-        about: "Run an image under a schedule, and print the promises and paths that each program used",
-        example: "This is about one run: another schedule may need more, see policy.\n\nExample, with the files of examples/:\n  pvsim needs -b motd.bundle",
-        arguments: &[BUNDLE, SOURCE, BY, FIRST, IMAGE, SCHEDULE, GRANTED],
+        about: "Run an image or a source, and print the promises and paths that each program used",
+        example: "This is about one run: another schedule may need more, see policy.\n\nExample, with the files of examples/:\n  pvsim needs motd.bundle",
+        arguments: &[BUNDLE, SOURCE, BY, FAIR, FIRST, FILE, SCHEDULE, GRANTED],
     },
     CommandRow {
         name: "cat",
-        about: "Write the contents of a file in an image",
-        example: "Example, with the files of examples/:\n  pvsim cat -b motd.bundle /etc/motd",
+        about: "Write the contents of a file in an image or a source",
+        example: "Example, with the files of examples/:\n  pvsim cat motd.bundle /etc/motd",
         arguments: &[
             BUNDLE,
             SOURCE,
-            IMAGE,
+            FILE,
             Optional("PATH", "the path of the file in the image"),
         ],
     },
     CommandRow {
         name: "turns",
-        about: "Write a schedule that runs the processes of an image in turn",
-        example: "Example, with the files of examples/:\n  pvsim turns -b privsep.bundle --slice 3",
+        about: "Write a schedule that runs the processes of an image or a source in turn",
+        example: "Example, with the files of examples/:\n  pvsim turns privsep.bundle --slice 3",
         arguments: &[
             BUNDLE,
             SOURCE,
-            IMAGE,
+            FILE,
             Named {
                 name: "slice",
                 short: None,
@@ -331,42 +350,42 @@ const RUNS: &[CommandRow] = &[
 const SEARCHES: &[CommandRow] = &[
     CommandRow {
         name: "explore",
-        about: "Print everything that can happen under any schedule of an image, each with a shortest schedule",
-        example: "Example, with the files of examples/:\n  pvsim explore -b race-first.bundle",
-        arguments: &[BUNDLE, SOURCE, IMAGE, STATES, REDUCED],
+        about: "Print everything that can happen under any schedule of an image or a source, each with a shortest schedule",
+        example: "Example, with the files of examples/:\n  pvsim explore race-first.bundle",
+        arguments: &[BUNDLE, SOURCE, FILE, STATES, REDUCED],
     },
     CommandRow {
         name: "access",
         about: "Print which process can access which file under any schedule, each with a shortest schedule",
-        example: "A file is shown by its path at that step, and after 'first' by its path in the image if that is another one.\n\nExample, with the files of examples/:\n  pvsim access -b race-first.bundle --file /etc/key",
-        arguments: &[BUNDLE, SOURCE, IMAGE, STATES, REDUCED, FILES],
+        example: "A file is shown by its path at that step, and after 'first' by its path in the image if that is another one.\n\nExample, with the files of examples/:\n  pvsim access race-first.bundle --file /etc/key",
+        arguments: &[BUNDLE, SOURCE, FILE, STATES, REDUCED, FILES],
     },
     CommandRow {
         name: "exposure",
         about: "Print at which lines of each program a process could still reach each file, whatever it called next",
-        example: "An attacker controls one process. LEAK and EDIT are about its own calls; PEER: another process could hand the file over;\nREAD: what was read there is still in the buffer later.\n\nExample, with the files of examples/:\n  pvsim exposure -b privsep.bundle",
-        arguments: &[BUNDLE, SOURCE, IMAGE, STATES, REDUCED, FILES],
+        example: "An attacker controls one process. LEAK and EDIT are about its own calls; PEER: another process could hand the file over;\nREAD: what was read there is still in the buffer later.\n\nExample, with the files of examples/:\n  pvsim exposure privsep.bundle",
+        arguments: &[BUNDLE, SOURCE, FILE, STATES, REDUCED, FILES],
     },
     CommandRow {
         name: "policy",
         about: "Print the promises and permissions that each program needs under any schedule, and those that it never uses",
-        example: "A child and a new program inherit promises and permissions. Ask compare before you drop one that this program never uses.\n\nExample, with the files of examples/:\n  pvsim policy -b daemon.bundle",
-        arguments: &[BUNDLE, SOURCE, IMAGE, STATES, REDUCED, GRANTED],
+        example: "A child and a new program inherit promises and permissions. Ask compare before you drop one that this program never uses.\n\nExample, with the files of examples/:\n  pvsim policy daemon.bundle",
+        arguments: &[BUNDLE, SOURCE, FILE, STATES, REDUCED, GRANTED],
     },
     CommandRow {
         name: "compare",
-        about: "Say whether two images let the same happen under any schedule, calls of pledge and unveil aside",
-        example: "'the same' is about these programs. An attacker makes other calls: see audit and exposure.\n\nExample, with the files of examples/:\n  pvsim compare -b motd.bundle motd.manifest",
-        arguments: &[FIRST_BUNDLE, FIRST_IMAGE, OTHER, PAIRS],
+        about: "Say whether two images or sources let the same happen under any schedule, calls of pledge and unveil aside",
+        example: "'the same' is about these programs. An attacker makes other calls: see audit and exposure.\n\nExample, with the files of examples/:\n  pvsim compare motd.bundle motd.manifest",
+        arguments: &[FIRST_BUNDLE, FIRST_INPUT, OTHER, PAIRS],
     },
     CommandRow {
         name: "graph",
-        about: "Write the states that an image can reach under any schedule, and the steps between them",
-        example: "Example, with the files of examples/:\n  pvsim graph -b race-first.bundle",
+        about: "Write the states that an image or a source can reach under any schedule, and the steps between them",
+        example: "Example, with the files of examples/:\n  pvsim graph race-first.bundle",
         arguments: &[
             BUNDLE,
             SOURCE,
-            IMAGE,
+            FILE,
             STATES,
             Flag {
                 name: "tree",
@@ -420,10 +439,10 @@ const SEARCHES: &[CommandRow] = &[
     },
     CommandRow {
         name: "export",
-        about: "Make a host directory from an image: directories, files, symbolic links and hard links",
-        example: "Example, with the files of examples/:\n  pvsim export image tree",
+        about: "Make a host directory from an image or a source: directories, files, symbolic links and hard links",
+        example: "Example, with the files of examples/:\n  pvsim export motd.bundle tree",
         arguments: &[
-            Required("IMAGE", "the image"),
+            Required("FILE", "an image or a source; '-' is standard input"),
             Required(
                 "DIR",
                 "the directory to create; it must be empty or not exist",

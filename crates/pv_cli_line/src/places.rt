@@ -1,25 +1,25 @@
 //! The explanation of a path or a process that an answer is about and that the machine does not have.
 use crate::lines::push_excerpt;
-use pv_cli_commands::Command;
-use pv_cli_commands::questions::{Question, RunQuestion, TreeQuestion};
+use pv_cli_commands::questions::Question;
+use pv_cli_commands::{Asking, Command};
 use pv_model::{AuditFault, Errno};
 use std::alloc::{AllocError, Global};
 
 // The path that a command names in a tree.
-fn path_of(command: Command<'_>) -> Option<&[u8]> {
+fn path_of(command: Command<'_>) -> Option<&str> {
     match command {
-        Command::AuditImage { path, .. }
-        | Command::Ask {
-            question: RunQuestion {
+        Command::Ask(
+            Asking {
                 question: Question::Audit(path) | Question::Reasons(path),
                 ..
             },
-            ..
-        } => path,
-        Command::AskTree {
-            question: TreeQuestion::File(path),
-            ..
-        } => Some(path),
+        ) => path,
+        Command::Ask(
+            Asking {
+                question: Question::File(path),
+                ..
+            },
+        ) => Some(path),
         _ => None,
     }
 }
@@ -49,9 +49,16 @@ pub(crate) fn push_path(
         return Ok(());
     };
     out.extend_from_slice(b"  path '")?;
-    push_excerpt(alloc, out, path)?;
+    push_excerpt(alloc, out, path.as_bytes())?;
     let reason = reason_of(fault);
-    let further = if matches!(command, Command::AskTree { .. }) {
+    let is_of_tree = matches!(
+        command,
+        Command::Ask(Asking {
+            question: Question::File(_),
+            ..
+        })
+    );
+    let further = if is_of_tree {
         "; expected a file that 'pvsim ls' lists"
     } else {
         " after the run; expected a file that 'pvsim audit' lists without a path"
@@ -66,13 +73,12 @@ pub(crate) fn push_process(
     command: Command<'_>,
     name: &str,
 ) -> Result<(), AllocError> {
-    let Command::Ask {
-        question: RunQuestion {
+    let Command::Ask(
+        Asking {
             question: Question::Reach(Some(pid)),
             ..
         },
-        ..
-    } = command
+    ) = command
     else {
         return Ok(());
     };

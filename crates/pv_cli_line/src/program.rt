@@ -1,16 +1,16 @@
 //! The whole program.
 ghost use Rattle.std.specs.Prelude.{◌≡◌, ◌≢◌, map, ◌&&◌};
-ghost use Rattle.pv_cli_commands.specs.Status.{command_status as command_status_of};
+ghost use Rattle.pv_cli_commands.specs.OfQuestions.Failures.{failure_status as command_status_of};
 ghost use Rattle.pv_cli_commands.specs.Streams.{disk_of, host_of};
 ghost use Rattle.pv_cli_line.specs.declared.fault.Fault.TheVariants.{Command as OfCommand, Line as OfLine};
-ghost use Rattle.pv_cli_line.specs.Program.{EndsWith, ReportsError, ReportsAll, WritesNotes, is_explained, is_number_error};
+ghost use Rattle.pv_cli_line.specs.Program.{EndsRequest, EndsWith, IsRequest, ReportsError, ReportsAll, WritesNotes, is_explained, is_number_error};
 
 use crate::command::{CommandLine, LineFault, command_line_of};
 use crate::explaining::{explain, is_explained};
 use crate::fault::Fault;
 use crate::message::write_message;
 use crate::numbers::explain_number;
-use pv_cli_commands::{Directories, Fault as CommandFault, Files, HostSystem, Progress, perform};
+use pv_cli_commands::{Directories, Failure, Files, HostSystem, Progress, Target, perform};
 use pv_streams::{Failed, Sink, Source, write_through};
 use std::alloc::Global;
 use std::convert::AsStr;
@@ -36,8 +36,9 @@ pub fn report<F: Drop, I: Drop, O: Sink + Drop, E: Sink + Drop>(
     match write_message(fault, &mut system.output) {
         Ok(()) => status,
         Err(Failed) => {
-            let _written = write_message(&Fault::Write, &mut system.errors);
-            Fault::Write.status()
+            let unwritten = Fault::Command(Failure::Write(Target::Output));
+            let _written = write_message(&unwritten, &mut system.errors);
+            unwritten.status()
         }
     }
 }
@@ -46,20 +47,20 @@ pub fn report<F: Drop, I: Drop, O: Sink + Drop, E: Sink + Drop>(
 fn report_all<F: Files + Drop, I: Drop, O: Sink + Drop, E: Sink + Drop>(
     alloc: Global,
     line: CommandLine<'_>,
-    fault: CommandFault,
+    failure: Failure,
     system: &mut HostSystem<F, I, O, E>,
 ) -> u8
-    requires { command_status_of fault ≢ 0 }
-    ensures reports { ReportsAll O.Sink E.Sink (OfCommand fault) (line.entry.is_verbose && is_explained fault) system.old system.new result }
+    requires { command_status_of failure ≢ 0 }
+    ensures reports { ReportsAll O.Sink E.Sink (OfCommand failure) (line.entry.is_verbose && is_explained failure) system.old system.new result }
     ensures output { system.new.output ≡ system.old.output }
 {
-    let status = report(&Fault::Command(fault), system);
-    if line.is_verbose && is_explained(fault) {
+    let status = report(&Fault::Command(failure), system);
+    if line.is_verbose && is_explained(failure) {
         explain(
             alloc,
             &system.files,
             line.command,
-            fault,
+            failure,
             &mut system.errors,
         );
     }
@@ -110,9 +111,11 @@ fn report_notes<F: Drop, I: Drop, O: Drop, E: Sink + Drop>(
 /// a person, and returns the exit status.
 ///
 /// The status is 0 on success and after help or the version, 1 if the input is invalid, 2 for an error in the command
-/// line, 3 if there is no memory, 4 if a read or a write fails, and 5 if a search left a state out. Unless the words have
-/// the flag `quiet`, an error is explained in lines that begin with two spaces, and notes on an answer are written to
-/// the standard error in lines that begin with `pvsim: note: `. If the standard output had nothing buffered and the status is not 4, it has nothing buffered
+/// line, 3 if there is no memory, 4 if a read or a write fails, 5 if a search left a state out, and 6 if the steps of two
+/// inputs differ. Each of the words `--help`, `-h`, `--version` and `-V` alone shows help or the version: the status is 0,
+/// unless there is no memory or a write fails. Unless the words have the flag `quiet`, an error is explained in lines
+/// that begin with two spaces, and notes on an answer are written to the standard error in lines that begin with
+/// `pvsim: note: `. If the standard output had nothing buffered and the status is not 4, it has nothing buffered
 /// afterwards. A search of states reports to `progress`.
 pub fn run<
     S: AsStr,
@@ -122,8 +125,9 @@ pub fn run<
     E: Sink + Drop,
     P: Progress,
 >(alloc: Global, words: &[S], system: &mut HostSystem<F, I, O, E>, progress: &mut P) -> u8
-    ensures ends { EndsWith (disk_of F.Files F.Reader.Source F.Writer.Sink) (host_of F.entries F.target_of F.Target.made) I.Source O.Sink E.Sink
+    ensures ends { EndsWith (disk_of F.Files F.Reader.Source F.Writer.Sink) (host_of F.entries F.targets F.target_of F.Target.made) I.Source O.Sink E.Sink
         (map S.text words.now) system.old system.new result }
+    ensures request { IsRequest (map S.text words.now) → EndsRequest O.Sink E.Sink system.old system.new result }
     ensures flushed { O.buffered system.old.output ≡ 0 → result ≢ 4 → O.buffered system.new.output ≡ 0 }
 {
     let line = match command_line_of(alloc, words) {
@@ -133,6 +137,6 @@ pub fn run<
     let mut notes = Vec::new(alloc);
     match perform(alloc, line.command, system, &mut notes, progress) {
         Ok(()) => report_notes(line.is_verbose, &notes, system),
-        Err(fault) => report_all(alloc, line, fault, system),
+        Err(failure) => report_all(alloc, line, failure, system),
     }
 }

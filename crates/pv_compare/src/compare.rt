@@ -1,5 +1,5 @@
 //! The comparison of two machines, and its answer.
-ghost use Rattle.std.specs.Prelude.{◌≡◌, ◌≤◌, option_map, IfOk, OnOk};
+ghost use Rattle.std.specs.Prelude.{◌≡◌, ◌≤◌, option_map, IfErr, IfOk, OnOk, IsErrOf};
 ghost use Rattle.pv_compare.specs.Answering.{compared_by, compared_of, difference_text, result_text};
 ghost use Rattle.pv_compare.specs.Pairs.{AreCounted, IsCompared, IsSearchInvariant, found_in, pairs_of};
 ghost use Rattle.pv_compare.specs.Plan.{compared_pairs};
@@ -94,6 +94,7 @@ fn write_result<W: Sink>(
 ) -> Result<Compared, Stop>
     ensures written { WritesOr W.Sink FailsBy (result_text pairs complete (option_map (λ d. d.now) found.entry)) out.old out.new result }
     ensures compared { IfOk result (λ compared. compared ≡ compared_by complete (option_map (λ d. d.now) found.entry)) }
+    ensures error { IfErr result (λ stop. stop ≡ Stop.Write) }
 {
     if let Some(difference) = found {
         write_difference(out, difference, pairs)?;
@@ -154,6 +155,7 @@ pub fn write_compare<W: Sink, P: Progress>(
     requires { 1 ≤ pairs }
     ensures written { WritesOr W.Sink FailsBy (answer_bytes (comparison_lines (comparison program_of pairs first.now second.now))) out.old out.new result }
     ensures compared { IfOk result (λ compared. compared ≡ compared_of (comparison program_of pairs first.now second.now)) }
+    ensures nothing { IsErrOf result Stop.Memory → W.written out.new ≡ W.written out.old }
 {
     let mut visited = Pairs::new(alloc, first, second)?;
     let found = search_all(alloc, &mut visited, pairs, progress)?;

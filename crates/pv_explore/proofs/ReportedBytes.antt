@@ -5,6 +5,7 @@ use Rattle.std.specs.Fmt.{decimal, digits, digits_onto, digit_glyph}
 use Rattle.std.specs.List.{list_any}
 use Rattle.std.proofs.lemmas.Bool.Decides.{nat_tests}
 use Rattle.std.proofs.lemmas.Grind.{flat_map-append}
+use Rattle.pv_explore.proofs.ProperPrefixes.{lines-long}
 use Rattle.std.proofs.lemmas.List.{map-append}
 use Rattle.std.proofs.lemmas.List.Folds.{list_any-append}
 use Rattle.pv_step_lines.proofs.CallLines.{trace-bytes}
@@ -226,3 +227,7 @@ module _ (limit : ℕ) (s : State) where
 
   pub last-bytes : (states : ℕ) (complete : Bool) (ends : ℕ) (texts : List Bytes) → IsSearched trace_text limit s states complete ends texts → answer_bytes (result_lines states complete ends) ≡ answer_bytes last_lines
   last-bytes states complete ends texts it = λ i. answer_bytes (result_lines (it.states_are i) (it.complete_is i) (it.endings_are i))
+
+  -- the last lines are not empty
+  pub last-long : 0 < length (answer_bytes last_lines)
+  last-long = lines-long [] (done_line program_of limit s) (endings_line (length (endings (states_found program_of limit s))) ∷ [])

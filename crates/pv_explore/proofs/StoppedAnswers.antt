@@ -1,5 +1,6 @@
 -- Answers that stop: memory was refused before the text was written, or a write failed.
-use Rattle.std.proofs.Common.{◌≡◌, ◌∙◌, sym, subst, ap, Result, Err, refl}
+use Rattle.std.proofs.Common.{◌≡◌, ◌∙◌, sym, subst, ap, Result, Ok, Err, refl}
+use Rattle.std.specs.Result.{IfErr, IsErrAnd}
 use Rattle.pv_model.specs.declared.stream.Sink.{Ghosts as Writing}
 use Rattle.pv_model.specs.Machine.{Bytes}
 use Rattle.pv_step_lines.specs.OfSession.Running.{FailsBy}
@@ -7,6 +8,15 @@ use Rattle.pv_step_lines.specs.OfSession.declared.session.Stop.{Stop}
 use Rattle.pv_step_lines.specs.OfSession.declared.session.Stop.TheVariants.{Memory, Write}
 use Rattle.pv_streams.specs.Sinks.{Writes, WritesOr}
 use Rattle.pv_streams.proofs.SinkWrites.{written_nothing}
+
+-- a failed write is not a lack of memory
+pub never_memory : {T : Type 0} (result : Result T Stop) → IfErr result (λ stop. stop ≡ Write) → result ≡ Err Memory → ⊥
+never_memory (Ok x) error is = cc
+never_memory (Err stop) error is = cc
+
+pub not_memory : {T : Type 0} (result : Result T Stop) → IsErrAnd result (λ stop. stop ≡ Write) → result ≡ Err Memory → ⊥
+not_memory (Ok x) ended is = cc
+not_memory (Err stop) ended is = cc
 
 module _ {W T : Type 0} (sink : Writing W) (text : Bytes) where
   -- if there is no memory, nothing was written

@@ -3,6 +3,7 @@ pub mod Checkpoints
 pub mod FirstMachines
 pub mod Observing
 pub mod Plan
+pub mod ProperPrefixes
 pub mod Rows
 pub mod Searches
 pub mod Sides

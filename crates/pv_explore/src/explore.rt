@@ -1,6 +1,7 @@
 //! The search of all states, and its answer: what can happen under any schedule.
 ghost use Rattle.std.specs.Prelude.{◌≡◌, ◌≤◌, IfOk};
 ghost use Rattle.pv_explore.specs.Plan.{result_lines};
+ghost use Rattle.pv_explore.specs.ProperPrefixes.{StopsInside};
 ghost use Rattle.pv_model.specs.Machine.{endings_line, is_complete, answer_bytes, answer_line_bytes, program_of};
 ghost use Rattle.pv_model.specs.Answers.Explore.{completeness_text, explore_lines, states_line};
 ghost use Rattle.pv_step_lines.specs.OfSession.Running.{FailsBy};
@@ -83,7 +84,7 @@ fn write_done<W: Sink>(out: &mut W, searched: &Searched) -> Result<(), Failed>
 ///
 /// # Errors
 ///
-/// - `Memory`, if there is no memory.
+/// - `Memory`, if there is no memory. The sink received a proper prefix of the lines.
 /// - `Write`, if a write failed. The sink received a prefix of the lines.
 pub fn write_explore<W: Sink, P: Progress>(
     alloc: Global,
@@ -95,6 +96,7 @@ pub fn write_explore<W: Sink, P: Progress>(
     requires { 1 ≤ states }
     ensures written { WritesOr W.Sink FailsBy (answer_bytes (explore_lines program_of states first_machine.now)) out.old out.new result }
     ensures complete { IfOk result (λ complete. complete ≡ is_complete program_of states first_machine.now) }
+    ensures part { StopsInside W.Sink (answer_bytes (explore_lines program_of states first_machine.now)) out.old out.new result }
 {
     let searched = search_observed(alloc, first_machine, states, TraceLines, progress, out)?;
     write_done(out, &searched)?;

@@ -2,6 +2,7 @@
 ghost use Rattle.std.specs.Prelude.{◌≡◌, ◌≤◌, [], Some, codes, length, IfOk};
 ghost use Rattle.std.specs.Fmt.{decimal};
 ghost use Rattle.pv_explore.specs.Observing.{no_text};
+ghost use Rattle.pv_explore.specs.ProperPrefixes.{StopsInside};
 ghost use Rattle.pv_explore.specs.Searches.{all_visited, visited_of};
 ghost use Rattle.pv_explore.specs.Vertices.{all_steps_at, all_vertices, found_lines, listed_bytes, vertex_at};
 ghost use Rattle.pv_model.specs.Machine.{is_complete, graph_lines, answer_bytes, answer_line, answer_line_bytes, lines_of, program_of, listing};
@@ -216,7 +217,8 @@ fn write_found<O: Observer + Drop, W: Sink>(
     out: &mut W,
 ) -> Result<(), Stop>
     requires { length (visited_of search.now).witnesses ≡ length search.now.states }
-    ensures { WritesOr W.Sink FailsBy (answer_bytes (found_lines (visited_of search.now) first_machine.now tree)) out.old out.new result }
+    ensures written { WritesOr W.Sink FailsBy (answer_bytes (found_lines (visited_of search.now) first_machine.now tree)) out.old out.new result }
+    ensures part { StopsInside W.Sink (answer_bytes (found_lines (visited_of search.now) first_machine.now tree)) out.old out.new result }
 {
     write_vertices(alloc, first_machine, search, tree, out)?;
     Ok(write_states(out, search.states.len(), search.complete)?)
@@ -233,7 +235,7 @@ fn write_found<O: Observer + Drop, W: Sink>(
 ///
 /// # Errors
 ///
-/// - `Memory`, if there is no memory.
+/// - `Memory`, if there is no memory. The sink received a proper prefix of the lines.
 /// - `Write`, if a write failed. The sink received a prefix of the lines.
 pub fn write_graph<W: Sink, P: Progress>(
     alloc: Global,
@@ -246,6 +248,7 @@ pub fn write_graph<W: Sink, P: Progress>(
     requires { 1 ≤ states }
     ensures written { WritesOr W.Sink FailsBy (answer_bytes (graph_lines program_of states tree first_machine.now)) out.old out.new result }
     ensures complete { IfOk result (λ complete. complete ≡ is_complete program_of states first_machine.now) }
+    ensures part { StopsInside W.Sink (answer_bytes (graph_lines program_of states tree first_machine.now)) out.old out.new result }
 {
     let search = search_states(alloc, first_machine, states, progress)?;
     write_found(alloc, first_machine, &search, tree, out)?;

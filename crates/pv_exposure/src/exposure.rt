@@ -1,5 +1,5 @@
 //! The exposure of the programs under all schedules.
-ghost use Rattle.std.specs.Prelude.{◌≡◌, ◌≤◌, [], flat_map, length, slice_get, IfOk, IsSome, OnOk, Some};
+ghost use Rattle.std.specs.Prelude.{◌≡◌, ◌≤◌, [], flat_map, length, slice_get, IfOk, IsSome, OnOk, Some, IsErrOf};
 ghost use Rattle.pv_exposure.specs.Answers.{exposed_lines_by, all_exposed_lines};
 ghost use Rattle.pv_exposure.specs.Collected.{exposed_after, exposed_with};
 ghost use Rattle.pv_exposure.specs.Seen.{IsSeenState, found_seen};
@@ -239,6 +239,7 @@ pub fn write_exposure<W: Sink, P: Progress>(
     requires { 1 ≤ states }
     ensures written { WritesOr W.Sink FailsBy (answer_bytes (exposed_lines_by (path_texts files.now) kind states first_machine.now)) out.old out.new result }
     ensures complete { IfOk result (λ complete. complete ≡ is_complete_by kind states first_machine.now) }
+    ensures nothing { IsErrOf result Stop.Memory → W.written out.new ≡ W.written out.old }
 {
     let mut visits = kind.states(alloc, first_machine, states, progress)?;
     let lines = text_of_states(alloc, kind, first_machine.tree(), files, &mut visits)?;

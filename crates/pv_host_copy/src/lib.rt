@@ -5,8 +5,8 @@
 //! (`skipped`, with their lines in `lines`). `reading` reads the bytes of a file, `walking` descends into directories,
 //! and `import` imports a directory. `given` adds the entries of a source, which replace some of the directory's
 //! (`beside`), and `image` writes the image. For exports, `target` defines the trait of a directory in which a tree is created, `exporting`
-//! creates the tree, and `unpacking` reads it from an image and reports errors. `laws` states the result of an import
-//! of an export, and of a directory merged with the entries of a source.
+//! creates the tree, and `unpacking` reports errors. `laws` states the result of an import of an export, and of a
+//! directory merged with the entries of a source.
 #![tactic(auto)]
 
 mod beside;
@@ -41,4 +41,4 @@ pub use laws::{
 pub use lines::{write_refused, write_skipped, write_unmade};
 pub use skipped::Skipped;
 pub use target::{HostTarget, TargetFault};
-pub use unpacking::{ExportFault, export_tree, read_tree};
+pub use unpacking::{ExportFault, export_tree};

@@ -1,5 +1,5 @@
 //! The policy of each program under all schedules.
-ghost use Rattle.std.specs.Prelude.{◌≡◌, ◌≤◌, ◌++◌, [], ◌∷◌, codes, flat_map, slice_get, IfOk, OnOk, Some};
+ghost use Rattle.std.specs.Prelude.{◌≡◌, ◌≤◌, ◌++◌, [], ◌∷◌, codes, flat_map, slice_get, IfOk, OnOk, Some, IsErrOf};
 ghost use Rattle.pv_reduced.specs.OfExplore.Visiting.{found_of};
 ghost use Rattle.pv_laws_states.specs.States.{IsValid};
 ghost use Rattle.pv_model.specs.declared.call.Call.{Call};
@@ -242,6 +242,7 @@ pub fn write_policy<W: Sink, P: Progress>(
     requires { 1 ≤ states }
     ensures written { WritesOr W.Sink FailsBy (answer_bytes (policy_lines_by granted kind states first_machine.now)) out.old out.new result }
     ensures complete { IfOk result (λ complete. complete ≡ is_complete_by kind states first_machine.now) }
+    ensures nothing { IsErrOf result Stop.Memory → W.written out.new ≡ W.written out.old }
 {
     let mut visits = kind.states(alloc, first_machine, states, progress)?;
     let lines = bytes_of(alloc, kind, granted, first_machine.tree(), &mut visits)?;

@@ -1,22 +1,31 @@
 -- A manifest alone, a bundle with this manifest, and the image that is made of it.
-use Rattle.std.proofs.Common.{◌≡◌, ◌∙◌, ap, ap₂, sym, subst, refl, inl, inr, ℕ, ◌+◌, true, false, List, [], ◌∷◌, ◌++◌, length, append_assoc, append-nil, codes, max, Result, Ok, Err}
+use Rattle.std.proofs.Common.{◌≡◌, ◌≢◌, ◌∙◌, ap, sym, subst, refl, inl, inr, ℕ, ◌+◌, true, false, List, [], ◌∷◌, ◌++◌, length, append_assoc, append-nil, codes, Option, Result, Ok, Err}
 use Rattle.std.proofs.lemmas.List.Concat.{flat_map-append}
+use Rattle.std.specs.Global.{Vec}
 use Rattle.std.specs.List.{AllByRecursion}
 use Rattle.pv_model.specs.declared.fault.ManifestFault.{ManifestFault}
 use Rattle.pv_model.specs.declared.fault.ManifestFault.TheVariants.{Form}
 use Rattle.pv_model.specs.declared.run_fault.RunFault.{RunFault}
-use Rattle.pv_model.specs.Machine.{comparison, program_of, booted, State, Bytes, EncodesManifest, lines_of, Listed, Manifest, read_bundle, read_manifest, tree_of, with_line_end, ended, IsImageOf, and_then, bundle_started, image_started, started_on, Tree}
+use Rattle.pv_model.specs.Answers.Turns.{schedule_text}
+use Rattle.pv_model.specs.Machine.{Bytes, EncodesManifest, lines_of, Listed, Manifest, read_bundle, read_manifest, tree_of, with_line_end, ended, IsImageOf, and_then, booted, bundle_started, program_of, Started, started_on, State, Tree, turns}
 use Rattle.pv_model.specs.Grammar.Entries.{HasNoForm, IsFirstWithoutForm, Lists, at_end, at_schedule, entry, further, no_schedule}
 use Rattle.pv_model.specs.Grammar.Texts.{HasLines, IsLine}
 use Rattle.pv_laws_trees.proofs.MountedImages.{image-mounted}
 use Rattle.pv_laws_grammar.proofs.TextLines.{HasLines-lines_of, lines_from_relation}
 use Rattle.pv_laws_grammar.proofs.ManifestParsing.{EncodesManifest-whole, whole-IsFirstWithoutForm, whole-EncodesManifest}
 use Rattle.pv_run.specs.Making.{tree_made}
-use Rattle.pv_model.specs.RunFault.{of_boot}
-use Rattle.pv_questions.specs.Comparing.{comparison_of, machine_in}
+use Rattle.pv_questions.specs.Answers.{Answer, answer_by, fair_text_of, started_by, started_under, whole_started}
+use Rattle.pv_questions.specs.Failures.{failure_of_boot, failure_of_run}
 use Rattle.pv_questions.specs.Laws.{bundle_of}
-use Rattle.pv_questions.specs.Trees.{image_tree, tree_of_manifest_text, read_manifest_of}
-use Rattle.pv_questions.specs.declared.question.Format.TheVariants as format
+use Rattle.pv_questions.specs.Schedules.{cut_after}
+use Rattle.pv_questions.specs.Trees.{input_tree, machine_in, read_manifest_of}
+use Rattle.pv_questions.specs.declared.failure.Failure.{Failure}
+use Rattle.pv_questions.specs.declared.input.Format.{Format}
+use Rattle.pv_questions.specs.declared.input.Format.TheVariants as format
+use Rattle.pv_questions.specs.declared.input.Turns.{Turns}
+use Rattle.pv_questions.specs.declared.input.Turns.TheVariants.{Own, Text, Fair}
+use Rattle.pv_questions.specs.declared.question.Question.{Question}
+use Rattle.pv_questions.specs.declared.question.Question.TheVariants as asked
 
 -- ---- a manifest alone is not a bundle
 
@@ -118,41 +127,98 @@ bundle_read lines turns m are is =
       s.1,
     )
 
--- ---- the answers
+-- ---- the trees
 
 module _ (image : Bytes) (t : Tree) (holds : IsImageOf image t) where
-  pub image_tree-made : image_tree image ≡ Ok t
-  image_tree-made = rw (image-mounted image t holds) refl
+  pub input_tree-image : input_tree format.Image image ≡ Ok t
+  unfolding input_tree
+  input_tree-image = rw (image-mounted image t holds) refl
 
-  pub image_starts : (turns : Bytes) (lines : List Bytes) → AllByRecursion IsLine lines → tree_made (ended lines) ≡ Ok t
-      → image_started image turns ≡ bundle_started (bundle_of lines turns)
-  unfolding image_started bundle_started
-  image_starts turns lines are made =
-      let m = manifest_made (ended lines) t made in rw (image-mounted image t holds, bundle_read lines turns m.manifest are m.is_read, m.makes) refl
+pub input_tree-manifest : (bytes : Bytes) (t : Tree) → tree_made bytes ≡ Ok t → input_tree format.Text bytes ≡ Ok t
+unfolding input_tree
+input_tree-manifest bytes t made = let m = manifest_made bytes t made in rw (appears_alone bytes m.manifest m.is_read, m.makes) refl
 
-  pub image_started-made : (turns : Bytes) → image_started image turns ≡ started_on t (lines_of turns)
-  unfolding image_started
-  image_started-made turns = rw (image-mounted image t holds) refl
-
-pub tree_of_manifest_text-made : (bytes : Bytes) (t : Tree) → tree_made bytes ≡ Ok t → tree_of_manifest_text bytes ≡ Ok t
-unfolding tree_of_manifest_text
-tree_of_manifest_text-made bytes t made = let m = manifest_made bytes t made in rw (appears_alone bytes m.manifest m.is_read, m.makes) refl
-
-pub tree_of_manifest_text-bundle : (lines : List Bytes) (turns : Bytes) (t : Tree) → AllByRecursion IsLine lines → tree_made (ended lines) ≡ Ok t
-    → tree_of_manifest_text (bundle_of lines turns) ≡ Ok t
-unfolding tree_of_manifest_text read_manifest_of
-tree_of_manifest_text-bundle lines turns t are made =
+pub input_tree-bundle : (lines : List Bytes) (turns : Bytes) (t : Tree) → AllByRecursion IsLine lines → tree_made (ended lines) ≡ Ok t
+    → input_tree format.Text (bundle_of lines turns) ≡ Ok t
+unfolding input_tree read_manifest_of
+input_tree-bundle lines turns t are made =
     let m = manifest_made (ended lines) t made in rw (bundle_read lines turns m.manifest are m.is_read, m.makes) refl
 
--- ---- the comparison
+bundle_started-made : (lines : List Bytes) (turns : Bytes) (t : Tree) → AllByRecursion IsLine lines → tree_made (ended lines) ≡ Ok t
+    → bundle_started (bundle_of lines turns) ≡ started_on t (lines_of turns)
+unfolding bundle_started
+bundle_started-made lines turns t are made =
+    let m = manifest_made (ended lines) t made in rw (bundle_read lines turns m.manifest are m.is_read, m.makes) refl
 
-machines : (manifest image : Bytes) (t : Tree) → tree_made manifest ≡ Ok t → IsImageOf image t → machine_in format.Image image ≡ machine_in format.Manifest manifest
-machines manifest image t made holds =
-    ap (λ (held : Result Tree RunFault). and_then (λ fault. fault) held (λ tree. and_then of_boot (booted tree) (λ s. Ok s)))
-    (image_tree-made image t holds ∙ sym (tree_of_manifest_text-made manifest t made))
+-- ---- the start of a run under a schedule that is given
 
-pub comparisons : (pairs : ℕ) (first second image other : Bytes) (t u : Tree) → tree_made first ≡ Ok t → tree_made second ≡ Ok u → IsImageOf image t → IsImageOf other u
-    → comparison_of format.Image pairs image other ≡ comparison_of format.Manifest pairs first second
-comparisons pairs first second image other t u made_first made_second holds_first holds_second =
-    ap₂ (λ (a b : Result State RunFault). and_then (λ fault. fault) a (λ s. and_then (λ fault. fault) b (λ t. Ok (comparison program_of (max 1 pairs) s t))))
-    (machines first image t made_first holds_first) (machines second other u made_second holds_second)
+pub whole-text : (format : Format) (bytes : Bytes) (text : Vec ℕ) → whole_started format bytes (Text text) ≡ started_under format bytes text.items
+whole-text format.Image bytes text = refl
+whole-text format.Text bytes text = refl
+
+pub whole-fair : (format : Format) (bytes : Bytes) → whole_started format bytes Fair ≡ and_then (λ failure. failure) (fair_text_of format bytes) (started_under format bytes)
+whole-fair format.Image bytes = refl
+whole-fair format.Text bytes = refl
+
+-- ---- answers about equal trees and equal runs
+
+module _ (a b : Format) (bytes other : Bytes) (same : input_tree a bytes ≡ input_tree b other) where
+  pub machines : machine_in a bytes ≡ machine_in b other
+  machines = ap (λ (held : Result Tree Failure). and_then (λ failure. failure) held (λ t. and_then failure_of_boot (booted t) (λ s. Ok s))) same
+
+  under : (text : Bytes) → started_under a bytes text ≡ started_under b other text
+  under text =
+      ap (λ (held : Result Tree Failure). and_then (λ failure. failure) held (λ t. and_then failure_of_run (started_on t (lines_of text)) (λ it. Ok it))) same
+
+  fair : and_then (λ failure. failure) (fair_text_of a bytes) (started_under a bytes) ≡ and_then (λ failure. failure) (fair_text_of b other) (started_under b other)
+  fair =
+      ap (λ (held : Result Tree Failure).
+      and_then (λ failure. failure) (and_then (λ failure. failure) (and_then (λ failure. failure) held (λ t. and_then failure_of_boot (booted t) (λ s. Ok s)))
+      (λ s. Ok (schedule_text (turns program_of 1 65536 s))))
+      (λ text. and_then (λ failure. failure) held (λ t. and_then failure_of_run (started_on t (lines_of text)) (λ it. Ok it)))) same
+
+  whole : (turned : Turns) → turned ≢ Own → whole_started a bytes turned ≡ whole_started b other turned
+  whole Own given = absurd (given refl)
+  whole (Text text) given = whole-text a bytes text ∙ under text.items ∙ sym (whole-text b other text)
+  whole Fair given = whole-fair a bytes ∙ fair ∙ sym (whole-fair b other)
+
+  module _ (first second : Turns) (begun : whole_started a bytes first ≡ whole_started b other second) (steps : Option ℕ) where
+    of_run : (answered : Started → Answer) → and_then (λ failure. failure) (started_by a bytes first steps) answered
+        ≡ and_then (λ failure. failure) (started_by b other second steps) answered
+    of_run answered =
+        ap (λ (begin : Result Started Failure). and_then (λ failure. failure) (and_then (λ failure. failure) begin (λ it. Ok (cut_after steps it))) answered) begun
+
+    of_tree : (answered : Tree → Answer) → and_then (λ failure. failure) (input_tree a bytes) answered ≡ and_then (λ failure. failure) (input_tree b other) answered
+    of_tree answered = ap (λ (held : Result Tree Failure). and_then (λ failure. failure) held answered) same
+
+    of_machine : (answered : State → Answer) → and_then (λ failure. failure) (machine_in a bytes) answered ≡ and_then (λ failure. failure) (machine_in b other) answered
+    of_machine answered = ap (λ (held : Result State Failure). and_then (λ failure. failure) held answered) machines
+
+    pub answers : (question : Question) → answer_by a bytes first steps question ≡ answer_by b other second steps question
+    answers asked.Trace = of_run _
+    answers asked.State = of_run _
+    answers (asked.Reach pid) = of_run _
+    answers (asked.Explain errors allowed) = of_run _
+    answers (asked.Needs granted) = of_run _
+    answers (asked.Audit path) = of_run _
+    answers (asked.Reasons path) = of_run _
+    answers asked.Listing = of_tree _
+    answers (asked.File path) = of_tree _
+    answers (asked.Turns slice limit) = of_machine _
+    answers (asked.Explore kind states) = of_machine _
+    answers (asked.Access kind files states) = of_machine _
+    answers (asked.Exposure kind files states) = of_machine _
+    answers (asked.Policy kind granted states) = of_machine _
+    answers (asked.Graph tree states) = of_machine _
+
+  pub answers_given : (question : Question) (turned : Turns) (steps : Option ℕ) → turned ≢ Own → answer_by a bytes turned steps question ≡ answer_by b other turned steps question
+  answers_given question turned steps given = answers turned turned (whole turned given) steps question
+
+pub bundle_answers : (question : Question) (steps : Option ℕ) (lines : List Bytes) (text : Vec ℕ) (t : Tree) → AllByRecursion IsLine lines → tree_made (ended lines) ≡ Ok t
+    → answer_by format.Text (bundle_of lines text.items) Own steps question ≡ answer_by format.Text (ended lines) (Text text) steps question
+bundle_answers question steps lines text t are made =
+    let first = input_tree-bundle lines text.items t are made in
+    let second = input_tree-manifest (ended lines) t made in
+    let start = ap (λ (begin : Result Started RunFault). and_then failure_of_run begin (λ it. Ok it)) (bundle_started-made lines text.items t are made) in
+    let under = ap (λ (held : Result Tree Failure). and_then (λ failure. failure) held (λ u. and_then failure_of_run (started_on u (lines_of text.items)) (λ it. Ok it))) second in
+    answers format.Text format.Text (bundle_of lines text.items) (ended lines) (first ∙ sym second) Own (Text text) (start ∙ sym under) steps question

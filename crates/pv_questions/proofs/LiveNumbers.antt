@@ -3,7 +3,7 @@ use Rattle.std.proofs.Common.{◌≡◌, ◌∙◌, ℕ, ◌++◌, List, [], ◌
 use Rattle.pv_model.specs.Machine.{live_processes, ProcessRecord, State, ended_record, live, live_process, process_at}
 use Rattle.pv_model_questions.specs.Notes.{live_numbers}
 use Rattle.pv_policy.proofs.OfAnswers.ProcessSequence.{IsNextRecord, Recorded, records_after}
-use Rattle.pv_questions.specs.Noting.{number_if_live}
+use Rattle.pv_questions.specs.Answers.{number_if_live}
 
 -- the numbers of the live processes of some records
 abbrev pub numbers_in : List Recorded → List ℕ

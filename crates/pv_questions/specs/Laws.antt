@@ -1,18 +1,20 @@
--- A bundle or a manifest gives the same answers as the image that is made of it.
-use Rattle.std.specs.Prelude.{◌≡◌, ℕ, ◌≤◌, take, List, [], ◌∷◌, ◌++◌, length, codes, Ok}
+-- A source gives the same answers as the image that is made of it.
+use Rattle.std.specs.Prelude.{◌≡◌, ◌≢◌, ℕ, ◌≤◌, take, true, false, List, [], ◌∷◌, ◌++◌, length, codes, Option, Ok}
+use Rattle.std.specs.Global.{Vec}
 use Rattle.std.specs.List.{AllByRecursion}
 use Rattle.pv_model.specs.declared.limits.TheConstants.{SCHEDULE_LINES}
-use Rattle.pv_model.specs.Machine.{witness_text, Bytes, Manifest, read_manifest, read_schedule, ended, IsImageOf, Schedule, steps_of, Tree}
+use Rattle.pv_model.specs.Machine.{witness_text, Bytes, Manifest, mounted, read_bundle, read_manifest, read_schedule, ended, IsImageOf, Schedule, steps_of, Tree}
 use Rattle.pv_model.specs.Answers.Explore.{in_turns}
 use Rattle.pv_model.specs.Grammar.Texts.{IsCount, IsLine}
 use Rattle.pv_run.specs.Making.{tree_made}
-use Rattle.pv_questions.specs.Answering.{bundle_answer, image_answer}
-use Rattle.pv_questions.specs.Comparing.{compare_answer, result_in}
+use Rattle.pv_questions.specs.Answers.{answer_by}
+use Rattle.pv_questions.specs.Formats.{is_source}
 use Rattle.pv_questions.specs.Schedules.{first_steps, turns_text}
-use Rattle.pv_questions.specs.Trees.{image_tree_answer, manifest_answer, manifest_tree_answer, read_manifest_of}
-use Rattle.pv_questions.specs.declared.question.Format.TheVariants as format
-use Rattle.pv_questions.specs.declared.question.RunQuestion.{RunQuestion}
-use Rattle.pv_questions.specs.declared.question.TreeQuestion.{TreeQuestion}
+use Rattle.pv_questions.specs.Trees.{machine_in, read_manifest_of}
+use Rattle.pv_questions.specs.declared.input.Format.TheVariants as format
+use Rattle.pv_questions.specs.declared.input.Turns.{Turns}
+use Rattle.pv_questions.specs.declared.input.Turns.TheVariants.{Own, Text}
+use Rattle.pv_questions.specs.declared.question.Question.{Question}
 
 abbrev pub ManifestsStandAlone : Type 0
 ManifestsStandAlone = (bytes : Bytes) (m : Manifest) → read_manifest bytes ≡ Ok m → read_manifest_of bytes ≡ Ok m
@@ -21,34 +23,29 @@ ManifestsStandAlone = (bytes : Bytes) (m : Manifest) → read_manifest bytes ≡
 abbrev pub bundle_of : List Bytes → Bytes → Bytes
 bundle_of lines turns = ended (lines ++ codes "schedule" ∷ []) ++ turns
 
-abbrev pub ImagesAnswerAsManifests : Type 0
-ImagesAnswerAsManifests =
-    (question : TreeQuestion) (manifest image : Bytes) (t : Tree) → tree_made manifest ≡ Ok t → IsImageOf image t
-    → image_tree_answer question image ≡ manifest_tree_answer question manifest
-
-abbrev pub ImagesAnswerAsBundles : Type 0
-ImagesAnswerAsBundles =
-    (asked : RunQuestion) (lines : List Bytes) (turns image : Bytes) (t : Tree) → AllByRecursion IsLine lines → tree_made (ended lines) ≡ Ok t → IsImageOf image t
-    → image_answer asked image turns ≡ bundle_answer asked (bundle_of lines turns)
-
--- an image gives the same answer under a schedule as its manifest, alone or in a bundle
+-- an image gives the same answer as its manifest, alone or in a bundle, to each question, under each schedule that is
+-- not the bundle's own
 abbrev pub ImagesAnswerAsTheirManifests : Type 0
 ImagesAnswerAsTheirManifests =
-    (asked : RunQuestion) (manifest turns image : Bytes) (t : Tree) → tree_made manifest ≡ Ok t → IsImageOf image t
-    → image_answer asked image turns ≡ manifest_answer asked manifest turns
+    (question : Question) (turns : Turns) (steps : Option ℕ) (manifest image : Bytes) (t : Tree) → turns ≢ Own → tree_made manifest ≡ Ok t → IsImageOf image t
+    → answer_by format.Image image turns steps question ≡ answer_by format.Text manifest turns steps question
 
--- the comparison of two images has the text and the result of that of their manifests
-abbrev pub ImagesCompareAsManifests : Type 0
-ImagesCompareAsManifests =
-    (pairs : ℕ) (first second image other : Bytes) (t u : Tree) → tree_made first ≡ Ok t → tree_made second ≡ Ok u → IsImageOf image t → IsImageOf other u
-    → (compare_answer format.Image pairs image other ≡ compare_answer format.Manifest pairs first second)
-    × (result_in format.Image pairs image other ≡ result_in format.Manifest pairs first second)
+-- a bundle gives the same answer under its own schedule as its manifest under that schedule
+abbrev pub BundlesAnswerUnderTheirSchedules : Type 0
+BundlesAnswerUnderTheirSchedules =
+    (question : Question) (steps : Option ℕ) (lines : List Bytes) (turns : Vec ℕ) (t : Tree) → AllByRecursion IsLine lines → tree_made (ended lines) ≡ Ok t
+    → answer_by format.Text (bundle_of lines turns.items) Own steps question ≡ answer_by format.Text (ended lines) (Text turns) steps question
 
--- the lines after `schedule` do not change the answer to a question of the tree
-abbrev pub BundlesAnswerAsManifests : Type 0
-BundlesAnswerAsManifests =
-    (question : TreeQuestion) (lines : List Bytes) (turns : Bytes) (t : Tree) → AllByRecursion IsLine lines → tree_made (ended lines) ≡ Ok t
-    → manifest_tree_answer question (bundle_of lines turns) ≡ manifest_tree_answer question (ended lines)
+-- the machine of an image is that of its manifest, so their comparisons are equal
+abbrev pub ImagesBootAsManifests : Type 0
+ImagesBootAsManifests = (manifest image : Bytes) (t : Tree) → tree_made manifest ≡ Ok t → IsImageOf image t → machine_in format.Image image ≡ machine_in format.Text manifest
+
+-- a file has one format: what mounts as an image is not a source, and what parses as a bundle or a manifest is one
+abbrev pub ImagesAreNoSources : Type 0
+ImagesAreNoSources = (bytes : Bytes) (t : Tree) → mounted bytes ≡ Ok t → is_source bytes ≡ false
+
+abbrev pub ManifestsAreSources : Type 0
+ManifestsAreSources = (bytes : Bytes) (m : Manifest) → read_manifest_of bytes ≡ Ok m → is_source bytes ≡ true
 
 -- the steps of a schedule that is cut are the first steps of the schedule
 abbrev pub CutsKeepFirstSteps : Type 0

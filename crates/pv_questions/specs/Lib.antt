@@ -1,10 +1,10 @@
-pub mod Answering
-pub mod Comparing
-pub mod Asking
+pub mod Answered
+pub mod Answers
+pub mod Failures
 pub mod FilePaths
 pub mod Files
+pub mod Formats
 pub mod Laws
-pub mod Noting
 pub mod Reasons
 pub mod Schedules
 pub mod Trees

@@ -8,10 +8,14 @@ abbrev pub first_steps : ℕ → Schedule → Schedule
 first_steps n [] = []
 first_steps n ((pid, count) ∷ turns) = if nat_le n count then (pid, n) ∷ [] else (pid, count) ∷ first_steps (n - count) turns
 
+-- the same, if there is a number of steps
+abbrev pub first_turns : Option ℕ → Schedule → Schedule
+first_turns None schedule = schedule
+first_turns (Some n) schedule = first_steps n schedule
+
 -- the start of a run whose schedule is cut, if there is a number of steps
 abbrev pub cut_after : Option ℕ → Started → Started
-cut_after None it = it
-cut_after (Some n) it = record it { schedule = first_steps n it.schedule }
+cut_after steps it = record it { schedule = first_turns steps it.schedule }
 
 -- the text of a schedule that represents turns with `, ` between, as in a witness: each `, ` is a newline
 abbrev pub turns_text : Bytes → Bytes

@@ -1,40 +1,38 @@
 //! Laws of answers: a bundle or a manifest gives the same answers as the image that is made of it.
 //!
 //! Each function has an empty body. Its contract is the law, which the check proves.
-ghost use Rattle.pv_questions.specs.Laws.{BundlesAnswerAsManifests, CutsKeepFirstSteps, ImagesAnswerAsBundles, ImagesAnswerAsManifests, ImagesAnswerAsTheirManifests, ImagesCompareAsManifests, ManifestsStandAlone, WitnessesAreReadBack};
+ghost use Rattle.pv_questions.specs.Laws.{BundlesAnswerUnderTheirSchedules, CutsKeepFirstSteps, ImagesAnswerAsTheirManifests, ImagesAreNoSources, ImagesBootAsManifests, ManifestsAreSources, ManifestsStandAlone, WitnessesAreReadBack};
 
 /// States that a manifest alone parses the same where a bundle is allowed.
 pub fn manifests_stand_alone()
     ensures { ManifestsStandAlone }
 {}
 
-/// States that an image gives the same answer to each question of a tree as the manifest that it is made from.
-pub fn images_answer_as_manifests()
-    ensures { ImagesAnswerAsManifests }
-{}
-
-/// States that an image gives the same answer to each question of a run under a schedule as the bundle of its manifest
-/// and that schedule.
-pub fn images_answer_as_bundles()
-    ensures { ImagesAnswerAsBundles }
-{}
-
-/// States that an image gives the same answer to each question of a run under a schedule as the manifest that it is made
-/// from.
+/// States that an image gives the same answer to each question as the manifest that it is made from, under each schedule
+/// that is given beside them.
 pub fn images_answer_as_their_manifests()
     ensures { ImagesAnswerAsTheirManifests }
 {}
 
-/// States that the comparison of two images has the same text and the same result as that of the manifests that they are
-/// made from.
-pub fn images_compare_as_manifests()
-    ensures { ImagesCompareAsManifests }
+/// States that a bundle gives the same answer to each question under its own schedule as its manifest alone under that
+/// schedule.
+pub fn bundles_answer_under_their_schedules()
+    ensures { BundlesAnswerUnderTheirSchedules }
 {}
 
-/// States that a bundle gives the same answer to each question of a tree as its manifest alone, whatever follows the
-/// line `schedule`.
-pub fn bundles_answer_as_manifests()
-    ensures { BundlesAnswerAsManifests }
+/// States that the machine of an image is that of the manifest that it is made from, so their comparisons are equal.
+pub fn images_boot_as_manifests()
+    ensures { ImagesBootAsManifests }
+{}
+
+/// States that a file that is an image is not taken for a source.
+pub fn images_are_no_sources()
+    ensures { ImagesAreNoSources }
+{}
+
+/// States that a bundle or a manifest is taken for a source.
+pub fn manifests_are_sources()
+    ensures { ManifestsAreSources }
 {}
 
 /// States that the steps of a schedule that is cut are the first steps of the schedule.

@@ -2,7 +2,7 @@
 ghost use Rattle.std.specs.Prelude.{◌≡◌, ◌+◌, ◌++◌, IfOk, OnOk, Some, filter, flat_map, option_map};
 ghost use Rattle.pv_model.specs.Machine.{audit_node as audit_of, process_at};
 ghost use Rattle.pv_model_questions.specs.Notes.{any_below, audit_notes, ended_notes, has_init, has_dropped_unveil, drops_unveil, shows_lock_reason, is_shown_at, live_numbers, note_line, pledge_note, pledge_notes};
-ghost use Rattle.pv_questions.specs.Noting.{record_has_dropped_unveil, notes_of, number_if_live};
+ghost use Rattle.pv_questions.specs.Answers.{notes_of, number_if_live, record_has_dropped_unveil};
 
 use crate::question::Question;
 use itoa::Buffer;
@@ -113,11 +113,11 @@ fn is_shown_in_report(session: &Session, every: bool, pid: u32) -> bool
 }
 
 // Returns the same for the audit of the file at a path or, without a path, of all files.
-fn is_shown_at(session: &Session, every: bool, pid: u32, path: Option<&[u8]>) -> bool
+fn is_shown_at(session: &Session, every: bool, pid: u32, path: Option<&str>) -> bool
     ensures { result ≡ is_shown_at every pid session.now (option_map (λ p. p.now) path.entry) }
 {
     match path {
-        Some(path) => is_shown(every, pid, session.audit(path)),
+        Some(path) => is_shown(every, pid, session.audit(path.as_bytes())),
         None => is_shown_in_report(session, every, pid),
     }
 }
@@ -159,7 +159,7 @@ fn push_pledge_notes(
     text: &mut Vec<u8>,
     session: &Session,
     every: bool,
-    path: Option<&[u8]>,
+    path: Option<&str>,
 ) -> Result<(), AllocError>
     ensures { OnOk result (text.new.items ≡ text.old.items ++ pledge_notes every session.now (option_map (λ p. p.now) path.entry)) }
 {
@@ -201,7 +201,7 @@ fn audit_notes(
     every: bool,
     is_loaded: bool,
     session: &Session,
-    path: Option<&[u8]>,
+    path: Option<&str>,
 ) -> Result<Vec<u8>, AllocError>
     ensures { IfOk result (λ notes. notes.items ≡ audit_notes every is_loaded session.now (option_map (λ p. p.now) path.entry)) }
 {
@@ -233,6 +233,6 @@ pub(crate) fn notes_of(
             push_ended_note(alloc, &mut text, is_loaded, session)?;
             Ok(text)
         }
-        Question::Trace | Question::Explain { .. } | Question::Needs { .. } => Ok(Vec::new(alloc)),
+        _ => Ok(Vec::new(alloc)),
     }
 }

@@ -1,17 +1,13 @@
 //! The schedule of a run: cut after some steps, or in the text of a witness.
 ghost use Rattle.std.specs.Prelude.{◌≡◌, ◌≤◌, length, IfOk};
-ghost use Rattle.pv_questions.specs.Schedules.{are_turns, first_steps, turns_text};
+ghost use Rattle.pv_questions.specs.Schedules.{are_turns, first_steps, first_turns, turns_text};
 
 use pv_model::ScheduleFault;
 use pv_script::Schedule;
 use std::alloc::{AllocError, Global};
 
 // Returns the turns of a schedule that is cut after a number of steps.
-pub(crate) fn cut_turns(
-    alloc: Global,
-    turns: &[(u32, u32)],
-    steps: u32,
-) -> Result<Vec<(u32, u32)>, AllocError>
+fn cut_turns(alloc: Global, turns: &[(u32, u32)], steps: u32) -> Result<Vec<(u32, u32)>, AllocError>
     ensures value { IfOk result (λ first. first.items ≡ first_steps steps turns.now) }
     ensures few { IfOk result (λ first. length first.items ≤ length turns.now) }
 {
@@ -27,6 +23,23 @@ pub(crate) fn cut_turns(
         left -= count;
     }
     Ok(first)
+}
+
+// Returns the turns of a schedule, cut after a number of steps if there is one.
+pub(crate) fn first_turns(
+    alloc: Global,
+    turns: &[(u32, u32)],
+    steps: Option<u32>,
+) -> Result<Vec<(u32, u32)>, AllocError>
+    ensures value { IfOk result (λ first. first.items ≡ first_turns steps turns.now) }
+    ensures few { IfOk result (λ first. length first.items ≤ length turns.now) }
+{
+    let Some(steps) = steps else {
+        let mut all = Vec::new(alloc);
+        all.extend_from_slice(turns)?;
+        return Ok(all);
+    };
+    cut_turns(alloc, turns, steps)
 }
 
 /// Returns the text of a schedule that represents turns with `, ` between, as `explore` writes a witness.

@@ -1,5 +1,5 @@
 -- The bytes written of observations are those of the first observations, and those of `explore` its lines.
-use Rattle.std.proofs.Common.{◌≡◌, ◌∙◌, sym, ap, ap₂, ℕ, ◌≤◌, Bool, List, [], ◌∷◌, ◌++◌, length, map, flat_map, refl}
+use Rattle.std.proofs.Common.{◌≡◌, ◌∙◌, sym, ap, ap₂, ℕ, ◌<◌, ◌≤◌, Bool, List, [], ◌∷◌, ◌++◌, length, map, flat_map, refl}
 use Rattle.std.proofs.lemmas.Grind.{flat_map-append}
 use Rattle.std.proofs.lemmas.List.{length-map, map-append}
 use Rattle.pv_reduced.specs.Lines.{IsReducedSearched, reduced_observed_bytes, reduced_states}
@@ -10,6 +10,7 @@ use Rattle.pv_explore.specs.Observing.{no_text, trace_text}
 use Rattle.pv_explore.specs.Plan.{tree_key}
 use Rattle.pv_explore.specs.Visiting.{found_at, visits_of}
 use Rattle.pv_explore.proofs.PlannedSearch.{written}
+use Rattle.pv_explore.proofs.ProperPrefixes.{lines-long}
 use Rattle.pv_explore.proofs.ReportedBytes.{HaveEmpty, explored, text_observed, written-first}
 use Rattle.pv_explore.proofs.VisitedList.{states-at}
 use Rattle.pv_laws_classes.specs.Reduced.{reduced_found, reduced_moves, reduced_moves_of, reduced_reported}
@@ -80,3 +81,7 @@ module _ (limit : ℕ) (s : State) where
   pub last-bytes : (observe : Observer Bytes) (states : ℕ) (complete : Bool) (ends : ℕ) (texts : List Bytes) → IsReducedSearched observe limit s states complete ends texts
       → answer_bytes (classes_line states complete ∷ endings_line ends ∷ []) ≡ answer_bytes last_lines
   last-bytes observe states complete ends texts it = λ i. answer_bytes (classes_line (it.states_are i) (it.complete_is i) ∷ endings_line (it.endings_are i) ∷ [])
+
+  -- the last lines are not empty
+  pub last-long : 0 < length (answer_bytes last_lines)
+  last-long = lines-long [] (classes_done_line program_of limit s) (endings_line (length (endings (reduced_found program_of s limit))) ∷ [])

@@ -4,6 +4,7 @@ ghost use Rattle.pv_laws_classes.specs.Reduced.{is_reduced_complete};
 ghost use Rattle.pv_laws_classes.specs.ReducedAnswers.{classes_line, reduced_lines};
 ghost use Rattle.pv_model.specs.Machine.{endings_line, answer_bytes, answer_line_bytes, program_of};
 ghost use Rattle.pv_explore.specs.OfSession.Running.{FailsBy};
+ghost use Rattle.pv_explore.specs.ProperPrefixes.{StopsInside};
 ghost use Rattle.pv_streams.specs.Sinks.{Writes, WritesOr};
 
 use crate::searched::search_reduced;
@@ -59,7 +60,7 @@ fn write_done<W: Sink>(out: &mut W, searched: &Searched) -> Result<(), Failed>
 ///
 /// # Errors
 ///
-/// - `Memory`, if there is no memory.
+/// - `Memory`, if there is no memory. The sink received a proper prefix of the lines.
 /// - `Write`, if a write failed. The sink received a prefix of the lines.
 pub(crate) fn write_reduced<W: Sink, P: Progress>(
     alloc: Global,
@@ -71,6 +72,7 @@ pub(crate) fn write_reduced<W: Sink, P: Progress>(
     requires { 1 ≤ states }
     ensures written { WritesOr W.Sink FailsBy (answer_bytes (reduced_lines program_of states first_machine.now)) out.old out.new result }
     ensures complete { IfOk result (λ complete. complete ≡ is_reduced_complete program_of first_machine.now states) }
+    ensures part { StopsInside W.Sink (answer_bytes (reduced_lines program_of states first_machine.now)) out.old out.new result }
 {
     let searched = search_reduced(alloc, first_machine, states, TraceLines, progress, out)?;
     write_done(out, &searched)?;

@@ -3,6 +3,7 @@ ghost use Rattle.std.specs.Prelude.{◌≡◌, ◌≤◌, IfOk};
 ghost use Rattle.pv_model.specs.Machine.{answer_bytes, answer_line_bytes};
 ghost use Rattle.pv_reduced.specs.Kinds.{IsSearchedBy, count_line, explore_lines_by, is_complete_by, observed_by, states_by};
 ghost use Rattle.pv_explore.specs.OfSession.Running.{FailsBy};
+ghost use Rattle.pv_explore.specs.ProperPrefixes.{StopsInside};
 ghost use Rattle.pv_streams.specs.Sinks.{Writes, WritesOr};
 
 use crate::explore::{write_classes, write_reduced};
@@ -101,7 +102,7 @@ impl SearchKind {
     ///
     /// # Errors
     ///
-    /// - `Memory`, if there is no memory.
+    /// - `Memory`, if there is no memory. The sink received a proper prefix of the lines.
     /// - `Write`, if a write failed. The sink received a prefix of the lines.
     pub fn write_explore<W: Sink, P: Progress>(
         self,
@@ -114,6 +115,7 @@ impl SearchKind {
         requires { 1 ≤ states }
         ensures written { WritesOr W.Sink FailsBy (answer_bytes (explore_lines_by self states first_machine.now)) out.old out.new result }
         ensures complete { IfOk result (λ complete. complete ≡ is_complete_by self states first_machine.now) }
+        ensures part { StopsInside W.Sink (answer_bytes (explore_lines_by self states first_machine.now)) out.old out.new result }
     {
         match self {
             SearchKind::Full => write_explore(alloc, first_machine, states, progress, out),

@@ -1,9 +1,7 @@
 //! Runs of bundles.
-ghost use Rattle.std.specs.Prelude.{◌≡◌, ◌≤◌, length, Some, Ok, Err, IfOk, IfErr, IfSome};
+ghost use Rattle.std.specs.Prelude.{◌≡◌, ◌≤◌, length, Some, Ok, IfOk, IfErr};
 ghost use Rattle.pv_model.specs.Machine.{program_of, bundle_started, boot};
-ghost use Rattle.pv_run.specs.Machines.{IsBundleMachineError, RefusesMachine};
 ghost use Rattle.pv_run.specs.Run.{IsStartError, RefusesStart, RunsBundle, RunsGiven, started_from};
-ghost use Rattle.pv_streams.specs.Sources.{FailsToGive};
 
 use crate::turns::{Ready, Summary, make_turns, start_on};
 use pv_image_manifest::{Bundle, build};
@@ -11,8 +9,16 @@ use pv_model::RunFault;
 use pv_streams::{SOURCE_BYTES, Sink, Source, read_whole};
 use std::alloc::Global;
 
-// Returns the start of a bundle's run.
-fn start_bundle(alloc: Global, bytes: &[u8]) -> Result<Ready, RunFault>
+/// Returns the start of a bundle's run: the machine and the schedule.
+///
+/// The manifest, its entries, the schedule and the program of `init` are checked in this order.
+///
+/// # Errors
+///
+/// - `Manifest`, `Schedule`, `Init`: the first error, in the order of the checks. Each names the first line with such an
+///   error.
+/// - `Memory`: there is no memory.
+pub fn start_bundle(alloc: Global, bytes: &[u8]) -> Result<Ready, RunFault>
     requires { length bytes.now ≤ SOURCE_BYTES }
     ensures asked { IfOk result (λ r. bundle_started bytes.now ≡ Ok (started_from r.session r.schedule)) }
     ensures machine { IfOk result (λ r. boot program_of r.session.tree ≡ Some r.session) }
@@ -22,29 +28,6 @@ fn start_bundle(alloc: Global, bytes: &[u8]) -> Result<Ready, RunFault>
     let bundle = Bundle::parse(alloc, bytes)?;
     let store = build(alloc, &bundle.manifest)?;
     start_on(alloc, store, &bytes[bundle.schedule_at..])
-}
-
-/// Returns the start of a bundle's run: the machine and the schedule.
-///
-/// The bundle is read to its end. Then its manifest, the entries of the manifest, the schedule and the program of
-/// `init` are checked in this order.
-///
-/// # Errors
-///
-/// - `Read`: a read failed, or the source gave more than 67,108,864 bytes.
-/// - `Manifest`, `Schedule`, `Init`: the first error of the bundle, in the order of the checks. Each names the first
-///   line with such an error.
-/// - `Memory`: there is no memory.
-pub fn ready_on_bundle<S: Source>(alloc: Global, bundle: &mut S) -> Result<Ready, RunFault>
-    ensures asked { IfOk result (λ r. IfSome (S.remaining bundle.old) (λ bytes. bundle_started bytes ≡ Ok (started_from r.session r.schedule))) }
-    ensures refused { IfErr result (λ fault. IfSome (S.remaining bundle.old) (λ bytes. RefusesMachine fault (bundle_started bytes))) }
-    ensures kind { IfErr result IsBundleMachineError }
-
-    // Each failed read is counted.
-    ensures read { result ≡ Err RunFault.Read → FailsToGive S.Source bundle.old bundle.new }
-{
-    let bytes = read_whole(alloc, bundle)?;
-    start_bundle(alloc, &bytes)
 }
 
 // Runs the bundle in `bytes`.

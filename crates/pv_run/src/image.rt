@@ -1,10 +1,8 @@
 //! Runs on images.
-ghost use Rattle.std.specs.Prelude.{◌≡◌, ◌⊎◌, ◌≤◌, length, Some, Ok, Err, IfOk, IfErr, IfSome, OnOk};
+ghost use Rattle.std.specs.Prelude.{◌≡◌, ◌⊎◌, ◌≤◌, length, Some, Ok, Err, IfOk, IfErr, OnOk};
 ghost use Rattle.pv_model.specs.Machine.{program_of, mounted, image_started, boot, Rose};
 ghost use Rattle.pv_run.specs.Images.{BeginsNamedImage, IsImageError, IsWriteError, RunsGivenImage, RunsImage, WrittenImage};
-ghost use Rattle.pv_run.specs.Machines.{IsMachineError, RefusesMachine};
 ghost use Rattle.pv_run.specs.Run.{RefusesStart, started_from};
-ghost use Rattle.pv_streams.specs.Sources.{FailsToGive};
 
 use crate::turns::{Ready, Summary, make_turns, start_on};
 use pv_image_mount::mount;
@@ -72,40 +70,12 @@ pub fn write_image<O: Sink>(alloc: Global, tree: &Tree, image: &mut O) -> Result
     }
 }
 
-/// Returns the start of a run on an image: the machine and the schedule.
-///
-/// The image and the schedule are read to their ends. Then the image, the schedule and the program of `init` are
-/// checked in this order. `listed` says whether all directories of the image will be listed, so that it pays to sort
-/// their entries.
+/// Runs a schedule on an image, given the bytes of both, as `run` does.
 ///
 /// # Errors
 ///
-/// - `Read`: a read failed, or a source gave more than 67,108,864 bytes.
-/// - `Image`, `Schedule`, `Init`: the first error, in the order of the checks. Each names the first inode or the first
-///   line with such an error.
-/// - `Memory`: there is no memory.
-pub fn ready_on_image<I: Source, S: Source>(
-    alloc: Global,
-    image: &mut I,
-    schedule: &mut S,
-    listed: bool,
-) -> Result<Ready, RunFault>
-    ensures asked { IfOk result (λ r. IfSome (I.remaining image.old) (λ bytes. IfSome (S.remaining schedule.old) (λ turns.
-        image_started bytes turns ≡ Ok (started_from r.session r.schedule)))) }
-    ensures refused { IfErr result (λ fault. IfSome (I.remaining image.old) (λ bytes. IfSome (S.remaining schedule.old) (λ turns.
-        RefusesMachine fault (image_started bytes turns)))) }
-    ensures kind { IfErr result IsMachineError }
-
-    // Each failed read is counted.
-    ensures read { result ≡ Err RunFault.Read → FailsToGive I.Source image.old image.new ⊎ FailsToGive S.Source schedule.old schedule.new }
-{
-    let image = read_whole(alloc, image)?;
-    let schedule = read_whole(alloc, schedule)?;
-    start_image(alloc, image, &schedule, listed)
-}
-
-// Runs the bytes of an image and of a schedule, and writes an image of the resulting tree.
-fn run_image<W: Sink, O: Sink>(
+/// As for `run`, without `Read`.
+pub fn run_image<W: Sink, O: Sink>(
     alloc: Global,
     bytes: Vec<u8>,
     schedule: &[u8],

@@ -2,14 +2,12 @@
 use Rattle.std.specs.Prelude.{◌≡◌, ℕ, List, ◌++◌, map, flat_map, codes, Option, Ok, Err}
 use Rattle.std.specs.Fmt.{decimal}
 use Rattle.std.specs.List.{AllByRecursion}
-use Rattle.pv_model.specs.declared.run_fault.RunFault.{RunFault}
-use Rattle.pv_model.specs.declared.run_fault.RunFault.TheVariants.{Memory as MemoryFault}
 use Rattle.pv_model.specs.Machine.{Bytes, read_source}
 use Rattle.pv_source.specs.declared.faults.Fault.{Fault}
 use Rattle.pv_source.specs.declared.source.Output.{Output}
 use Rattle.pv_source.specs.declared.source.Output.TheVariants.{Translation, ProgramLines}
 use Rattle.pv_source.specs.declared.source.SourceStop.{SourceStop}
-use Rattle.pv_source.specs.declared.source.SourceStop.TheVariants.{Read, Memory}
+use Rattle.pv_source.specs.declared.source.SourceStop.TheVariants.{Memory}
 use Rattle.pv_source.specs.Located.{located_lines}
 use Rattle.pv_source.specs.Saying.{IsPrintable}
 use Rattle.pv_streams.specs.Sinks.{and_all, WritesPrefix}
@@ -52,11 +50,5 @@ BeginsErrors name source before after =
 
 -- an error that occurs before anything is written
 abbrev pub IsBeforeOutput : SourceStop → Type 0
-IsBeforeOutput Read = Unit {0}
 IsBeforeOutput Memory = Unit {0}
 IsBeforeOutput _ = ⊥
-
--- the error of reading a source
-abbrev pub source_stop_of : RunFault → SourceStop
-source_stop_of MemoryFault = Memory
-source_stop_of _ = Read

@@ -1,7 +1,7 @@
-//! Reading a source to its end and writing its translation, or the lines of its programs.
+//! Writing the translation of a source, or the lines of its programs.
 ghost use Rattle.std.specs.Prelude.{◌≡◌, ◌+◌, ◌<◌, ◌≤◌, ◌^◌, length, map, IfOk, OnOk};
-ghost use Rattle.pv_source.specs.Given.{WritesGiven, WritesOutput, WritesValidSource, output_of_source};
-ghost use Rattle.pv_source.specs.Outcome.{AreLines, message_line, message_lines, line_and_message, source_stop_of};
+ghost use Rattle.pv_source.specs.Given.{WritesOutput, WritesValidSource, output_of_source};
+ghost use Rattle.pv_source.specs.Outcome.{AreLines, message_line, message_lines, line_and_message};
 ghost use Rattle.pv_source.specs.Saying.{IsPrintable};
 ghost use Rattle.pv_source.specs.declared.source.SourceStop.TheVariants.{Memory as MemoryStop, Write as WriteStop};
 ghost use Rattle.pv_source.specs.Appending.{AppendsText};
@@ -12,8 +12,8 @@ use crate::texts::text_of;
 use crate::warnings::warnings_of;
 use crate::whole::faults_of;
 use itoa::Buffer;
-use pv_model::{Failed, ManifestFault, RunFault};
-use pv_streams::{SOURCE_BYTES, Sink, Source, read_whole, write_through};
+use pv_model::{Failed, ManifestFault};
+use pv_streams::{SOURCE_BYTES, Sink, write_through};
 use std::alloc::{AllocError, Global};
 
 /// The output for a source without errors.
@@ -29,25 +29,12 @@ pub enum Output {
 /// Why the output for a source was not written.
 #[derive(Clone, Copy, Debug)]
 pub enum SourceStop {
-    /// The source cannot be read, or has more than 67,108,864 bytes.
-    Read,
     /// Memory cannot be allocated.
     Memory,
     /// Lines have errors, which were reported.
     Refused,
     /// A write of the output or of the errors failed.
     Write,
-}
-
-impl From<RunFault> for SourceStop {
-    ghost from_gives = { λ fault stop. stop ≡ source_stop_of fault };
-
-    fn from(fault: RunFault) -> SourceStop {
-        match fault {
-            RunFault::Memory => SourceStop::Memory,
-            _ => SourceStop::Read,
-        }
-    }
 }
 
 impl From<AllocError> for SourceStop {
@@ -139,8 +126,19 @@ fn write_right<W: Sink, E: Sink>(
     Ok(())
 }
 
-// Writes the output for a source, or reports the lines with errors.
-fn write_bytes<W: Sink, E: Sink>(
+/// Writes the output for a source to `out`: the manifest or bundle that it translates to, or the lines of its programs.
+/// Then the first twenty lines with a pledge(2) that names a promise which does not exist, or with an unveil(2) with a
+/// byte that is not a permission, are reported in order on `reported`, each in a line `pvsim: NAME:LINE: WHAT`. If
+/// lines have errors, nothing is written to `out`, and the first twenty of them are reported instead. Each sink that
+/// was written to is flushed.
+///
+/// # Errors
+///
+/// - `Refused`: lines have errors, which were reported.
+/// - `Memory`: memory cannot be allocated. Nothing was written.
+/// - `Write`: a write of the output, of the errors or of the warnings failed. The sink has received a prefix of it,
+///   and nothing was written to the other sink, except that warnings follow the whole output.
+pub fn write_source<W: Sink, E: Sink>(
     alloc: Global,
     output: Output,
     name: &[u8],
@@ -149,7 +147,7 @@ fn write_bytes<W: Sink, E: Sink>(
     reported: &mut E,
 ) -> Result<(), SourceStop>
     requires { length source.now ≤ SOURCE_BYTES }
-    ensures { WritesGiven W.Sink E.Sink (λ holds. holds source.now) ⊥ output name.now out.old out.new reported.old reported.new result }
+    ensures { WritesOutput W.Sink E.Sink output name.now source.now out.old out.new reported.old reported.new result }
 {
     let faults = faults_of(alloc, source)?;
     if faults.is_empty() {
@@ -158,33 +156,4 @@ fn write_bytes<W: Sink, E: Sink>(
     let text = faults_text(alloc, name, faults.reported())?;
     write_through(reported, &text)?;
     Err(SourceStop::Refused)
-}
-
-/// Reads a source to its end, and writes its output to `out`: the manifest or bundle that it translates to, or the
-/// lines of its programs. Then the first twenty lines with a pledge(2) that names a promise which does not exist, or
-/// with an unveil(2) with a byte that is not a permission, are reported in order on `reported`, each in a line `pvsim:
-/// NAME:LINE: WHAT`. If lines have errors, nothing is written to `out`, and the first twenty of them are reported
-/// instead. Each sink that was written to is flushed.
-///
-/// # Errors
-///
-/// - `Read`: a read failed, or the source has more than 67,108,864 bytes.
-/// - `Refused`: lines have errors, which were reported.
-/// - `Memory`: memory cannot be allocated.
-/// - `Write`: a write of the output, of the errors or of the warnings failed. The sink has received a prefix of it,
-///   and nothing was written to the other sink, except that warnings follow the whole output.
-///
-/// If the error is `Read` or `Memory`, nothing was written.
-pub fn write_source<S: Source, W: Sink, E: Sink>(
-    alloc: Global,
-    output: Output,
-    name: &[u8],
-    source: &mut S,
-    out: &mut W,
-    reported: &mut E,
-) -> Result<(), SourceStop>
-    ensures { WritesOutput S.Source W.Sink E.Sink output name.now source.old source.new out.old out.new reported.old reported.new result }
-{
-    let bytes = read_whole(alloc, source)?;
-    write_bytes(alloc, output, name, &bytes, out, reported)
 }

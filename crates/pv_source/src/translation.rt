@@ -1,12 +1,12 @@
-//! Reading a source to its end and translating it in memory.
+//! Translating a source in memory.
 ghost use Rattle.std.specs.Prelude.{◌+◌, ◌<◌, ◌≤◌, ◌^◌, length};
-ghost use Rattle.pv_source.specs.Given.{TranslatesGiven, TranslatesValidSource, TranslatesSource};
+ghost use Rattle.pv_source.specs.Given.{TranslatesValidSource, TranslatesSource};
 
 use crate::source::{SourceStop, faults_text};
 use crate::texts::text_of;
 use crate::warnings::warnings_of;
 use crate::whole::faults_of;
-use pv_streams::{SOURCE_BYTES, Sink, Source, read_whole, write_through};
+use pv_streams::{SOURCE_BYTES, Sink, write_through};
 use std::alloc::Global;
 
 // Returns the translation of a source without errors, and reports its warnings.
@@ -29,15 +29,24 @@ fn translated_right<E: Sink>(
     Ok(text)
 }
 
-// Returns the translation of a source, or reports the lines with errors.
-fn translated<E: Sink>(
+/// Returns the manifest or bundle that a source translates to. The first twenty lines with a pledge(2) that names a
+/// promise which does not exist, or with an unveil(2) with a byte that is not a permission, are reported in order on
+/// `reported`, each in a line `pvsim: NAME:LINE: WHAT`. If lines have errors, the first twenty of them are reported
+/// instead. A sink that was written to is flushed.
+///
+/// # Errors
+///
+/// - `Refused`: lines have errors, which were reported.
+/// - `Memory`: memory cannot be allocated. Nothing was written.
+/// - `Write`: a write of the errors or of the warnings failed. The sink has received a prefix of them.
+pub fn translate<E: Sink>(
     alloc: Global,
     name: &[u8],
     source: &[u8],
     reported: &mut E,
 ) -> Result<Vec<u8>, SourceStop>
     requires { length source.now ≤ SOURCE_BYTES }
-    ensures { TranslatesGiven E.Sink (λ holds. holds source.now) ⊥ name.now reported.old reported.new result }
+    ensures { TranslatesSource E.Sink name.now source.now reported.old reported.new result }
 {
     let faults = faults_of(alloc, source)?;
     if faults.is_empty() {
@@ -46,29 +55,4 @@ fn translated<E: Sink>(
     let text = faults_text(alloc, name, faults.reported())?;
     write_through(reported, &text)?;
     Err(SourceStop::Refused)
-}
-
-/// Reads a source to its end, and returns the manifest or bundle that it translates to. The first twenty lines with a
-/// pledge(2) that names a promise which does not exist, or with an unveil(2) with a byte that is not a permission, are
-/// reported in order on `reported`, each in a line `pvsim: NAME:LINE: WHAT`. If lines have errors, the first twenty of them are reported instead. A sink that was written
-/// to is flushed.
-///
-/// # Errors
-///
-/// - `Read`: a read failed, or the source has more than 67,108,864 bytes.
-/// - `Refused`: lines have errors, which were reported.
-/// - `Memory`: memory cannot be allocated.
-/// - `Write`: a write of the errors or of the warnings failed. The sink has received a prefix of them.
-///
-/// If the error is `Read` or `Memory`, nothing was written.
-pub fn translate<S: Source, E: Sink>(
-    alloc: Global,
-    name: &[u8],
-    source: &mut S,
-    reported: &mut E,
-) -> Result<Vec<u8>, SourceStop>
-    ensures { TranslatesSource S.Source E.Sink name.now source.old source.new reported.old reported.new result }
-{
-    let bytes = read_whole(alloc, source)?;
-    translated(alloc, name, &bytes, reported)
 }

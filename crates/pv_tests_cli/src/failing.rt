@@ -1,23 +1,16 @@
 //! Operations with sources that fail after each number of bytes or never end, and with sinks of limited room.
 use crate::images::{MOTD, MOTD_LISTING, MOTD_TRACE, made};
-use crate::streams::{
-    Cut, Endless, expect_count, expect_cut, expect_front, front_of, sink_of, slow_front_of,
-};
-use pv_cli_host::run::{AuditStop, MigrateStop, audit_image, list, make_image, migrate_image, run};
+use crate::streams::{Cut, Endless, expect_cut, expect_front, front_of, sink_of, slow_front_of};
+use pv_cli_host::cli_commands::questions::{Format, Input, Inputs, Question, Turns, answer};
+use pv_cli_host::cli_commands::{Failure, Target, Unshown};
+use pv_cli_host::run::{list, make_image, run};
 use pv_model::{ListFault, RunFault};
-use pv_streams::{Bytes, Gathered, Sink};
+use pv_streams::{Bytes, Gathered, SOURCE_BYTES, Sink};
+use std::alloc::AllocError;
 use std::process::Abort;
+use std::test::Fail;
 
 const SCHEDULE: &[u8] = b"1 5\n";
-
-// Checks that a truncated manifest makes no image.
-fn expect_no_image(rt: &(impl Abort + AllocGlobal), mut manifest: Cut<'_>) {
-    let mut out = Gathered::new(rt.alloc());
-    let answer = make_image(rt.alloc(), &mut manifest, &mut out);
-    assert_eq!(rt; answer.err(), Some(RunFault::Read));
-    expect_cut(rt, &manifest);
-    assert!(rt; out.bytes.is_empty());
-}
 
 // Checks that a run writes nothing if a source fails.
 fn expect_no_run(rt: &(impl Abort + AllocGlobal), mut image: Cut<'_>, mut schedule: Cut<'_>) {
@@ -37,38 +30,12 @@ fn expect_no_listing(rt: &(impl Abort + AllocGlobal), mut image: Cut<'_>) {
     assert!(rt; out.bytes.is_empty());
 }
 
-// Checks that a truncated image is not migrated.
-fn expect_no_migration(rt: &(impl Abort + AllocGlobal), mut image: Cut<'_>) {
-    let mut out = Gathered::new(rt.alloc());
-    let new = migrate_image(rt.alloc(), &mut image, 16, 16, &mut out);
-    assert_eq!(rt; new.err(), Some(MigrateStop::Read));
-    expect_cut(rt, &image);
-    assert!(rt; out.bytes.is_empty());
-}
-
-// Checks that an audit writes nothing if a source fails.
-fn expect_no_audit(rt: &(impl Abort + AllocGlobal), mut image: Cut<'_>, mut schedule: Cut<'_>) {
-    let mut out = Gathered::new(rt.alloc());
-    let written = audit_image(rt.alloc(), &mut image, &mut schedule, None, &mut out);
-    assert_eq!(rt; written.err(), Some(AuditStop::Machine(RunFault::Read)));
-    assert!(rt; out.bytes.is_empty());
-}
-
-#[test]
-fn manifests_that_break_off_make_nothing(rt: HostRuntime) {
-    for end in 0..MOTD.len() + 1 {
-        expect_no_image(&rt, front_of(MOTD, end));
-        expect_no_image(&rt, slow_front_of(MOTD, end));
-    }
-}
-
 #[test]
 fn images_that_break_off_give_nothing(rt: HostRuntime) {
     let whole = made(&rt, MOTD);
     for block in 0..17 {
         let end = 512 * block;
         expect_no_listing(&rt, front_of(&whole.bytes, end));
-        expect_no_migration(&rt, front_of(&whole.bytes, end));
         let turns = front_of(SCHEDULE, SCHEDULE.len());
         expect_no_run(&rt, front_of(&whole.bytes, end), turns);
     }
@@ -81,8 +48,6 @@ fn schedules_that_break_off_give_nothing(rt: HostRuntime) {
     for end in 0..SCHEDULE.len() + 1 {
         let image = front_of(&whole.bytes, length);
         expect_no_run(&rt, image, front_of(SCHEDULE, end));
-        let image = front_of(&whole.bytes, length);
-        expect_no_audit(&rt, image, front_of(SCHEDULE, end));
     }
 }
 
@@ -91,8 +56,6 @@ fn sources_without_end_are_refused(rt: HostRuntime) {
     let mut out = Gathered::new(rt.alloc());
     let listed = list(rt.alloc(), &mut Endless { given: 0 }, &mut out);
     assert_eq!(rt; listed.err(), Some(ListFault::Read));
-    let answer = make_image(rt.alloc(), &mut Endless { given: 0 }, &mut out);
-    assert_eq!(rt; answer.err(), Some(RunFault::Read));
     assert!(rt; out.bytes.is_empty());
 }
 
@@ -114,23 +77,50 @@ fn sinks_have_a_prefix_of_what_is_written(rt: HostRuntime) {
 
 const EXPOSED: &[u8] = b"exposed: process 1, reads descriptor 0\n";
 
+// Returns a copy of bytes.
+fn copied(rt: &impl AllocGlobal, bytes: &[u8]) -> Result<Vec<u8>, AllocError> {
+    let mut copy = Vec::new(rt.alloc());
+    copy.extend_from_slice(bytes)?;
+    Ok(copy)
+}
+
 // Checks that a sink with this room receives a prefix of the audit.
-fn expect_audit_front(rt: &(impl Abort + AllocGlobal), image: &[u8], room: usize) {
+fn expect_audit_front(
+    rt: &(impl Abort + AllocGlobal),
+    image: &[u8],
+    room: usize,
+) -> Result<(), Fail> {
     let mut out = sink_of(rt, room);
-    let mut image = Bytes::new(image);
-    let mut turns = Bytes::new(b"1 2\n");
-    let path = Some(b"/etc/motd".as_slice());
-    let written = audit_image(rt.alloc(), &mut image, &mut turns, path, &mut out);
-    assert_eq!(rt; written.err(), Some(AuditStop::Write));
+    let bytes = copied(rt, image)?;
+    assert!(rt; bytes.len() <= SOURCE_BYTES);
+    let format = Format::Image;
+    let inputs = Inputs {
+        input: Input { format, bytes },
+        turns: Turns::Text(copied(rt, b"1 2\n")?),
+        steps: None,
+    };
+    let question = Question::Audit(Some("/etc/motd"));
+    let mut notes = Vec::new(rt.alloc());
+    let written = answer(
+        rt.alloc(),
+        question,
+        inputs,
+        &mut notes,
+        &mut Unshown,
+        &mut out,
+    );
+    assert_eq!(rt; written.err(), Some(Failure::Write(Target::Output)));
     expect_front(rt, &out, EXPOSED, room);
+    Ok(())
 }
 
 #[test]
-fn sinks_have_a_prefix_of_what_is_audited(rt: HostRuntime) {
+fn sinks_have_a_prefix_of_what_is_audited(rt: HostRuntime) -> Result<(), Fail> {
     let whole = made(&rt, MOTD);
     for room in 0..EXPOSED.len() {
-        expect_audit_front(&rt, &whole.bytes, room);
+        expect_audit_front(&rt, &whole.bytes, room)?;
     }
+    Ok(())
 }
 
 // Checks that a run on an image with these sinks ends with this error.
@@ -185,7 +175,7 @@ fn images_are_written_up_to_the_failure(rt: HostRuntime) {
 // Checks that a sink with this room receives a prefix of the image of a manifest.
 fn expect_image_front(rt: &(impl Abort + AllocGlobal), image: &[u8], room: usize) {
     let mut out = sink_of(rt, room);
-    let answer = make_image(rt.alloc(), &mut Bytes::new(MOTD), &mut out);
+    let answer = make_image(rt.alloc(), MOTD, &mut out);
     assert_eq!(rt; answer.err(), Some(RunFault::WriteImage));
     expect_front(rt, &out, image, room);
 }
@@ -195,21 +185,5 @@ fn new_images_are_written_up_to_the_failure(rt: HostRuntime) {
     let whole = made(&rt, MOTD);
     for block in 0..16 {
         expect_image_front(&rt, &whole.bytes, 512 * block);
-    }
-}
-
-// Checks that a sink with this room receives this many bytes of a migrated image.
-fn expect_migrated_front(rt: &(impl Abort + AllocGlobal), image: &[u8], room: usize) {
-    let mut out = sink_of(rt, room);
-    let new = migrate_image(rt.alloc(), &mut Bytes::new(image), 16, 16, &mut out);
-    assert_eq!(rt; new.err(), Some(MigrateStop::Write));
-    expect_count(rt, &out, room);
-}
-
-#[test]
-fn migrated_images_are_written_up_to_the_failure(rt: HostRuntime) {
-    let whole = made(&rt, MOTD);
-    for block in 0..16 {
-        expect_migrated_front(&rt, &whole.bytes, 512 * block);
     }
 }

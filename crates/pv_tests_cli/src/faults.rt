@@ -1,23 +1,39 @@
-//! Errors that no command returns, because each reports out of memory as its own.
-use pv_cli_host::cli_commands::Fault;
-use pv_cli_host::run::MigrateStop;
-use pv_model::{ImageFault, ListFault, ManifestFault, MigrateFault, RunFault};
+//! Messages and statuses of failures.
+use pv_cli_host::cli_commands::{Failure, Origin, Refusal, Target};
+use pv_model::{ImageFault, ManifestFault, RunFault};
 use std::test::Fail;
-
-const OF_MEMORY: &[Fault] = &[
-    Fault::Run(RunFault::Image(ImageFault::Memory)),
-    Fault::Run(RunFault::Manifest(ManifestFault::Memory)),
-    Fault::Listing(ListFault::Image(ImageFault::Memory)),
-    Fault::Migrating(MigrateStop::Refused(MigrateFault::Memory)),
-    Fault::Migrating(MigrateStop::Refused(MigrateFault::Image(ImageFault::Memory))),
-];
 
 #[test]
 fn out_of_memory_has_one_text(rt: HostRuntime) -> Result<(), Fail> {
-    for fault in OF_MEMORY {
-        let text = format!(in rt.alloc(); "{fault}")?;
+    let nested = [
+        Failure::from(RunFault::Image(ImageFault::Memory)),
+        Failure::from(RunFault::Manifest(ManifestFault::Memory)),
+        Failure::from(RunFault::Memory),
+    ];
+    for failure in nested.as_slice() {
+        let text = format!(in rt.alloc(); "{failure}")?;
         assert!(rt; text.as_str() == "pvsim: memory\n");
-        assert!(rt; fault.status() == 3);
+        assert!(rt; failure.status() == 3);
     }
+    Ok(())
+}
+
+// Failures that are reported where they occur.
+const REPORTED: &[Failure] = &[
+    Failure::Refused(Refusal::Lines),
+    Failure::Refused(Refusal::Entries),
+    Failure::Write(Target::Node),
+    Failure::Incomplete,
+    Failure::Different,
+];
+
+#[test]
+fn a_reported_failure_has_no_message(rt: HostRuntime) -> Result<(), Fail> {
+    for failure in REPORTED {
+        let text = format!(in rt.alloc(); "{failure}")?;
+        assert!(rt; text.as_str().is_empty());
+        assert!(rt; failure.is_reported());
+    }
+    assert!(rt; !Failure::Read(Origin::File).is_reported());
     Ok(())
 }

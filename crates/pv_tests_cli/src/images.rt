@@ -1,6 +1,6 @@
 //! The first example: its manifest, its image, its listing and its trace.
 use pv_cli_host::run::make_image;
-use pv_streams::{Bytes, Gathered};
+use pv_streams::{Gathered, SOURCE_BYTES};
 use std::process::Abort;
 
 pub(crate) const MOTD: &[u8] =
@@ -15,7 +15,8 @@ pub(crate) const MOTD_TRACE: &[u8] =
 // Returns the image of a manifest.
 pub(crate) fn made(rt: &(impl Abort + AllocGlobal), manifest: &[u8]) -> Gathered {
     let mut image = Gathered::new(rt.alloc());
-    let answer = make_image(rt.alloc(), &mut Bytes::new(manifest), &mut image);
+    assert!(rt; manifest.len() <= SOURCE_BYTES);
+    let answer = make_image(rt.alloc(), manifest, &mut image);
     assert!(rt; answer.is_ok());
     image
 }

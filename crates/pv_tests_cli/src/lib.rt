@@ -1,7 +1,7 @@
 //! Tests of the commands and the program that cannot be written as cases for `pvsim`: streams that fail, and error
 //! messages that it never writes.
 //!
-//! All modules are tests. `bundles` and `failing` make, migrate, list, audit and run with sources and sinks that fail
+//! All modules are tests. `bundles` and `failing` make, list, audit and run with sources and sinks that fail
 //! (`streams`); `images` has their example. `faults` tests messages, `output` runs the whole program over an output
 //! that takes nothing, and `host` tests the streams of the operating system. The directory `cases/` tests whole runs of
 //! the program.

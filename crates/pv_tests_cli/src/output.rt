@@ -45,11 +45,17 @@ impl Files for NoFiles {
 
     ghost file_of = { λ _. [] };
 
+    ghost created = { λ _. [] };
+
+    ghost entries = { λ _ _. None };
+
+    ghost targets = { λ _. [] };
+
     fn open(&self, _name: &str) -> Result<Bytes<'static>, Failed> {
         Err(Failed)
     }
 
-    fn create(&self, _alloc: Global, _name: &str) -> Result<Broken, AllocError> {
+    fn create(&mut self, _alloc: Global, _name: &str) -> Result<Broken, AllocError> {
         Err(AllocError)
     }
 
@@ -134,15 +140,13 @@ impl Directories for NoFiles {
 
     type Target = NoTarget;
 
-    ghost entries = { λ _ _. None };
-
     ghost target_of = { λ _. [] };
 
     fn open_directory(&self, _alloc: Global, _name: &str) -> Result<Empty, HostFault> {
         Err(HostFault::Read)
     }
 
-    fn create_directory(&self, _alloc: Global, _name: &str) -> Result<NoTarget, TargetFault> {
+    fn create_directory(&mut self, _alloc: Global, _name: &str) -> Result<NoTarget, TargetFault> {
         Err(TargetFault::Make)
     }
 }

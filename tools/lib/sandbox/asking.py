@@ -156,7 +156,7 @@ class Ask:
         self.count += 1
         for one, other in ([equal_lengths(first, second)] if is_equal else []) + [(first, second)]:
             paths = self.file("first", one), self.file("second", other)
-            status, out, err = self.run(["compare", *self.options, "-b", *paths], is_search=True)
+            status, out, err = self.run(["compare", *self.options, *paths], is_search=True)
             if status in (SAME, INCOMPLETE, DIFFERENT):
                 return Witness(status, out)
         raise self.failed("compare", status, err)
@@ -165,5 +165,5 @@ class Ask:
         """Returns the status and the lines of a question about a bundle."""
         is_search = command in ("explore", "policy", "access")
         path = self.file("asked", bundle)
-        status, out = self.answer([command, *words, *(self.options if is_search else []), "-b", path], (SAME, INCOMPLETE), is_search=is_search)
+        status, out = self.answer([command, *words, *(self.options if is_search else []), path], (SAME, INCOMPLETE), is_search=is_search)
         return status, out.decode("latin-1").split("\n")[:-1]

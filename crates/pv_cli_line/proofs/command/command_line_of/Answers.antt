@@ -1,5 +1,5 @@
 use Rattle.std.proofs.Common.{sym, arith}
-use Rattle.pv_cli_line.proofs.LineMatches.{refused_line, verbose-wordless, verbose-words}
+use Rattle.pv_cli_line.proofs.LineResults.{refused_line, verbose-wordless, verbose-words}
 use Rattle.pv_cli_line.proofs.command.command_line_of.Goals as goal
 
 pub returns-then-words-le1-clause-verbose : goal.returns-then-words-le1-clause-verbose

@@ -4,7 +4,7 @@ use Rattle.pv_explore.proofs.OfAnswers.WriterContracts.{or_as}
 use Rattle.pv_compare.specs.Answering.{compared_by, result_text}
 use Rattle.pv_compare.specs.declared.compare.Compared.{Compared}
 use Rattle.pv_compare.proofs.ComparisonText.{compared-is, result-is, search-is}
-use Rattle.pv_explore.proofs.StoppedAnswers.{unwritten}
+use Rattle.pv_explore.proofs.StoppedAnswers.{never_memory, unwritten}
 use Rattle.pv_compare.proofs.compare.write_compare.Goals as goal
 
 pub search_all-requires : goal.search_all-requires
@@ -32,3 +32,6 @@ returns-clause-compared g c =
     let it = search-is c.args.pairs c.in_ok-visited.visited new c.args.first.now c.args.second.now found c.requires c.in_ok-visited.ensures.pairs c.in_ok-found.ensures.compared in
     subst (λ (x : Compared). IfOk c.write_result.result (λ compared. compared ≡ x)) (ap (compared_by new.complete) c.as_ref.ensures.value ∙ compared-is c.args.pairs _ new found new.complete it refl)
     c.write_result.ensures.compared
+
+pub returns-clause-nothing : goal.returns-clause-nothing
+returns-clause-nothing g c = λ is. absurd (never_memory c.write_result.result c.write_result.ensures.error is)

@@ -1,7 +1,7 @@
 use Rattle.std.proofs.Common.{◌∙◌}
 use Rattle.std.proofs.lemmas.Result.{err_from_is_err_and}
 use Rattle.pv_programs.proofs.OfAnswers.WriterContracts.{or_as, or_ok}
-use Rattle.pv_reduced.proofs.OfExplore.StoppedAnswers.{unfinished, unwritten}
+use Rattle.pv_reduced.proofs.OfExplore.StoppedAnswers.{not_memory, unfinished, unwritten}
 use Rattle.pv_named_files.specs.FirstPaths.{path_texts}
 use Rattle.pv_exposure.proofs.SearchText.{search-text}
 use Rattle.pv_exposure.proofs.exposure.write_exposure.Goals as goal
@@ -25,3 +25,6 @@ returns-clause-written g c =
     (c.deref.ensures.value ∙ c.in_ok-lines.ensures.text
     ∙ search-text c.args.kind (path_texts c.args.files.now) c.args.states c.args.first_machine.now c.tree.result.now.tree c.in_ok-visits.visits c.tree.ensures c.in_ok-visits.ensures)
     (or_ok c.in_ok-write_whole.ensures)
+
+pub returns-in_err-write_whole-clause-nothing : goal.returns-in_err-write_whole-clause-nothing
+returns-in_err-write_whole-clause-nothing g c = λ is. absurd (not_memory c.from_residual-in_err-write_whole.result c.from_residual-in_err-write_whole.ensures.1 is)

@@ -1,6 +1,9 @@
 use Rattle.pv_state_encoding.proofs.OfAnswers.WriterContracts.{or_as, or_longer, or_ok, writes_as}
 use Rattle.pv_explore.specs.Observing.{trace_text}
-use Rattle.pv_reduced.proofs.ReportedBytes.{explore-bytes, last-bytes}
+use Rattle.pv_reduced.proofs.ReportedBytes.{explore-bytes, last-bytes, last-long, last_lines}
+use Rattle.pv_model.specs.Machine.{answer_bytes}
+use Rattle.pv_explore.proofs.ProperPrefixes.{inside_first}
+use Rattle.pv_explore.proofs.StoppedAnswers.{not_memory}
 use Rattle.pv_explore.proofs.OfStepLines.StoppedWriters.{stopped, then_writes, unwritten}
 use Rattle.pv_reduced.proofs.explore.write_reduced.Goals as goal
 
@@ -24,3 +27,11 @@ returns-clause-written g c =
 
 pub returns-clause-complete : goal.returns-clause-complete
 returns-clause-complete g c = c.in_ok-searched.ensures.found.complete_is
+
+pub returns-in_err-searched-clause-part : goal.returns-in_err-searched-clause-part
+returns-in_err-searched-clause-part g c =
+    let s = c.args.first_machine.now in
+    inside_first (answer_bytes (last_lines c.args.states s)) (explore-bytes c.args.states s) (last-long c.args.states s) c.in_err-searched.ensures.written
+
+pub returns-in_err-write_done-clause-part : goal.returns-in_err-write_done-clause-part
+returns-in_err-write_done-clause-part g c = λ is. absurd (not_memory c.from_residual-in_err-write_done.result c.from_residual-in_err-write_done.ensures.1 is)

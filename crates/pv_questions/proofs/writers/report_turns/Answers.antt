@@ -1,5 +1,0 @@
-use Rattle.pv_questions.proofs.FlushedReports.{reported}
-use Rattle.pv_questions.proofs.writers.report_turns.Goals as goal
-
-pub returns : goal.returns
-returns g c = reported g.W.Sink _ _ _ _ _ _ c.write_turns-end.ensures.written c.flush_buffer.ensures
