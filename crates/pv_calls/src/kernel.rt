@@ -62,7 +62,7 @@ impl Kernel<CachedLookup> {
     }
 
     /// Makes this kernel equal to another one, in an image of the same sizes. Does not allocate. The name cache is empty
-    /// afterwards.
+    /// afterwards, and is no longer used.
     ///
     /// # Errors
     ///
@@ -73,7 +73,7 @@ impl Kernel<CachedLookup> {
         ensures unchanged { OnErr result (self.new ≡ self.old) }
     {
         self.system.parts.copy_from(&other.system.parts)?;
-        self.system.lookup.clear();
+        self.system.lookup.stop();
         self.walks = other.walks;
         Ok(())
     }

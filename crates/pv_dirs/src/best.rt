@@ -11,7 +11,7 @@ use pv_model::Name;
 use std::marker::Model;
 
 /// Returns whether `name` follows `last` in byte order, or there is no `last`.
-fn is_past(last: Option<&[u8]>, name: &[u8]) -> bool
+pub(crate) fn is_past(last: Option<&[u8]>, name: &[u8]) -> bool
     ensures { result ≡ is_past (option_copied last.entry) name.now }
 {
     match last {

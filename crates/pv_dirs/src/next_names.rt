@@ -7,13 +7,23 @@ ghost use Rattle.std.specs.Ordering.{nat_cmp};
 ghost use Rattle.pv_model.specs.Machine.{next_name, greatest_entries};
 ghost use Rattle.pv_model.specs.declared.version.Version.TheVariants.{V2};
 ghost use Rattle.pv_dirs.specs.Dirs.{slots_in, name_in, any_name_in, directory_entries, IsNamedIn, IsPast, IsLedBy};
-ghost use Rattle.pv_dirs.specs.Listing.{better_of, IsNextOf, IsShared};
+ghost use Rattle.pv_dirs.specs.Listing.{better_of, is_before, IsNextOf, IsShared};
 ghost use Rattle.pv_dirs.specs.Slots.{in_order, IsDistinct};
 
-use crate::best::{Best, Mark, has_mark, improve, is_better, mark_of};
-use crate::dir::{Dir, rest_of};
+use crate::best::{Best, Mark, has_mark, improve, is_better, is_past, mark_of};
+use crate::dir::{Dir, name_in_run, rest_of};
 use crate::index::Index;
 use pv_model::Name;
+
+// Returns whether a name precedes the best one, or there is no best one.
+fn is_less(name: &[u8], best: Option<(&[u8], u16)>) -> bool
+    ensures { result ≡ is_before name.now (option_map (λ e. e.0.now) best.entry) }
+{
+    match best {
+        None => true,
+        Some((other, _)) => name < other,
+    }
+}
 
 impl<'a> Dir<'a> {
     // Does the same as `improve` for slot `k`, which may cross a block boundary: it copies a better name.
@@ -60,6 +70,27 @@ impl<'a> Dir<'a> {
             }
         }
         best.into_name()
+    }
+
+    /// Returns the least name that follows `last`, in place, with the number of its node. Returns `None` if no name follows,
+    /// or if a slot crosses a block boundary.
+    pub(crate) fn lent_after(&self, last: Option<&[u8]>) -> Option<(&'a [u8], u16)>
+        requires distinct { IsDistinct (directory_entries self.now) }
+        ensures name { IfSome result (λ e. next_name (option_copied last.entry) (in_order (directory_entries self.now)) ≡ Some e.0.now) }
+        ensures node { IfSome result (λ e. find (slice_cmp nat_cmp) e.0.now (directory_entries self.now) ≡ Some e.1) }
+    {
+        let length = self.inodes.version().layout().slot_length;
+        let mut best: Option<(&[u8], u16)> = None;
+        let mut left: &[u8] = &[];
+        for k in 0..self.count() {
+            let run = self.run_at(k, left);
+            let name = name_in_run(run, length)?;
+            if is_past(last, name) && is_less(name, best) {
+                best = Some((name, self.number_in(k, run)));
+            }
+            left = rest_of(run, length);
+        }
+        best
     }
 
     /// Returns the least name that follows `last` among the slots with the inode number `node`. Few slots have it, so

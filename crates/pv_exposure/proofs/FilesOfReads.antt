@@ -15,7 +15,7 @@ use Rattle.pv_programs.proofs.OfAnswers.InstructionWords.{register-next}
 use Rattle.pv_procs.specs.declared.processes.Fetched.{Fetched}
 use Rattle.pv_procs.specs.declared.processes.Fetched.TheVariants.{Gone, Register}
 use Rattle.pv_procs.specs.Turns.{IsFetched, RegisterNext}
-use Rattle.pv_reduced.specs.OfExplore.declared.visited.VisitedState.{VisitedState}
+use Rattle.pv_reduced.specs.OfEngine.declared.visited.VisitedState.{VisitedState}
 use Rattle.pv_reduced.specs.OfExplore.Visiting.{found_of}
 use Rattle.pv_exposure.specs.Reading.{file_to_read, has_read, may_read}
 

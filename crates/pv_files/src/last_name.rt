@@ -54,6 +54,17 @@ impl LastName {
         if self.given { Some(&self.name) } else { None }
     }
 
+    /// Returns true only if two values are equal.
+    pub(crate) fn is_same(&self, other: &LastName) -> bool
+        ensures { result ≡ true → self.now ≡ other.now }
+    {
+        match (self.get(), other.get()) {
+            (None, None) => true,
+            (Some(name), Some(other)) => name.as_slice() == other.as_slice(),
+            _ => false,
+        }
+    }
+
     /// Makes this value equal to another one.
     pub(crate) fn copy_from(&mut self, other: &LastName)
         ensures { self.new ≡ other.now }

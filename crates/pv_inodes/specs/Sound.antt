@@ -35,6 +35,10 @@ files_of version st inodes = record { version = version; nodes = nodes_in versio
 abbrev pub AllUsed : Files → ℕ → Type 0
 AllUsed f least = (s : ℕ) → s < least → IsUsed f (suc s)
 
+-- no inode from `most` on, numbered from 0, is in use
+abbrev pub NoneUsed : Files → ℕ → Type 0
+NoneUsed f most = (s : ℕ) → most ≤ s → held f (suc s) ≡ None
+
 -- the store after block k is allocated, cleared, and made the i-th block of inode s
 unfoldable pub pushed : Version → BlockStore → ℕ → ℕ → ℕ → BlockStore
 pushed version st s i k = record st { blocks = with_owned version (slice_set st.blocks k zeros) s i k; free = slice_set st.free k false }

@@ -68,14 +68,16 @@ abbrev pub is_numbered : ℕ → ProcessSlot → Bool
 is_numbered last slot = nat_le 1 slot.number && nat_le slot.number last
 
 -- the numbers ascend, from 1 to the last that was assigned; each slot refers to a slot of a program; and the users of a
--- program are the live processes that have it
-pub record AreConsistentSlots (slots : List ProcessSlot) (programs : List Shared) (last_number : ℕ) : Type 0 where
+-- program are the live processes that have it; no program from place `most` on has users
+pub record AreConsistentSlots (slots : List ProcessSlot) (programs : List Shared) (last_number most : ℕ) : Type 0 where
   pub ascending : ascends slots ≡ true
   pub numbers : list_all (is_numbered last_number) slots ≡ true
   pub last : last_number ≤ LAST_PROCESS
   pub table : length programs ≡ PROCESSES
   pub within : list_all (λ (slot : ProcessSlot). nat_lt slot.program PROCESSES) slots ≡ true
   pub users : (k : ℕ) → users_at programs k ≡ count_by (uses k) slots
+  pub few : most ≤ PROCESSES
+  pub idle : (k : ℕ) → most ≤ k → users_at programs k ≡ 0
 
 -- there are 32 slots, and the vectors of used and of spare ones have room for all of them
 pub record IsRoomy (used spare capacity spare_capacity : ℕ) : Type 0 where

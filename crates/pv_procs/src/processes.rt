@@ -9,7 +9,9 @@ ghost use Rattle.pv_model.specs.Machine.{at_next_line, with_front, give, refuse,
 
 use crate::ProcessRecord;
 use crate::ending::settle;
-use crate::shared::{Shared, first_programs, free_program, share_programs, take_up, unreference};
+use crate::shared::{
+    Shared, first_programs, free_program, put_programs, share_programs, take_up, unreference,
+};
 use crate::slot::{
     ProcessSlot, adopter, blank, copy_slots, ended_child_of, has_child, has_ended_child, index_of,
     index_of_live, left_of, live_index, make_child, number_after, spare_slots, use_slots,
@@ -19,7 +21,6 @@ use pv_model::{CallRef, Errno};
 use pv_script::{CallTexts, Program};
 use std::alloc::{AllocError, Global};
 use std::marker::Model;
-use std::mem::swap;
 
 /// The next step of a process.
 #[derive(Clone, Copy)]
@@ -50,6 +51,8 @@ pub struct Processes {
     slots: Vec<ProcessSlot>,
     spare: Vec<ProcessSlot>,
     programs: Vec<Shared>,
+    // No program from this place on has users, so a copy ends here.
+    most: usize,
     // The vector in which `copy_from` prepares programs. It has room for all, and its elements have no meaning.
     prepared: Vec<Shared>,
     last: u32,
@@ -65,7 +68,7 @@ impl Model for Processes {
 
     ghost view = { λ t. process_table_of t.slots.items t.programs.items t.last };
 
-    ghost invariant = { λ t. AreConsistentSlots t.slots.items t.programs.items t.last
+    ghost invariant = { λ t. AreConsistentSlots t.slots.items t.programs.items t.last t.most
         × IsRoomy (length t.slots.items) (length t.spare.items) (vec_capacity t.slots) (vec_capacity t.spare) };
 }
 
@@ -93,6 +96,7 @@ impl Processes {
             slots,
             spare,
             programs,
+            most: 1,
             prepared: Vec::with_capacity(alloc, PROCESSES)?,
             last: 1,
         })
@@ -107,8 +111,9 @@ impl Processes {
         ensures copied { OnOk result (self.new ≡ other.now) }
         ensures unchanged { OnErr result (self.new ≡ self.old) }
     {
-        share_programs(&mut self.prepared, &other.programs)?;
-        swap(&mut self.programs, &mut self.prepared);
+        share_programs(&mut self.prepared, &other.programs[..other.most])?;
+        put_programs(&mut self.programs, &mut self.prepared, self.most);
+        self.most = other.most;
         use_slots(&mut self.slots, &mut self.spare, other.slots.len());
         copy_slots(&mut self.slots, &other.slots);
         self.last = other.last;
@@ -140,6 +145,13 @@ impl Processes {
             Some(k) => Some(self.slots[k].parent),
             None => None,
         }
+    }
+
+    /// Returns the number of processes, including zombies.
+    pub fn count(&self) -> usize
+        ensures { result ≡ length self.now.processes }
+    {
+        self.slots.len()
     }
 
     /// Returns the least number greater than `last` of a process that is live or a zombie, or `None` if there is none.
@@ -268,6 +280,7 @@ impl Processes {
             unreachable!()
         };
         self.programs[free] = Shared { program, users: 1 };
+        self.most = self.most.max(free + 1);
         slot.program = free;
         slot.record.get_mut().after_exec();
     }

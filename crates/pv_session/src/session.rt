@@ -59,10 +59,10 @@ impl From<Failed> for Stop {
 /// A machine on a tree. `step` advances its state.
 #[derive(Drop)]
 pub struct Session {
-    // Boxed, like the line buffer below, so that a session is cheap to move.
+    // Boxed, like the texts and the line buffer below, so that a session is cheap to move.
     kernel: Box<Kernel<CachedLookup>>,
     // The texts of the last call, overwritten by the next.
-    texts: CallTexts,
+    texts: Box<CallTexts>,
     // The buffer in which trace lines are built.
     line_buffer: Box<LineBuffer>,
 }
@@ -116,10 +116,11 @@ impl Session {
             (λ fault. (fault ≡ BootFault.Memory) ⊎ (booted store ≡ Err fault)) }
     {
         let line_buffer = Box::new(alloc, LineBuffer::new())?;
+        let texts = Box::new(alloc, CallTexts::new())?;
         match Kernel::boot(alloc, store) {
             Ok(kernel) => Ok(Session {
                 kernel: Box::new(alloc, kernel)?,
-                texts: CallTexts::new(),
+                texts,
                 line_buffer,
             }),
             Err(fault) => Err(fault),
@@ -174,7 +175,7 @@ impl Session {
     {
         self.invariant();
         let kernel = &mut *self.kernel;
-        match kernel.step_or_fetch(pid, &mut self.texts) {
+        match kernel.step_or_fetch(pid, &mut *self.texts) {
             Fetched::Gone => Ok(Outcome::Gone),
             Fetched::Register => Ok(Outcome::Value(0)),
             Fetched::Call(call) => kernel.call(alloc, pid, call),
@@ -308,7 +309,7 @@ impl Session {
             (W.written trace.old) (W.written trace.new)) }
     {
         let kernel = &mut *self.kernel;
-        match kernel.step_or_fetch(pid, &mut self.texts) {
+        match kernel.step_or_fetch(pid, &mut *self.texts) {
             Fetched::Gone => {
                 write_gone_line(trace, &mut *self.line_buffer, pid)?;
                 Ok(1)

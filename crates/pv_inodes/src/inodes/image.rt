@@ -5,9 +5,10 @@ ghost use Rattle.pv_model.specs.Machine.{inode_blocks};
 ghost use Rattle.pv_inodes.specs.Images.{AreInodes, files_in};
 
 use super::Inodes;
-use crate::table::{owned_by, owned_count};
+use crate::table::{kind_of, owned_by, owned_count};
 use pv_blocks::{BlockSet, Blocks};
 use pv_model::Version;
+use pv_model::format::FREE;
 use pv_model::limits::{BLOCK, INODES};
 
 impl Inodes {
@@ -24,7 +25,11 @@ impl Inodes {
         let table = inodes as usize * version.layout().inode_length;
         let first = table.div_ceil(BLOCK) as u16 + 1;
         let mut blocks = Blocks::of_bytes(bytes, first, &BlockSet::new());
+        let mut most = 0;
         for slot in 0..inodes {
+            if kind_of(&blocks, version, slot) != FREE {
+                most = slot + 1;
+            }
             for i in 0..owned_count(&blocks, version, slot) {
                 let block = owned_by(&blocks, version, slot, i);
                 blocks.reserve(block);
@@ -35,6 +40,7 @@ impl Inodes {
             inodes,
             version,
             least: 0,
+            most,
         }
     }
 }

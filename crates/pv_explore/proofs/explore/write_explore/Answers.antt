@@ -1,6 +1,6 @@
 use Rattle.pv_step_lines.proofs.OfAnswers.WriterContracts.{or_as, or_longer, or_ok, writes_as}
 use Rattle.pv_step_lines.proofs.StoppedWriters.{stopped, then_writes, unwritten}
-use Rattle.pv_explore.proofs.ReportedBytes.{explore-bytes, last-bytes}
+use Rattle.pv_explore.proofs.Reported.{explore-bytes, last-bytes}
 use Rattle.pv_explore.proofs.explore.write_explore.Goals as goal
 
 pub returns-in_err-searched-clause-written : goal.returns-in_err-searched-clause-written

@@ -1,6 +1,6 @@
 use Rattle.pv_state_encoding.proofs.OfAnswers.WriterContracts.{or_as, or_longer, or_ok, writes_as}
 use Rattle.pv_explore.specs.Observing.{trace_text}
-use Rattle.pv_reduced.proofs.ReportedBytes.{explore-bytes, last-bytes}
+use Rattle.pv_reduced.proofs.Reported.{explore-bytes, last-bytes}
 use Rattle.pv_explore.proofs.OfStepLines.StoppedWriters.{stopped, then_writes, unwritten}
 use Rattle.pv_reduced.proofs.explore.write_reduced.Goals as goal
 
