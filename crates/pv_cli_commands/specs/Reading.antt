@@ -162,7 +162,7 @@ module _ {F R V I O E : Type 0} (disk : Disk F R V) (reading : Reading I) (repor
   ReadsNamed (Some named) before after result =
       (read : Result (Vec ℕ) Failure) × ReadsNamedBytes disk reading before.files named before.input after.input read × TakesRead named read before after result × KeepsRest before after
 
-  -- the inputs of a command, the first of which decides what the second is; or the first failure
+  -- the inputs of a command: the format of the first decides which file is the second; or the first failure
   abbrev pub ReadsSecond : Command → HostSystem F I O E → HostSystem F I O E → Input → Result Inputs Failure → Type 0
   ReadsSecond asked middle after first result =
       (second : Result Input Failure) × ReadsNamed (second_named asked first.format) middle after second × Joins first second result

@@ -20,7 +20,7 @@ pub struct HostFiles<'a> {
 }
 
 impl<'a> HostFiles<'a> {
-    /// Returns the files of the operating system of a runtime, of which none is created yet.
+    /// Returns the files of the operating system of a runtime. None is created yet.
     pub fn new(rt: &'a HostRuntime) -> HostFiles<'a>
         ensures runtime { result.rt ≡ rt.entry }
         ensures created { (result.created.items ≡ []) × (result.targets.items ≡ []) }

@@ -1,4 +1,4 @@
--- The command of a question about a run in the matches of a command with its name, or why there is none.
+-- The command of a question about a run in the matches of a command with its name, or the reason why no command is found.
 use Rattle.std.proofs.Common.{◌≡◌, ◌∙◌, inl, ap, sym, subst, Bool, true, false, bytes_eq, ℕ, List, codes, Option, None, Some, option_map, refl}
 use Rattle.std.proofs.lemmas.Slice.Eq.{bytes_eq-Decides}
 use Rattle.std.specs.Prelude.{Result, Ok, Err, IfErr, IfOk, IsErrAnd, if◌then◌else◌, is_some}

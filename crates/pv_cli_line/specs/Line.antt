@@ -96,7 +96,7 @@ abbrev pub list_of : Option Text → List Text
 list_of None = []
 list_of (Some word) = word ∷ []
 
--- the words of a command beside its options, of which the last has this name
+-- the words of a command besides its options; the last has this name
 abbrev pub words_entered : List Row → Text → List Text
 words_entered rows last = list_of (first_of (codes "FILE") rows) ++ list_of (first_of (codes "SCHEDULE") rows) ++ list_of (first_of last rows)
 
@@ -425,7 +425,7 @@ LacksNamed name rows lacks.Words = Never (IsEnteredUnder name rows)
 LacksNamed name rows lacks.Number = LacksArgument name rows ⊎ LacksProcess name rows
 LacksNamed name rows lacks.ManyFiles = HasManyNamed name rows
 
--- the command in the matches of a command with this name, or why there is none
+-- the command in the matches of a command with this name, or the reason why no command is found
 abbrev pub FindsNamed : Text → List Row → Result Command NoCommand → Type 0
 FindsNamed name rows (Ok command) = IsEnteredUnder name rows command
 FindsNamed name rows (Err lack) = LacksNamed name rows lack

@@ -21,10 +21,10 @@ pub(crate) enum NoCommand {
     ManyFiles,
 }
 
-// The words of a command beside its options, in order.
+// The words of a command besides its options, in order.
 #[derive(Clone, Copy)]
 enum Words<'a> {
-    // There is none.
+    // There is no word.
     Zero,
     // There is one.
     One(&'a str),

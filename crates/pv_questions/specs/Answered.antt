@@ -1,4 +1,4 @@
--- The one relation between an answer, the sink to which it was written, and the result.
+-- The one relation between an answer, its sink, and the result.
 use Rattle.std.specs.Prelude.{◌≡◌, ◌⊎◌, ⊤, ℕ, Option, Result, Ok, Err, IfErr}
 use Rattle.pv_model.specs.declared.stream.Sink.{Ghosts as Writing}
 use Rattle.pv_model.specs.Machine.{Bytes, Started, State, Rose, steps_of}

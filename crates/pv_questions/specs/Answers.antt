@@ -64,7 +64,7 @@ of_search lines complete = Ok (record { text = answer_bytes lines; end = end_of_
 
 -- ---- the start of a run
 
--- the text of the fair schedule: a step in a turn, and at most as many turns as a schedule has lines
+-- the text of the fair schedule: a step in a turn, and at most 65,536 turns, the maximum of a schedule
 abbrev pub fair_text_of : Format → Bytes → Result Bytes Failure
 fair_text_of format bytes = and_then (λ failure. failure) (machine_in format bytes) (λ s. Ok (schedule_text (turns program_of 1 65536 s)))
 
@@ -208,7 +208,7 @@ end_of_comparison Differs = Different
 abbrev pub of_comparison : Comparison → Answer
 of_comparison c = Ok (record { text = answer_bytes (comparison_lines c); end = end_of_comparison (compared_of c) })
 
--- the same for two inputs, of which the first is checked first; a search visits at least one pair
+-- the same for two inputs; the first is checked first, and a search visits at least one pair
 abbrev pub compared_to : ℕ → (first second : Input) → Answer
 compared_to pairs first second =
     and_then (λ failure. failure) (machine_in first.format first.bytes.items) (λ s. and_then (λ failure. failure) (machine_in second.format second.bytes.items)

@@ -119,7 +119,7 @@ impl From<StepFault> for Failure {
     }
 }
 
-// The standard output is the only sink to which an answer is written.
+// An answer is written to the standard output alone.
 impl From<Failed> for Failure {
     ghost from_gives = { λ _ e. e ≡ Write Output };
 
