@@ -19,8 +19,8 @@ Function = collections.namedtuple("Function", "name path head opens last")
 
 
 def owner_of(line):
-    """Returns the type of an impl's first line as the prover names it, with its trait, as in ListStopFromAllocError, or with the types for its parameters, as in
-    Kernel+CachedLookup; returns an empty text for any other line."""
+    """Returns the type of an impl's first line as the prover names it, with its trait, as in StopFromAllocError, or with the types for its parameters, as in
+    Buffered+Gathered; returns an empty text for any other line."""
     found = re.fullmatch(r"impl(.*) \{", line)
     whole = text = found[1] if found else ""
     depth = 0

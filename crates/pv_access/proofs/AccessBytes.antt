@@ -6,7 +6,7 @@ use Rattle.std.proofs.lemmas.Grind.{flat_map-append}
 use Rattle.std.proofs.lemmas.List.{length-append, map-append}
 use Rattle.pv_reduced.specs.OfExplore.Observing
 use Rattle.pv_reduced.specs.OfExplore.Observing.{is_shown, observation_bytes}
-use Rattle.pv_reduced.proofs.OfExplore.ProperPrefixes.{lines-long}
+use Rattle.pv_streams.proofs.ProperPrefixes.{lines-long}
 use Rattle.pv_reduced.proofs.OfExplore.ReportedBytes.{line-shown}
 use Rattle.pv_reduced.specs.OfLawsClasses.Reduced.{reduced_moves_of}
 use Rattle.pv_reduced.specs.OfLawsClasses.ReducedAnswers.{reduced_access_lines}

@@ -16,6 +16,8 @@ use Rattle.pv_access.specs.declared.condition.Condition.TheVariants.{NoProgram, 
 use Rattle.pv_access.specs.Candidates.{Candidate, accesses_with, candidates, candidates_at, candidates_by, is_satisfied, list_of_two, name_candidates, node_candidates, open_candidates, places_named}
 use Rattle.pv_model_questions.specs.Accesses.{lines_of_access}
 use Rattle.pv_access.specs.Texts.{access_texts, access_lines_in, texts_by, texts_of_call, texts_with, with_texts}
+use Rattle.pv_reduced.proofs.OfAnswers.InstructionWords.{no-calls}
+use Rattle.pv_reduced.specs.OfProcs.Turns.{NoCallNext}
 use Rattle.pv_access.proofs.AccessCandidates.{accesses-are, with-append}
 use Rattle.pv_access.proofs.BegunWalks.{begun-candidates}
 
@@ -162,11 +164,9 @@ module _ (files : List Bytes) (start : Tree) where
         (known-gained s pid p now call now.outcome (flags_of call)
         ∙ ap₂ (λ (u : State) v. flat_map (texts_by (access_lines_in files start u.tree pid)) (accesses_by_open u pid v (flags_of call))) after outcome)
 
-  pub gone-texts : (s : State) (pid : ℕ) (now : Stepped) → process_at s pid ≡ None → access_texts files start s pid now ≡ []
-  gone-texts s pid now none = ap (of_process (texts_of_call files start) s pid now) none
-
-  pub inside-texts : (s : State) (pid : ℕ) (p q : Process) (now : Stepped) → process_at s pid ≡ Some p → next p ≡ inside q → access_texts files start s pid now ≡ []
-  inside-texts s pid p q now at comes = ap (of_process (texts_of_call files start) s pid now) at ∙ ap (of_next (texts_of_call files start) s pid now p) comes
+  -- a step without a call
+  pub no-texts : (s : State) (pid : ℕ) (now : Stepped) → NoCallNext (process_at s pid) → access_texts files start s pid now ≡ []
+  no-texts s pid now none = no-calls (texts_of_call files start) s pid now none
 
   -- one candidate, and more
   pub allowed-cons : (o : Outcome) (c : Prepared) (cs : List Prepared) → texts_with o (c ∷ cs) ≡ texts_with o (c ∷ []) ++ texts_with o cs

@@ -5,17 +5,15 @@ ghost use Rattle.pv_model.specs.Machine.{answer_bytes};
 ghost use Rattle.pv_access.specs.Answers.{access_lines_by};
 ghost use Rattle.pv_named_files.specs.FirstPaths.{files_given, first_tree, path_texts};
 ghost use Rattle.pv_reduced.specs.Kinds.{is_complete_by};
-ghost use Rattle.pv_reduced.specs.OfExplore.ProperPrefixes.{StopsInside};
-ghost use Rattle.pv_reduced.specs.OfSession.Running.{FailsBy};
-ghost use Rattle.pv_streams.specs.Sinks.{Writes, WritesOr};
+ghost use Rattle.pv_streams.specs.ProperPrefixes.{StopsInside};
+ghost use Rattle.pv_streams.specs.Sinks.{FailsBy, Writes, WritesOr};
 
 use crate::observer::search_accesses;
 use crate::unread::write_unread;
 use pv_named_files::FirstPaths;
 use pv_reduced::SearchKind;
 use pv_reduced::explore_crate::{FirstMachine, Progress, Searched};
-use pv_reduced::session::Stop;
-use pv_streams::Sink;
+use pv_streams::{Sink, Stop};
 use std::alloc::Global;
 use std::marker::Brand;
 

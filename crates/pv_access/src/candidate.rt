@@ -10,7 +10,8 @@ use crate::condition::Condition;
 use crate::word::NodeWord;
 use pv_model::Outcome;
 use pv_named_files::{FirstPaths, note_of};
-use pv_reduced::answers::{Line, NameWords, Plain, text_of};
+use pv_reduced::answers::{Line, NameWords};
+use pv_streams::{Plain, text_of};
 use pv_tree::Tree;
 use std::alloc::{AllocError, Global};
 

@@ -2,8 +2,7 @@
 ghost use Rattle.std.specs.Prelude.{◌≡◌, ◌≤◌, IfOk, OnOk};
 ghost use Rattle.pv_named_files.specs.FirstPaths.{files_given, first_tree};
 ghost use Rattle.pv_reduced.specs.Kinds.{IsSearchedBy, observed_by};
-ghost use Rattle.pv_reduced.specs.OfSession.Running.{FailsBy};
-ghost use Rattle.pv_streams.specs.Sinks.{WritesOr};
+ghost use Rattle.pv_streams.specs.Sinks.{FailsBy, WritesOr};
 ghost use Rattle.pv_access.specs.Texts.{access_texts};
 
 use crate::step::step_with_accesses;
@@ -11,8 +10,8 @@ use pv_model::StepFault;
 use pv_named_files::FirstPaths;
 use pv_reduced::SearchKind;
 use pv_reduced::explore_crate::{FirstMachine, Observer, Progress, Searched};
-use pv_reduced::session::{Session, Stop};
-use pv_streams::Sink;
+use pv_reduced::session::Session;
+use pv_streams::{Sink, Stop};
 use std::alloc::Global;
 use std::marker::{Brand, PhantomData};
 

@@ -1,6 +1,6 @@
 //! Steps with their accesses.
-ghost use Rattle.std.specs.Prelude.{◌≡◌, ◌++◌, flat_map, map, IfOk, IsSome, IsTrue, OnOk, Some, option_map, option_to_list, pos};
-ghost use Rattle.pv_laws_states.specs.States.{IsValid, is_call};
+ghost use Rattle.std.specs.Prelude.{◌≡◌, ◌++◌, flat_map, map, IfOk, IsSome, OnOk, Some, option_map, option_to_list, pos};
+ghost use Rattle.pv_laws_states.specs.States.{IsValid};
 ghost use Rattle.pv_model.specs.Answers.Access.{accesses_by_open, node_opened, opens};
 ghost use Rattle.pv_model.specs.Machine.{answer_line_bytes, call_of, open_file, Process, process_at, flags_of};
 ghost use Rattle.pv_reduced.specs.OfProcs.Turns.{CallsNext};
@@ -14,11 +14,11 @@ use crate::candidates::candidates_of;
 use crate::ends::node_at_descriptor;
 use pv_model::{CallRef, Mode, Outcome, StepFault};
 use pv_named_files::FirstPaths;
-use pv_reduced::answers::{Line, ModeLetters, Plain, text_of};
+use pv_reduced::answers::{Line, ModeLetters};
 use pv_reduced::calls_state::Parts;
-use pv_reduced::procs::Fetched;
 use pv_reduced::session::Session;
 use pv_script::CallTexts;
+use pv_streams::{Plain, text_of};
 use pv_tree::Tree;
 use std::alloc::{AllocError, Global};
 
@@ -116,8 +116,7 @@ fn make_call(
     pid: u32,
     call: CallRef<'_>,
 ) -> Result<Vec<Vec<u8>>, StepFault>
-    requires next { CallsNext call (process_at session.old pid) }
-    requires callable { IsTrue (is_call (call_of call)) }
+    requires { CallsNext call (process_at session.old pid) }
     ensures after { OnOk result (session.new ≡ (stepped session.old pid).after) }
     ensures texts { IfOk result (λ texts. texts_in texts.items ≡ access_texts (files_given paths.now) (first_tree paths.now) session.old pid (stepped session.old pid)) }
 {
@@ -154,13 +153,9 @@ pub fn step_with_accesses(
     ensures texts { IfOk result (λ texts. texts_in texts.items ≡ access_texts (files_given paths.now) (first_tree paths.now) session.old pid (stepped session.old pid)) }
 {
     let mut texts = CallTexts::new();
-    match session.fetch(pid, &mut texts) {
-        Fetched::Call(call) => make_call(alloc, paths, session, pid, call),
-        Fetched::Register => {
-            session.register(pid);
-            Ok(Vec::new(alloc))
-        }
-        Fetched::Gone => {
+    match session.next_call(pid, &mut texts) {
+        Some(call) => make_call(alloc, paths, session, pid, call),
+        None => {
             session.step(alloc, pid)?;
             Ok(Vec::new(alloc))
         }

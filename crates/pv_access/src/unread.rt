@@ -4,16 +4,14 @@ ghost use Rattle.pv_model_questions.specs.Accesses.{kept_files};
 ghost use Rattle.pv_named_files.specs.FirstPaths.{files_given, first_tree};
 ghost use Rattle.pv_access.specs.Unread.{files_without_note, is_without_note, singleton_if, unread_file_line, unread_lines};
 ghost use Rattle.pv_model.specs.Machine.{named_files, answer_bytes, answer_line_bytes, find_entry, root};
-ghost use Rattle.pv_reduced.specs.OfSession.Running.{FailsBy};
-ghost use Rattle.pv_streams.specs.Sinks.{Writes, WritesOr};
+ghost use Rattle.pv_streams.specs.Sinks.{FailsBy, Writes, WritesOr};
 
 use crate::word::NodeBrief;
 use pv_model::limits::ROOT;
 use pv_named_files::{FirstPaths, named_files, note_of};
-use pv_reduced::answers::{Fragment, Line};
+use pv_reduced::answers::Line;
 use pv_reduced::explore_crate::Searched;
-use pv_reduced::session::Stop;
-use pv_streams::{Failed, Sink};
+use pv_streams::{Failed, Fragment, Sink, Stop};
 use pv_tree::Tree;
 use std::alloc::{AllocError, Global};
 

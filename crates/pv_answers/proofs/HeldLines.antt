@@ -5,7 +5,7 @@ use Rattle.std.proofs.lemmas.Grind.{flat_map-append}
 use Rattle.std.proofs.lemmas.List.{drop_all}
 use Rattle.pv_model.specs.Machine.{AnswerLine, answer_bytes, answer_line, answer_line_bytes, counted_from, Bytes, entries_of_table, Numbered, at_number, numbered_from, Descriptor, Process, ProcessRecord as Record, live, ended_record, live_process, State, Table}
 use Rattle.pv_model.specs.Answers.ProcessRecord.{OpenDescriptor, descriptor_text, entry_text, holding_lines, open_descriptor}
-use Rattle.pv_listing.proofs.TextRemainders.{LeavesRest, written_text}
+use Rattle.pv_streams.proofs.TextRemainders.{LeavesRest, written_text}
 use Rattle.pv_streams.specs.Sinks.{and_all}
 use Rattle.pv_calls_state.specs.OfProcs.declared.record.ProcessRecord.{ProcessRecord}
 use Rattle.pv_calls_state.specs.OfProcs.Parts.{record_of}

@@ -8,7 +8,7 @@ use Rattle.pv_model.specs.declared.promise.Promise.{Promise}
 use Rattle.pv_model.specs.declared.promise.Promise.TheVariants.{Stdio, Rpath, Wpath, Cpath, Proc, Exec, Unveil, Error, Dpath, Fattr, Chown, Flock, Unix, Inet, Mcast, Dns, Getpw, Sendfd, Recvfd, Tape, Tty, ProtExec, Settime, Ps, Vminfo, Id, Pf, Route, Wroute, Audio, Video, Bpf}
 use Rattle.pv_model.specs.Machine.{spaced, Bytes, promise_name, Promises, contains, quote_byte}
 use Rattle.pv_streams.specs.Sinks.{and_all, WritesPrefix}
-use Rattle.pv_listing.proofs.TextRemainders.{LeavesRest, written_text}
+use Rattle.pv_streams.proofs.TextRemainders.{LeavesRest, written_text}
 use Rattle.pv_answers.specs.Texts.{keyword_after, keywords_in, words_after}
 
 words-none : (first : Bool) → words_after first [] ≡ []

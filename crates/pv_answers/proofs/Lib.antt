@@ -1,13 +1,10 @@
 -- Lemmas about answers.
--- - texts: WriterContracts (a writer that calls others), EqualOutputs (the output of a sink), TextParts (texts of many
---   parts, the front of a buffer), KeywordTexts (of a set), NodePaths (of nodes)
+-- - texts: TextParts (texts of many parts, the front of a buffer), KeywordTexts (of a set), NodePaths (of nodes)
 -- - processes: ProcessSequence (from one number to the next), InstructionWords (the next instruction), LocationLines,
 --   DescriptorLines and HeldLines (descriptors, entries and memory), ProcessLines (all processes)
 -- - places: PermissionsAtPlaces (by the governing entry), ListedLines (names, one entry at a time), AbsentNameEntries
 --   (entries for absent names), OpenDescriptors (open descriptors), RemovedDirectories (removed directories),
 --   PermissionLines (all lines)
-pub mod EqualOutputs
-pub mod WriterContracts
 pub mod TextParts
 pub mod KeywordTexts
 pub mod NodePaths

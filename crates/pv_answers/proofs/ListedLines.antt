@@ -12,7 +12,7 @@ use Rattle.pv_calls_state.proofs.OfLawsTrees.DirectoryEntries.{by_name}
 use Rattle.pv_calls_state.proofs.OfLawsTrees.Trees.{ordered}
 use Rattle.pv_listing.specs.Lines.{entries_after}
 use Rattle.pv_listing.proofs.DirectoryNames.{next-first, next-none}
-use Rattle.pv_listing.proofs.TextRemainders.{LeavesRest, rest_all, rest_after}
+use Rattle.pv_streams.proofs.TextRemainders.{LeavesRest, rest_all, rest_after}
 use Rattle.pv_streams.specs.Sinks.{and_all}
 use Rattle.pv_answers.specs.declared.reach.names.LinkedPath.{LinkedPath}
 use Rattle.pv_answers.specs.declared.reach.reacher.Reacher.{Reacher}

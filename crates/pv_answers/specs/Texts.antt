@@ -30,11 +30,6 @@ abbrev pub next_words : Option Process → Bytes
 next_words None = []
 next_words (Some p) = next_text (next p)
 
--- the text of an optional fragment
-abbrev pub text_where : {P : Type 0} → (P → Bytes) → Option P → Bytes
-text_where text None = []
-text_where text (Some p) = text p
-
 -- the keywords of the promises in a set
 abbrev pub keywords_in : Promises → List Promise → List Bytes
 keywords_in set promises = map promise_name (filter (contains set) promises)

@@ -6,8 +6,7 @@ ghost use Rattle.pv_model.specs.Answers.ProcessRecord.{listed_text, table_text};
 ghost use Rattle.pv_model.specs.Trace.{flag_text};
 ghost use Rattle.pv_streams.specs.Sinks.{Writes};
 
-use crate::fragments::{Fragment, Plain};
-use crate::lines::{Count, Decimal, Letters, Line, ModeLetters, Pledged, Quoted};
+use crate::lines::{Letters, Line, ModeLetters, Pledged};
 use crate::nodes::{NodeWords, TargetWords};
 use crate::numbers::{BufferFront, Spaced};
 use pv_calls_state::Parts;
@@ -15,7 +14,7 @@ use pv_calls_state::procs::ProcessRecord;
 use pv_calls_state::unveil::Table;
 use pv_model::Name;
 use pv_model::limits::DESCRIPTORS;
-use pv_streams::{Failed, Sink};
+use pv_streams::{Count, Decimal, Failed, Fragment, Plain, Quoted, Sink};
 
 // Returns whether a table is in force and whether it is locked, in words.
 fn table_words(table: &Table) -> &'static [u8]

@@ -2,16 +2,12 @@
 //!
 //! `state` writes the state of each process: its location (`location`), its next call (`calls`), and its restraints,
 //! descriptors and memory (`holding`). `reach` writes the permissions that the next call of each process has at each
-//! place. The texts are built from fragments (`fragments`): lines and their words (`lines`), short lines that are
-//! buffered (`short`), escaped texts (`escaped`), lists of numbers and bytes (`numbers`), and nodes, names and targets
-//! with their paths (`nodes`). Only `gathered` allocates: it has the bytes of fragments in memory. Contracts cite the
-//! lines that the definitions in `pv_model` give.
+//! place. The texts are built from fragments: lines and their words (`lines`), short lines that are buffered (`short`),
+//! lists of numbers and bytes (`numbers`), and nodes, names and targets with their paths (`nodes`). Nothing is allocated.
+//! Contracts cite the lines that the definitions in `pv_model` give.
 #![tactic(auto)]
 
 mod calls;
-mod escaped;
-mod fragments;
-mod gathered;
 mod holding;
 mod lines;
 mod location;
@@ -22,11 +18,9 @@ mod short;
 mod state;
 
 pub use calls::{is_pledge, is_unveil};
-pub use fragments::{Fragment, Plain};
-pub use gathered::{append, text_of};
 pub use lines::{
-    Count, Decimal, Letters, Line, ModeLetters, Pledged, Quoted, write_decimal, write_front,
-    write_mode, write_permissions, write_pledged, write_promises, write_quoted,
+    Letters, Line, ModeLetters, Pledged, write_front, write_mode, write_permissions, write_pledged,
+    write_promises,
 };
 pub use nodes::{
     NameWords, NodeBrief, NodeWords, PathOf, TargetWords, has_path, write_name, write_node,

@@ -7,48 +7,11 @@ ghost use Rattle.pv_model.specs.Trace.{pad_left};
 ghost use Rattle.pv_calls_state.specs.OfPromises.Pledge.{bits_of};
 ghost use Rattle.pv_streams.specs.Sinks.{Writes};
 
-use crate::escaped::write_escaped;
-use crate::fragments::{Fragment, Plain};
 use crate::short::ShortLine;
 use itoa::Buffer;
 use pv_calls_state::promises::{ALL, has};
 use pv_model::{Mode, Perms, Promise, Promises};
-use pv_streams::{Failed, Sink, write_whole};
-
-/// Writes a number in decimal digits.
-///
-/// # Errors
-///
-/// `Failed`, if a write failed. The sink received a prefix of the digits.
-pub fn write_decimal<W: Sink>(out: &mut W, number: u32) -> Result<(), Failed>
-    ensures { Writes W.Sink (decimal number) out.old out.new result }
-{
-    let mut buffer = Buffer::new();
-    write_whole(out, buffer.format(number).as_bytes())
-}
-
-// Bytes in escaped form, without quotation marks.
-#[derive(Clone, Copy)]
-pub(crate) struct Escaped<'a>(pub(crate) &'a [u8]);
-
-impl<'a> Fragment for Escaped<'a> {
-    ghost text = { λ p. flat_map quote_byte p.0.now };
-
-    fn write<W: Sink>(&self, out: &mut W) -> Result<(), Failed> {
-        write_escaped(out, self.0)
-    }
-}
-
-/// Writes bytes of any length as a quoted text in its shortest form.
-///
-/// # Errors
-///
-/// `Failed`, if a write failed. The sink received a prefix of the text.
-pub fn write_quoted<W: Sink>(out: &mut W, bytes: &[u8]) -> Result<(), Failed>
-    ensures { Writes W.Sink (quote bytes.now) out.old out.new result }
-{
-    (Plain(b"\""), Escaped(bytes), Plain(b"\"")).write(out)
-}
+use pv_streams::{Failed, Fragment, Plain, Sink, write_whole};
 
 // Returns `count` spaces.
 fn spaces(count: usize) -> &'static [u8]
@@ -256,30 +219,6 @@ pub fn write_pledged<W: Sink>(out: &mut W, pledged: Option<Promises>) -> Result<
     }
 }
 
-/// A number in decimal digits.
-#[derive(Clone, Copy)]
-pub struct Decimal(pub u32);
-
-impl Fragment for Decimal {
-    ghost text = { λ p. decimal p.0 };
-
-    fn write<W: Sink>(&self, out: &mut W) -> Result<(), Failed> {
-        write_decimal(out, self.0)
-    }
-}
-
-/// Bytes as a quoted text in its shortest form.
-#[derive(Clone, Copy)]
-pub struct Quoted<'a>(pub &'a [u8]);
-
-impl<'a> Fragment for Quoted<'a> {
-    ghost text = { λ p. quote p.0.now };
-
-    fn write<W: Sink>(&self, out: &mut W) -> Result<(), Failed> {
-        write_quoted(out, self.0)
-    }
-}
-
 /// Permissions in four places, as `write_permissions` writes them.
 #[derive(Clone, Copy)]
 pub struct Letters(pub Perms);
@@ -313,18 +252,5 @@ impl Fragment for Pledged {
 
     fn write<W: Sink>(&self, out: &mut W) -> Result<(), Failed> {
         write_pledged(out, self.0)
-    }
-}
-
-/// A count in decimal digits.
-#[derive(Clone, Copy)]
-pub struct Count(pub u64);
-
-impl Fragment for Count {
-    ghost text = { λ p. decimal p.0 };
-
-    fn write<W: Sink>(&self, out: &mut W) -> Result<(), Failed> {
-        let mut buffer = Buffer::new();
-        write_whole(out, buffer.format(self.0).as_bytes())
     }
 }

@@ -7,10 +7,9 @@ ghost use Rattle.pv_model.specs.Machine.{answer_bytes, process_at};
 ghost use Rattle.pv_streams.specs.Sinks.{Writes};
 
 use crate::calls::{CallRoom, write_next};
-use crate::fragments::{Fragment, Plain};
-use crate::lines::{Count, Decimal, Line, write_front};
+use crate::lines::{Line, write_front};
 use pv_calls_state::Parts;
-use pv_streams::{Failed, Sink, write_whole};
+use pv_streams::{Count, Decimal, Failed, Fragment, Plain, Sink, write_whole};
 
 // Writes the line of a live process: its parent and its line.
 fn write_live<W: Sink>(out: &mut W, parts: &Parts, pid: u32) -> Result<(), Failed>

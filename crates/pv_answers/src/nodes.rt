@@ -5,12 +5,10 @@ ghost use Rattle.pv_model.specs.Machine.{node_path, target_words, quote_byte, is
 ghost use Rattle.pv_model.specs.Answers.Nodes.{least_name, name_words, node_words, path_within};
 ghost use Rattle.pv_streams.specs.Sinks.{Writes};
 
-use crate::fragments::{Fragment, Plain};
-use crate::lines::{Decimal, Escaped, Quoted};
 use pv_calls_state::tree::Tree;
 use pv_model::Target;
 use pv_model::limits::ROOT;
-use pv_streams::{Failed, Sink, write_whole};
+use pv_streams::{Decimal, Escaped, Failed, Fragment, Plain, Quoted, Sink, write_whole};
 
 /// Returns whether a node has a path: a directory that is not removed, or a file or link with a name.
 pub fn has_path(tree: &Tree, node: u16) -> bool

@@ -6,11 +6,9 @@ ghost use Rattle.pv_model.specs.Answers.ProcessRecord.{buffer_front, front_text}
 ghost use Rattle.pv_model.specs.Trace.{hex};
 ghost use Rattle.pv_streams.specs.Sinks.{Writes};
 
-use crate::fragments::{Fragment, Plain};
-use crate::lines::Count;
 use itoa::Buffer;
 use pv_model::hex_digit;
-use pv_streams::{Failed, Sink, write_whole};
+use pv_streams::{Count, Failed, Fragment, Plain, Sink, write_whole};
 
 // Writes a signed number in decimal digits.
 fn write_signed<W: Sink>(out: &mut W, number: &i32) -> Result<(), Failed>

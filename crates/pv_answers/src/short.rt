@@ -1,8 +1,7 @@
 //! Short lines, buffered in place.
 ghost use Rattle.std.specs.Prelude.{◌≡◌, [], Some};
 
-use pv_listing::trace::FixedBuffer;
-use pv_streams::{Failed, Sink};
+use pv_streams::{Failed, FixedBuffer, Sink};
 
 /// The maximum length of a line that is buffered before it is written.
 const SHORT: usize = 512;

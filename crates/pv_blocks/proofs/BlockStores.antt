@@ -1,15 +1,16 @@
 -- Bytes as blocks, and the free flags.
-use Rattle.std.proofs.Common.{◌≡◌, ℕ, zero, suc, ◌+◌, ◌*◌, ◌-◌, ◌<◌, ◌≤◌, ◌≢◌, Bool, true, false, not, ◌&&◌, ◌||◌, cond, eqb, ltb, leb, List, map, length, get_or, set, take, drop, count_by, Some, refl, sym, ap, ◌∙◌, inl, inr, arith}
+use Rattle.std.proofs.Common.{◌≡◌, ℕ, zero, suc, ◌+◌, ◌*◌, ◌-◌, ◌<◌, ◌≤◌, ◌≢◌, Bool, true, false, not, ◌&&◌, ◌||◌, cond, eqb, ltb, leb, List, [], map, length, get_or, set, take, drop, count_by, Some, refl, sym, ap, ◌∙◌, inl, inr, arith}
 use Rattle.std.specs.List.{range_with_len, slice_get}
+use Rattle.std.specs.Prelude.{slice_index_or}
 use borrow.Rule.Slice.PartMut.{put_mid}
 use Rattle.pv_model.specs.Machine.{Bytes, block}
 use Rattle.pv_blocks.specs.declared.block_set.BlockSet.{BlockSet}
 use Rattle.pv_blocks.specs.BlockSet.{is_member, AllMembers}
-use Rattle.pv_blocks.specs.BlockStore.{blocks_in_bytes, free_outside, free_from}
+use Rattle.pv_blocks.specs.BlockStore.{BlockStore, block_of, blocks_in_bytes, free_outside, free_from}
 use Rattle.std.proofs.lemmas.Bool.{cases_eq, cases_lt, cases_order, eq-eqb, ne_eqb, lt-ltb, le-ltb, lt-leb, le-leb, not-true}
 use Rattle.std.proofs.lemmas.Bool.Decides.{nat_tests}
 use Rattle.std.proofs.lemmas.Option.{slice_get-get_or, get_or_from_slice_get, slice_get_within}
-use Rattle.std.proofs.lemmas.List.{same_lists, get_or-set_same, get_or-set_other, length-set, length-append, length-take, length-drop, drop-take}
+use Rattle.std.proofs.lemmas.List.{same_lists, get_or_past, get_or-set_same, get_or-set_other, length-set, length-append, length-take, length-drop, drop-take}
 use Rattle.std.proofs.lemmas.List.FromFn.{length-map-range_with_len, get_or-map-range_with_len, sum_by-map-range_with_len_more}
 use Rattle.std.proofs.lemmas.List.Sums.{sum_by-cons, sum_by-set}
 use Rattle.std.proofs.lemmas.Slice.{take-put_mid_below, drop-put_mid, between-put_mid}
@@ -43,6 +44,13 @@ module _ (bytes new : Bytes) (k : ℕ) (within : 512 * k + 512 ≤ length bytes)
   block-put_mid_above : (j : ℕ) → k < j → block (put_mid (512 * k) 512 bytes new) j ≡ block bytes j
   block-put_mid_above j above = ap (take 512) (drop-put_mid (512 * k) 512 bytes new (512 * j) (omega arith) (omega arith) whole)
 
+  pub block-put_mid_other : (j : ℕ) → j ≢ k → block (put_mid (512 * k) 512 bytes new) j ≡ block bytes j
+  block-put_mid_other j other = elim (cases_order j k) [
+    | inl same ↦ absurd (other same)
+    | inr (inl below) ↦ block-put_mid_below j below
+    | inr (inr above) ↦ block-put_mid_above j above
+  ]
+
   pub blocks_in_bytes-put_mid : (count : ℕ) → k < count → blocks_in_bytes count (put_mid (512 * k) 512 bytes new) ≡ set (blocks_in_bytes count bytes) k new
   blocks_in_bytes-put_mid count counted =
       let after = put_mid (512 * k) 512 bytes new in
@@ -60,6 +68,25 @@ length-free_outside taken count = length-map-range_with_len (λ k. not (is_membe
 
 pub get_or-free_outside : (taken : BlockSet) (count k : ℕ) (d : Bool) → k < count → get_or (free_outside taken count) k d ≡ not (is_member taken k)
 get_or-free_outside taken count k d within = get_or-map-range_with_len (λ k. not (is_member taken k)) 0 count k k d within (omega arith)
+
+-- a store as its methods see it
+module _ (bytes : Bytes) (taken : BlockSet) (first count : ℕ) (s : BlockStore) (is : record { blocks = blocks_in_bytes count bytes; free = free_outside taken count; first = first } ≡ s) where
+  pub count_seen : count ≡ length s.blocks
+  count_seen = sym (length-blocks_in_bytes count bytes) ∙ ap (λ (s : BlockStore). length s.blocks) is
+
+  pub bytes_seen : (k : ℕ) → k < count → block_of s k ≡ block bytes k
+  bytes_seen k below = sym (ap (λ (s : BlockStore). block_of s k) is) ∙ get_or-blocks_in_bytes count bytes k [] below
+
+  -- a block is free if it is not in the set
+  pub flag_seen : (k : ℕ) → k < count → (member : Bool) → is_member taken k ≡ member → slice_index_or s.free k true ≡ not member
+  flag_seen k below member same = sym (ap (λ (s : BlockStore). slice_index_or s.free k true) is) ∙ get_or-free_outside taken count k true below ∙ ap not same
+
+  -- and so is a block past the last
+  pub flag_absent : (k : ℕ) → (k < count → is_member taken k ≡ false) → slice_index_or s.free k true ≡ true
+  flag_absent k absent = elim (cases_lt k count) [
+    | inl below ↦ flag_seen k below false (absent below)
+    | inr past ↦ get_or_past s.free k true (omega (arith, ap (λ (s : BlockStore). length s.free) is, length-free_outside taken count))
+  ]
 
 -- sets with the same members give the same flags
 pub free_outside-same : (old new : BlockSet) (count : ℕ) → ((k : ℕ) → k < count → is_member new k ≡ is_member old k) → free_outside new count ≡ free_outside old count

@@ -1,5 +1,5 @@
 -- Blocks and their free flags.
-use Rattle.std.specs.Prelude.{◌≡◌, ℕ, ◌*◌, ◌<◌, ◌≤◌, Bool, true, false, not, ◌&&◌, if◌then◌else◌, nat_le, nat_lt, List, [], map, length, count_by, slice_get, slice_index_or, slice_set, Some}
+use Rattle.std.specs.Prelude.{◌≡◌, ℕ, ◌*◌, ◌<◌, ◌≤◌, Bool, true, false, not, ◌&&◌, if◌then◌else◌, nat_le, nat_lt, List, [], map, length, replicate, count_by, slice_get, slice_index_or, slice_set, Some}
 use Rattle.std.specs.List.{range_with_len}
 use Rattle.pv_model.specs.declared.limits.TheConstants.{BLOCK}
 use Rattle.pv_model.specs.Machine.{Bytes, block}
@@ -59,9 +59,11 @@ pub record CopiesUsed (from old new : BlockStore) : Type 0 where
   pub each : (k : ℕ) → block_of new k ≡ used_or_old from old (length from.blocks) k
 
 -- the invariant of a store of blocks
-pub record IsConsistentStore (bytes : Bytes) (taken : BlockSet) (first count free least : ℕ) : Type 0 where
+pub record IsConsistentStore (bytes : Bytes) (taken : BlockSet) (first count free least written : ℕ) : Type 0 where
   pub whole : length bytes ≡ BLOCK * count
   pub first_within : first ≤ count
   pub reserved : (k : ℕ) → k < first → is_member taken k ≡ true
   pub counted : free ≡ count_by (λ is_free. is_free) (free_outside taken count)
   pub none_below : (k : ℕ) → k < least → is_member taken k ≡ true
+  pub written_within : written ≤ first
+  pub unwritten : (k : ℕ) → written ≤ k → k < first → block bytes k ≡ replicate BLOCK 0

@@ -68,6 +68,14 @@ impl BlockSet {
         None
     }
 
+    /// Returns whether the set contains none of the 64 numbers of a word.
+    pub(crate) fn is_clear(&self, word: u32) -> bool
+        requires { word < 1024 }
+        ensures { IsTrue result → (k : ℕ) → 64 * word ≤ k → k < 64 * word + 64 → is_member self.now k ≡ false }
+    {
+        self.words[word as usize] == 0
+    }
+
     // Returns whether the set contains all 64 numbers of a word.
     fn is_full(&self, word: u32) -> bool
         requires { word < 1024 }

@@ -1,32 +1,34 @@
--- The first state of the kernel, and the next instruction of a live process.
+-- The first state of the machine, and the states after an instruction and after a call.
 use Rattle.std.proofs.Common.{◌≡◌, ◌∙◌, ◌<◌, ◌≤◌, arith, ap, sym, subst, refl, ℕ, zero, suc, true, false, ◌⊎◌, inl, inr, [], ◌∷◌, Option, None, Some, Result, Ok, Err}
-use Rattle.std.specs.Prelude.{is_some}
+use Rattle.std.specs.Prelude.{is_some, IfOk, OnErr}
 use Rattle.pv_model.specs.declared.fault.ParseFault.{ParseFault}
 use Rattle.pv_model.specs.declared.fault.ParseFault.TheVariants.{Line, Memory as ParseMemory}
 use Rattle.pv_model.specs.declared.kernel_fault.BootFault.{BootFault}
 use Rattle.pv_model.specs.declared.kernel_fault.BootFault.TheVariants.{Memory}
+use Rattle.pv_model.specs.declared.kernel_fault.StepFault.{StepFault}
+use Rattle.pv_calls_path.specs.OfCallsPlain.declared.answer.Answer.{Answer}
+use Rattle.pv_calls_path.specs.OfCallsPlain.Performed.{answered}
 use Rattle.pv_model.specs.declared.call.Call.{Call}
-use Rattle.pv_model.specs.Machine.{call_of, read_program, inside, calls_for, next, and_then, booted, Program, Process, State, first_state, process_at, Tree, Node, directory_node, file_node, link_node}
+use Rattle.pv_model.specs.Machine.{Answered, answer, program_of, read_program, inside, calls_for, next, and_then, booted, Program, Process, State, first_state, process_at, Tree, Node, directory_node, file_node, link_node}
 use Rattle.pv_model.specs.RunFault.{of_init}
 use Rattle.pv_model.specs.Start.{program_in, init_of}
 use Rattle.pv_audit.specs.OfCallsState.Changes.{IsRegistered, MovesInside, PassesInside, StepsInside}
 use Rattle.pv_audit.specs.OfCallsState.Counts.{processes_of}
 use Rattle.pv_audit.proofs.OfCallsState.UncountedChanges.{passes-same, some-at}
-use Rattle.pv_calls.specs.Kernel.{IsCallable}
 use Rattle.pv_audit.specs.OfProcs.declared.processes.Fetched.{Fetched}
 use Rattle.pv_audit.specs.OfProcs.declared.processes.Fetched.TheVariants.{Gone, Register, Call as AtCall}
 use Rattle.pv_audit.specs.OfProcs.ProcessTable.{ProcessTable, process_in}
-use Rattle.pv_audit.specs.OfProcs.Turns.{AwaitsCall, IsFetched, RegisterNext, context_of}
+use Rattle.pv_audit.specs.OfProcs.Turns.{AwaitsCall, RegisterNext, context_of}
 use Rattle.pv_audit.specs.OfScript.Context.{is_inside}
 use Rattle.pv_laws_states.specs.States.{IsFirstTree, IsRunning, IsValid, is_program_in_bounds, is_call}
-use Rattle.pv_laws_states.proofs.ValidBySteps.{IsGoodNext, good-next, first-valid}
+use Rattle.pv_laws_states.proofs.ValidBySteps.{IsGoodNext, good-next, call-keeps_valid, first-valid}
 use Rattle.pv_laws_states.proofs.ProcessInsides.{SameHolds, valid-inside}
 use Rattle.pv_audit.specs.OfScript.Passing.{Passes}
 use Rattle.pv_laws_runs.proofs.ProgramRanges.{program_of-encodes}
 use Rattle.std.specs.Result.{result_ok}
 
 -- in a valid state, the next call of a process is well-formed
-callable : (s : State) (pid : ℕ) (me : Process) (call : Call) → IsValid s → process_at s pid ≡ Some me → next me ≡ calls_for call → is_call call ≡ true
+pub callable : (s : State) (pid : ℕ) (me : Process) (call : Call) → IsValid s → process_at s pid ≡ Some me → next me ≡ calls_for call → is_call call ≡ true
 callable s pid me call whole at is = subst (IsGoodNext me) is (good-next me (whole.processes.running pid me at))
 
 -- an instruction inside a process keeps its ranges, its open files and its references
@@ -66,11 +68,6 @@ module _ (s t : State) (pid : ℕ) where
   registered-valid Register whole made = moved-valid (λ me after. next me ≡ inside after) stays-running whole made
   registered-valid (AtCall call) whole same = subst IsValid (sym same.1) whole
 
-  pub registered-callable : (step_or_fetch : Fetched) → IsValid s → IsRegistered step_or_fetch pid s t → IsCallable step_or_fetch
-  registered-callable Gone whole same = tt
-  registered-callable Register whole made = tt
-  registered-callable (AtCall call) whole same = callable s pid same.0.0 (call_of call) whole same.0.1 same.0.2
-
   pub registered-tree : (step_or_fetch : Fetched) → IsRegistered step_or_fetch pid s t → t.tree ≡ s.tree
   registered-tree Gone same = ap (λ (x : State). x.tree) same.1
   registered-tree Register made = moved-tree (λ me after. next me ≡ inside after) made
@@ -85,11 +82,15 @@ module _ (s t : State) (pid : ℕ) where
   passed-tree zero same = ap (λ (x : State). x.tree) same
   passed-tree (suc n) made = moved-tree (Passes (suc n)) made
 
--- a fetched call is well-formed
-pub fetched-callable : (s : State) (pid : ℕ) (came : Fetched) → IsValid s → IsFetched came (process_at s pid) → IsCallable came
-fetched-callable s pid Gone whole is = tt
-fetched-callable s pid Register whole is = tt
-fetched-callable s pid (AtCall call) whole is = callable s pid is.0 (call_of call) whole is.1 is.2
+-- a call that was answered leaves a valid state
+pub answered-valid : (s new : State) (pid : ℕ) (call : Call) (a : Answer) → is_call call ≡ true → IsValid s → answer program_of s pid call ≡ answered new a → IsValid new
+answered-valid s new pid call a good whole is = subst IsValid (ap (λ (x : Answered). x.after) is) (call-keeps_valid program_of program_of-encodes s pid call good whole)
+
+-- so does one that was answered or not made
+pub called-valid : (s new : State) (pid : ℕ) (call : Call) (r : Result Answer StepFault) → is_call call ≡ true → IsValid s
+    → IfOk r (λ a. answer program_of s pid call ≡ answered new a) → OnErr r (new ≡ s) → IsValid new
+called-valid s new pid call (Ok a) good whole is same = answered-valid s new pid call a good whole is
+called-valid s new pid call (Err fault) good whole is same = subst IsValid (sym same) whole
 
 -- at most one instruction was carried out, and at least one because one was next: so exactly one
 pub registered-one : (s t : State) (pid n : ℕ) → RegisterNext (process_at s pid) → n ≤ 1 → PassesInside n pid s t → (n < 1 → AwaitsCall (process_at t pid)) → StepsInside s pid t

@@ -1,6 +1,7 @@
--- Lemmas about the kernel: CallAnswers (from the result of a call, by its promises, to its answer), StatesAfterCalls
+-- Lemmas about calls: CallAnswers (from the result of a call, by its promises, to its answer), StatesAfterCalls
 -- (the state after a call), WaitBlocking (whether a wait would block), LiveCallers (a process stays live after a call
--- on paths), ExecveSteps (execve), ExecveOutcomes (the outcomes of an execve that loads a program), FirstStates.
+-- on paths), ExecveSteps (execve), ExecveOutcomes (the outcomes of an execve that loads a program), FirstStates
+-- (the first state, and the states after an instruction and after a call).
 pub mod FirstStates
 pub mod CallAnswers
 pub mod ExecveSteps

@@ -1,5 +1,4 @@
 pub mod Calls
-pub mod Kernel
 pub mod Loading
 pub use Rattle.pv_audit.specs as OfAudit
 pub use Rattle.pv_calls_path.specs as OfCallsPath

@@ -193,8 +193,7 @@ fn make_allowed_call<L: Lookup + Drop>(
 ///
 /// `NoMemory`, if there is no memory for the program of an execve(2), which would otherwise have succeeded or failed
 /// with `ENOEXEC`. The state is then unchanged.
-#[inline(always)]
-pub(crate) fn make_call<L: Lookup + Drop>(
+pub fn make_call<L: Lookup + Drop>(
     alloc: Global,
     system: &mut System<L>,
     pid: u32,
@@ -205,6 +204,7 @@ pub(crate) fn make_call<L: Lookup + Drop>(
     requires agrees { L.agrees system.old.lookup (find_entry system.old.parts.tree) }
     ensures answered { IfOk result (λ a. answer program_of system.old.parts pid (call_of call.entry)
         ≡ answered system.new.parts a) }
+    ensures whole { IsValid system.new.parts }
     ensures agrees { L.agrees system.new.lookup (find_entry system.new.parts.tree) }
     ensures unchanged { OnErr result (system.new.parts ≡ system.old.parts) }
     ensures memory { IfErr result (λ _. LoadsProgram system.old.parts pid (call_of call.entry)) }

@@ -7,3 +7,4 @@ pub mod Opening
 pub mod Reached
 pub mod Starting
 pub use Rattle.pv_calls_plain.specs as OfCallsPlain
+pub use Rattle.pv_namei.specs as OfNamei

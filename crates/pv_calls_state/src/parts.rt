@@ -1,7 +1,8 @@
 //! The state of the machine: its tree, its open files and its processes.
-ghost use Rattle.std.specs.Prelude.{◌≡◌, IfOk, OnErr, OnOk, IsSome, Some, option_copied, option_map};
+ghost use Rattle.std.specs.Prelude.{◌≡◌, ◌≤◌, IfOk, OnErr, OnOk, IsSome, Some, length, option_copied, option_map};
 ghost use Rattle.pv_files.specs.Counted.{IsCounted};
-ghost use Rattle.pv_model.specs.Machine.{collect, first_state, process_at};
+ghost use Rattle.pv_model.specs.declared.limits.TheConstants.{BUFFER};
+ghost use Rattle.pv_model.specs.Machine.{buffer_of, collect, first_state, process_at};
 ghost use Rattle.pv_calls_state.specs.Counts.{processes_of};
 ghost use Rattle.pv_procs.specs.Parts.{record_of};
 ghost use Rattle.pv_procs.specs.ProcessTable.{IsProcessTable};
@@ -127,5 +128,17 @@ impl Parts {
         ensures { option_map record_of (process_at self.now pid) ≡ option_copied result }
     {
         self.processes.live_record(pid)
+    }
+
+    /// Returns the 4,096 bytes of a process's buffer, or no bytes if the process is not live. The bytes of an outcome
+    /// are at the front of the buffer.
+    pub fn buffer(&self, pid: u32) -> &[u8]
+        ensures value { result.now ≡ buffer_of (process_at self.now pid) }
+        ensures size { length result.now ≤ BUFFER }
+    {
+        match self.live_record(pid) {
+            Some(record) => record.context.buffer(),
+            None => &[],
+        }
     }
 }

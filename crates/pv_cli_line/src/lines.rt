@@ -1,4 +1,5 @@
 //! The lines of an explanation, each of which begins with two spaces.
+use pv_streams::escape;
 use std::alloc::{AllocError, Global};
 
 // Appends a line.
@@ -9,13 +10,13 @@ pub(crate) fn push_line(out: &mut Vec<u8>, words: &str) -> Result<(), AllocError
 }
 
 // Appends bytes of the input. A byte that is not from 20 to 7E is shown by its number.
-pub(crate) fn push_bytes(alloc: Global, out: &mut Vec<u8>, bytes: &[u8]) -> Result<(), AllocError> {
+fn push_bytes(out: &mut Vec<u8>, bytes: &[u8]) -> Result<(), AllocError> {
     for byte in bytes {
         let byte = *byte;
         if matches!(byte, b' '..=b'~') {
             out.push(byte)?;
         } else {
-            out.extend_from_slice(format!(in alloc; "\\x{byte:02x}")?.as_bytes())?;
+            out.extend_from_slice(&escape(byte))?;
         }
     }
     Ok(())
@@ -33,7 +34,7 @@ pub(crate) fn push_excerpt(
     let mut shown = Vec::new(alloc);
     for byte in bytes {
         let mut more = Vec::new(alloc);
-        push_bytes(alloc, &mut more, &[*byte])?;
+        push_bytes(&mut more, &[*byte])?;
         if shown.len().saturating_add(more.len()) > EXCERPT {
             out.extend_from_slice(&shown)?;
             return out.extend_from_slice(b"...");

@@ -5,16 +5,14 @@ ghost use Rattle.pv_compare.specs.Pairs.{AreCounted, IsCompared, IsSearchInvaria
 ghost use Rattle.pv_compare.specs.Plan.{compared_pairs};
 ghost use Rattle.pv_model.specs.Machine.{comparison, answer_bytes, answer_line_bytes, program_of};
 ghost use Rattle.pv_model.specs.Answers.Compare.{alike_text, comparison_lines, pairs_line};
-ghost use Rattle.pv_explore.specs.OfSession.Running.{FailsBy};
-ghost use Rattle.pv_streams.specs.Sinks.{Writes, WritesOr};
+ghost use Rattle.pv_streams.specs.Sinks.{FailsBy, Writes, WritesOr};
 
 use crate::differences::Difference;
 use crate::pairs::Pairs;
-use pv_explore::answers::{Fragment, Line, Plain};
-use pv_explore::session::Stop;
+use pv_explore::answers::Line;
 use pv_explore::{Count, FirstMachine, Progress, Witness};
 use pv_model::StepFault;
-use pv_streams::{Failed, Sink};
+use pv_streams::{Failed, Fragment, Plain, Sink, Stop};
 use std::alloc::Global;
 
 /// The result of a comparison.

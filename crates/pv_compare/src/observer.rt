@@ -9,7 +9,6 @@ use pv_explore::answers::{is_pledge, is_unveil};
 use pv_explore::session::Session;
 use pv_explore::{Observer, TraceLines};
 use pv_model::StepFault;
-use pv_procs::Fetched;
 use pv_script::CallTexts;
 use std::alloc::{AllocError, Global};
 
@@ -23,9 +22,9 @@ fn is_restraint(session: &Session, pid: u32) -> bool
     ensures { result ≡ is_restraint (process_at session.now pid) }
 {
     let mut texts = CallTexts::new();
-    match session.fetch(pid, &mut texts) {
-        Fetched::Call(call) => is_pledge(call) || is_unveil(call),
-        Fetched::Register | Fetched::Gone => false,
+    match session.next_call(pid, &mut texts) {
+        Some(call) => is_pledge(call) || is_unveil(call),
+        None => false,
     }
 }
 

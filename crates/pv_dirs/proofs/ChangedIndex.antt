@@ -17,7 +17,8 @@ use Rattle.pv_dirs.proofs.EntryAddition.{written_end}
 use Rattle.pv_dirs.proofs.FileContents.{IsContent}
 use Rattle.pv_dirs.proofs.SortedEntries.{by_name, absent_from}
 use Rattle.pv_dirs.proofs.IndexedEntries.{leads-alike}
-use Rattle.pv_dirs.proofs.MappedNumbers.{each-with_number, each-without_number, at_number-none}
+use Rattle.pv_dirs.proofs.MappedNumbers.{each-with_number, each-without_number}
+use Rattle.pv_inodes.proofs.NumberMaps.{at_number-none}
 use Rattle.pv_dirs.proofs.EntryRemoval.{shortened, shortened_is}
 use Rattle.pv_dirs.proofs.SlotBytes.{length-slot_entries, get_or-slot_entries, closed_bytes, slot_at-append_before, slot_at-append_last, slot_count-append, slot_at-closed_hole, slot_at-closed_other, slot_count-closed, slot_count-old}
 use Rattle.pv_dirs.proofs.EqualParts.{none_counted}

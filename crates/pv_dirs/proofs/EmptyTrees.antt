@@ -6,7 +6,8 @@ use Rattle.std.proofs.lemmas.List.{length-replicate}
 use Rattle.pv_model.specs.Machine.{inode_blocks, greatest_blocks, Numbered, at_number, present}
 use Rattle.pv_inodes.specs.Files.{Contained, Files, room_of, total_room}
 use Rattle.pv_dirs.specs.Trees.{node_of_contained, tree_of_files, IsHolding}
-use Rattle.pv_dirs.proofs.MappedNumbers.{at_number-none, present-none, map-none}
+use Rattle.pv_dirs.proofs.MappedNumbers.{present-none, map-none}
+use Rattle.pv_inodes.proofs.NumberMaps.{at_number-none}
 use Rattle.pv_dirs.proofs.FileTrees.{nodes-tree_of_files, inodes-tree_of_files}
 
 module _ (f : Files) (k : ℕ) (none : f.nodes ≡ None ∷ replicate k None) where

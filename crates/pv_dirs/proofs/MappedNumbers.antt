@@ -63,11 +63,6 @@ module _ {X : Type 0} where
 
 -- ---- maps without values
 
-pub at_number-none : {X : Type 0} (k n : ℕ) → at_number {X = X} (replicate k None) n ≡ None
-at_number-none zero n = refl
-at_number-none (suc k) zero = refl
-at_number-none (suc k) (suc n) = at_number-none k n
-
 pub present-none : {X : Type 0} (k : ℕ) → present {X = X} (replicate k None) ≡ []
 present-none zero = refl
 present-none (suc k) = present-none k

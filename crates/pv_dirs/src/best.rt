@@ -152,12 +152,20 @@ pub(crate) fn has_mark(mark: Option<Mark>, bytes: &[u8]) -> bool
     }
 }
 
+/// Returns whether `name` precedes the best name so far, if there is one, and follows the last one.
+#[inline(always)]
+pub(crate) fn is_next(name: &[u8], best: Option<&[u8]>, last: Option<&[u8]>) -> bool
+    ensures { result ≡ (is_before name.now (option_copied best.entry) && is_past (option_copied last.entry) name.now) }
+{
+    is_before(name, best) && is_past(last, name)
+}
+
 // Returns whether `name` is a better name: it precedes the best name so far and follows the last one.
 #[inline(always)]
 pub(crate) fn is_better(name: &[u8], best: &Best, last: Option<&[u8]>) -> bool
     ensures { result ≡ (is_before name.now best.now && is_past (option_copied last.entry) name.now) }
 {
-    is_before(name, best.as_slice()) && is_past(last, name)
+    is_next(name, best.as_slice(), last)
 }
 
 // Replaces the best name by the name in a slot if that is better. In a long directory most names lack the mark, so one

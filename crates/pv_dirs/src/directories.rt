@@ -1,5 +1,5 @@
 //! The directories of an image.
-ghost use Rattle.std.specs.Prelude.{◌≡◌, ◌+◌, ◌-◌, ◌*◌, ◌%◌, ◌<◌, ◌≤◌, ◌↔◌, suc, min, false, [], ◌++◌, length, take, drop, replicate, vec_len, All, IsTrue, None, Some, IsSome, IsNone, IfNone, IfSome, IfOk, OnOk, OnErr, option_map};
+ghost use Rattle.std.specs.Prelude.{◌≡◌, ℕ, ◌+◌, ◌-◌, ◌*◌, ◌%◌, ◌<◌, ◌≤◌, ◌↔◌, suc, min, true, false, [], ◌++◌, length, take, drop, replicate, vec_len, All, IsTrue, None, Some, IsSome, IsNone, IfNone, IfSome, IfOk, OnOk, OnErr, option_map};
 ghost use Rattle.std.specs.Option.{option_copied};
 ghost use Rattle.pv_model.specs.declared.limits.TheConstants.{BLOCK};
 ghost use Rattle.pv_model.specs.Machine.{next_name, size_of, inode_blocks, greatest_blocks, greatest_length, node_at, entries_at, is_directory_at, find_entry, is_name, with_node, with_entry, without_entry, new_number};
@@ -120,6 +120,23 @@ impl Directories {
         self.inodes.free()
     }
 
+    /// Returns a number that no node exceeds.
+    pub fn bound(&self) -> u16
+        ensures { (k : ℕ) → result < k → node_at self.now k ≡ None }
+    {
+        self.inodes.bound()
+    }
+
+    /// Returns true only if a node is the same in two trees.
+    pub fn is_same(&self, other: &Directories, inode: u16) -> bool
+        requires used { IsSome (node_at self.now inode) }
+        requires also_used { IsSome (node_at other.now inode) }
+        ensures { result ≡ true → node_at self.now inode ≡ node_at other.now inode }
+    {
+        let same_version = self.version() == other.version();
+        same_version && self.inodes.is_same(&other.inodes, inode)
+    }
+
     /// Returns whether `inode` is the number of a node.
     pub fn is_used(&self, inode: u16) -> bool
         ensures { IsTrue result ↔ IsSome (node_at self.now inode) }
@@ -213,6 +230,20 @@ impl Directories {
             directory,
         };
         dir.next_entry(&self.index, last, before)
+    }
+
+    /// Returns the least name of a directory, in byte order, that follows `last`, in place, with the number of its node.
+    /// Returns `None` if no name follows, or if an entry crosses a block boundary.
+    pub fn lent_after(&self, directory: u16, last: Option<&[u8]>) -> Option<(&[u8], u16)>
+        requires { IsTrue (is_directory_at self.now directory) }
+        ensures name { IfSome result (λ e. next_name (option_copied last.entry) (entries_at self.now directory) ≡ Some e.0.now) }
+        ensures node { IfSome result (λ e. find_entry self.now directory e.0.now ≡ Some e.1) }
+    {
+        let dir = Dir {
+            inodes: &self.inodes,
+            directory,
+        };
+        dir.lent_after(last)
     }
 
     /// Returns the least name of a directory, in byte order, that names `node` and follows `last`. If there is no

@@ -10,8 +10,8 @@ ghost use Rattle.pv_dirs.specs.Dirs.{slots_in, name_in, any_name_in, directory_e
 ghost use Rattle.pv_dirs.specs.Listing.{better_of, IsNextOf, IsShared};
 ghost use Rattle.pv_dirs.specs.Slots.{in_order, IsDistinct};
 
-use crate::best::{Best, Mark, has_mark, improve, is_better, mark_of};
-use crate::dir::{Dir, rest_of};
+use crate::best::{Best, Mark, has_mark, improve, is_better, is_next, mark_of};
+use crate::dir::{Dir, name_in_run, rest_of};
 use crate::index::Index;
 use pv_model::Name;
 
@@ -60,6 +60,30 @@ impl<'a> Dir<'a> {
             }
         }
         best.into_name()
+    }
+
+    /// Returns the least name that follows `last`, in place, with the number of its node. Returns `None` if no name follows,
+    /// or if a slot crosses a block boundary.
+    pub(crate) fn lent_after(&self, last: Option<&[u8]>) -> Option<(&'a [u8], u16)>
+        requires distinct { IsDistinct (directory_entries self.now) }
+        ensures name { IfSome result (λ e. next_name (option_copied last.entry) (in_order (directory_entries self.now)) ≡ Some e.0.now) }
+        ensures node { IfSome result (λ e. find (slice_cmp nat_cmp) e.0.now (directory_entries self.now) ≡ Some e.1) }
+    {
+        let length = self.inodes.version().layout().slot_length;
+        let mut best: Option<&'a [u8]> = None;
+        let mut slot = 0;
+        let mut left: &[u8] = &[];
+        for k in 0..self.count() {
+            let run = self.run_at(k, left);
+            let name = name_in_run(run, length)?;
+            if is_next(name, best, last) {
+                best = Some(name);
+                slot = k;
+            }
+            left = rest_of(run, length);
+        }
+        let name = best?;
+        Some((name, self.number(slot)))
     }
 
     /// Returns the least name that follows `last` among the slots with the inode number `node`. Few slots have it, so

@@ -4,7 +4,8 @@
 -- - UnknownWords (of pledge), ErrorLines (the reason of an error in both states), TrueReasons, WorkedErrors
 -- - EntryLevels (the level whose entry governs a place), AddedLines (the lines added to a step), AllowedLines (their
 --   text), TrueLines (their statements are true)
--- - StepRecords (the number and line of one step, and the records after it), StepSequences (several steps)
+-- - StepRecords (the number and line of one step, and the records after it), StepSequences (several steps,
+--   and an explained run)
 pub mod AddedLines
 pub mod AllowedLines
 pub mod ErrorLines

@@ -1,29 +1,26 @@
--- The lines of several steps, with one more step or one more turn.
-use Rattle.std.proofs.Common.{◌≡◌, ◌<◌, ◌≤◌, ◌+◌, ◌-◌, ◌∙◌, ℕ, suc, List, [], ◌∷◌, ◌++◌, length, take, drop, get_or, Option, None, Some, Ok, Err, refl, ap, ap₂, sym, subst, append_assoc, arith}
-use Rattle.std.specs.Prelude.{replicate}
+-- The lines of several steps, and of the steps of an explained run.
+use Rattle.std.proofs.Common.{◌≡◌, ◌<◌, ◌+◌, ◌^◌, ◌∙◌, ℕ, List, [], ◌∷◌, ◌++◌, length, Option, None, Some, Ok, Err, refl, ap, ap₂, sym, subst, ⊎_elim, append_assoc, arith}
 use Rattle.std.proofs.lemmas.Grind.{flat_map-append}
-use Rattle.std.proofs.lemmas.List.{take-append-drop, append-nil, length-replicate, replicate-append-replicate}
-use Rattle.pv_model.specs.Machine.{explained_step, settings_next, AnswerLine, answer_bytes, answer_line_bytes, locations, Settings, settings_of, Bytes, program_of, Process, State, process_at, Schedule, run, step, steps_of}
+use Rattle.std.proofs.lemmas.List.{append-nil}
+use Rattle.pv_model.specs.Machine.{explained_step, settings_next, AnswerLine, answer_bytes, answer_line_bytes, locations, Settings, settings_of, Bytes, program_of, Process, State, process_at, run, step}
 use Rattle.pv_model.specs.Answers.Explain.{explained_of, explain_from, explain_lines, set_text, step_line}
-use Rattle.pv_model.proofs.RunComposition.{run-append}
 use Rattle.pv_laws_states.specs.States.{IsValid}
 use Rattle.pv_laws_states.proofs.ValidBySteps.{step-keeps_valid}
 use Rattle.pv_laws_access.proofs.ProcessesAfterEnds.{valid-in_order}
 use Rattle.pv_step_lines.proofs.OfLawsRuns.ProgramRanges.{program_of-encodes}
-use Rattle.pv_step_lines.specs.OfSession.declared.session.Stop.{Stop}
-use Rattle.pv_step_lines.specs.OfSession.declared.session.Stop.TheVariants.{Memory, Write}
-use Rattle.pv_step_lines.specs.OfSession.Stopping.{NextLoads}
-use Rattle.pv_step_lines.proofs.OfSession.TurnRuns.{replicate_more, steps_more}
-use Rattle.pv_step_lines.specs.OfSession.Running.{FailsBy}
-use Rattle.pv_streams.specs.Sinks.{and_all, Writes, WritesOr}
-use Rattle.pv_streams.proofs.OutputTexts.{written_both, written_none}
-use Rattle.pv_step_lines.proofs.OfAnswers.WriterContracts.{or_as, or_both, or_longer, or_written, writes_as, writes_both, writes_none, writes_ok}
+use Rattle.pv_streams.specs.declared.stop.Stop.{Stop}
+use Rattle.pv_step_lines.specs.OfSession.Observing.{Observed, AreMade, AreStopped}
+use Rattle.pv_step_lines.proofs.OfSession.StoppedRuns.{stops-after, stops-before}
+use Rattle.pv_streams.specs.Sinks.{FailsBy, Writes, WritesOr}
+use Rattle.pv_streams.proofs.WriterContracts.{or_as, or_both, or_longer, writes_as, writes_both, writes_none}
 use Rattle.pv_model.specs.declared.stream.Sink.{Ghosts as Writing}
 use Rattle.pv_model_questions.specs.ExplainMore.{explain_adding, source_in}
+use Rattle.pv_explain.specs.declared.explain.Explaining.{Explaining}
 use Rattle.pv_explain.specs.declared.extra.Extra.{Extra}
 use Rattle.pv_explain.specs.Errors.{AddsNothingElse, added_by, explained_lines, no_lines}
+use Rattle.pv_explain.specs.Explaining.{ExplainsStep, StopsExplaining}
 use Rattle.pv_explain.specs.Keeping.{Agree}
-use Rattle.pv_explain.specs.Steps.{explained_step_lines, steps_lines, settings_through, StopsExplained}
+use Rattle.pv_explain.specs.Steps.{explained_step_lines, steps_lines, steps_text, StopsExplained}
 use Rattle.pv_explain.proofs.AddedLines.{gone-adds}
 use Rattle.pv_explain.proofs.EntryOrigins.{next-same}
 
@@ -65,28 +62,6 @@ module _ (extra : Extra) where
       ap₂ (λ (xs ys : List AnswerLine). xs ++ ys) (step-same s pid a b same k)
       (steps-same pids (k + 1) (step program_of s pid).after (settings_next program_of s pid a) (settings_next program_of s pid b) (valid-after s pid whole) (next-same s pid a b (valid-in_order s whole) same))
 
-  through-same : (pids : List ℕ) (s : State) (a b : Settings) → IsValid s → Agree s a b → Agree (run program_of pids s).final (settings_through a pids s) (settings_through b pids s)
-  through-same [] s a b whole same = same
-  through-same (pid ∷ pids) s a b whole same =
-      through-same pids (step program_of s pid).after (settings_next program_of s pid a) (settings_next program_of s pid b) (valid-after s pid whole) (next-same s pid a b (valid-in_order s whole) same)
-
-  -- ---- some steps, followed by others
-
-  steps-append : (xs ys : List ℕ) (k : ℕ) (a : Settings) (s : State)
-      → steps_lines extra k a (xs ++ ys) s ≡ steps_lines extra k a xs s ++ steps_lines extra (k + length xs) (settings_through a xs s) ys (run program_of xs s).final
-  steps-append [] ys k a s = let same : k ≡ k + 0 = omega arith in ap (λ n. steps_lines extra n a ys s) same
-  steps-append (x ∷ xs) ys k a s =
-      let after : State = (step program_of s x).after in
-      let next : Settings = settings_next program_of s x a in
-      let same : k + 1 + length xs ≡ k + suc (length xs) = omega arith in
-      ap (λ (ls : List AnswerLine). explained_step_lines extra k a s x ++ ls) (steps-append xs ys (k + 1) next after)
-      ∙ sym (append_assoc (explained_step_lines extra k a s x) (steps_lines extra (k + 1) next xs after) _)
-      ∙ ap (λ n. (explained_step_lines extra k a s x ++ steps_lines extra (k + 1) next xs after) ++ steps_lines extra n (settings_through next xs after) ys (run program_of xs after).final) same
-
-  through-append : (xs ys : List ℕ) (a : Settings) (s : State) → settings_through a (xs ++ ys) s ≡ settings_through (settings_through a xs s) ys (run program_of xs s).final
-  through-append [] ys a s = refl
-  through-append (x ∷ xs) ys a s = through-append xs ys (settings_next program_of s x a) (step program_of s x).after
-
   -- the lines of steps, followed by the locations of processes
   explain-is : (pids : List ℕ) (k : ℕ) (a : Settings) (s : State) → explain_adding (added_by extra) k a pids s ≡ steps_lines extra k a pids s ++ locations (run program_of pids s).final
   explain-is [] k a s = refl
@@ -105,163 +80,61 @@ module _ (extra : Extra) where
   pub lines-text : (pids : List ℕ) (s : State) → answer_bytes (steps_lines extra 1 [] pids s) ++ answer_bytes (locations (run program_of pids s).final) ≡ answer_bytes (explained_lines extra pids s)
   lines-text pids s = sym (ap answer_bytes (lines-is pids s) ∙ answers-append (steps_lines extra 1 [] pids s) (locations (run program_of pids s).final))
 
-  -- ---- steps that were made, and steps after them
+-- ---- the steps of an explained run
 
-  -- steps of these processes were made, their lines are written, and the records of live processes are those of the
-  -- definitions
-  pub record IsMadeUpTo {W : Type 0} (sink : Writing W) (k : ℕ) (a : Settings) (made : List ℕ) (s now : State) (preserved : Settings) (before after : W) : Type 0 where
-    pub left : now ≡ (run program_of made s).final
-    pub as_written : Writes {T = Unit {0}} {E = Unit {0}} sink (answer_bytes (steps_lines extra k a made s)) before after (Ok tt)
-    pub keeps : Agree now preserved (settings_through a made s)
+-- the text of steps from here
+abbrev text_from : {W : Type 0} → Observed Explaining W → List ℕ → State → Bytes
+text_from x = steps_text x.observer.extra x.observer.number x.observer.explainer
 
-  module _ {W : Type 0} (sink : Writing W) (k : ℕ) (a : Settings) (made : List ℕ) (s now : State) (preserved : Settings) (before mid : W) (first : IsMadeUpTo sink k a made s now preserved before mid) (whole : IsValid now) where
-    -- the lines of the following steps, from the records
-    following : (pids : List ℕ) → steps_lines extra (k + length made) preserved pids now ≡ steps_lines extra (k + length made) (settings_through a made s) pids (run program_of made s).final
-    following pids =
-        steps-same pids (k + length made) now preserved (settings_through a made s) whole first.keeps
-        ∙ ap (λ t. steps_lines extra (k + length made) (settings_through a made s) pids t) first.left
+module _ {W : Type 0} (sink : Writing W) where
+  -- a step, and the steps after it
+  module _ (pid : ℕ) (x y : Observed Explaining W) (made : ExplainsStep sink pid x y) (fits : x.observer.number + 1 < 2 ^ 64) where
+    abbrev first : List AnswerLine
+    first = explained_step_lines x.observer.extra x.observer.number x.observer.explainer x.state pid
 
-    both : (pids : List ℕ) → steps_lines extra k a made s ++ steps_lines extra (k + length made) preserved pids now ≡ steps_lines extra k a (made ++ pids) s
-    both pids = ap (λ (ls : List AnswerLine). steps_lines extra k a made s ++ ls) (following pids) ∙ sym (steps-append made pids k a s)
+    abbrev next : Settings
+    next = settings_next program_of x.state pid x.observer.explainer
 
-    text-both : (pids : List ℕ) → answer_bytes (steps_lines extra k a made s) ++ answer_bytes (steps_lines extra (k + length made) preserved pids now) ≡ answer_bytes (steps_lines extra k a (made ++ pids) s)
-    text-both pids = sym (answers-append (steps_lines extra k a made s) _) ∙ ap answer_bytes (both pids)
+    rest-same : (pids : List ℕ)
+        → steps_lines y.observer.extra y.observer.number y.observer.explainer pids y.state ≡ steps_lines x.observer.extra (x.observer.number + 1) next pids (step program_of x.state pid).after
+    rest-same pids =
+        let number : y.observer.number ≡ x.observer.number + 1 = omega (arith, made.number) in
+        let whole : IsValid y.state = subst IsValid (sym made.after) (valid-after x.observer.extra x.state pid made.whole) in
+        ap (λ e. steps_lines e y.observer.number y.observer.explainer pids y.state) made.same
+        ∙ ap (λ n. steps_lines x.observer.extra n y.observer.explainer pids y.state) number
+        ∙ steps-same x.observer.extra pids (x.observer.number + 1) y.state y.observer.explainer next whole made.keeps
+        ∙ ap (λ t. steps_lines x.observer.extra (x.observer.number + 1) next pids t) made.after
 
-    -- if the following steps stop, all steps stop
-    pub more-begun : {U : Type 0} (pids others : List ℕ) (after : W) (stop : Stop) → WritesOr {T = U} sink FailsBy (answer_bytes (steps_lines extra (k + length made) preserved pids now)) mid after (Err stop)
-        → WritesOr {T = U} sink FailsBy (answer_bytes (steps_lines extra k a ((made ++ pids) ++ others) s)) before after (Err stop)
-    more-begun pids others after stop begun =
-        or_as (sym (ap answer_bytes (steps-append (made ++ pids) others k a s) ∙ answers-append (steps_lines extra k a (made ++ pids) s) _))
-        (or_longer _ (or_as (text-both pids) (or_both first.as_written begun)))
+    text-both : (pids : List ℕ) → answer_bytes first ++ text_from y pids y.state ≡ text_from x (pid ∷ pids) x.state
+    text-both pids = sym (answers-append x.observer.extra first _) ∙ ap (λ (ls : List AnswerLine). answer_bytes (first ++ ls)) (rest-same pids)
 
-    -- all following steps were made
-    pub more-made : {U : Type 0} {x : U} (pids : List ℕ) (new : State) (then_preserved : Settings) (after : W) → new ≡ (run program_of pids now).final
-        → WritesOr sink FailsBy (answer_bytes (steps_lines extra (k + length made) preserved pids now)) mid after (Ok x) → Agree new then_preserved (settings_through preserved pids now)
-        → IsMadeUpTo sink k a (made ++ pids) s new then_preserved before after
-    more-made {x = x} pids new then_preserved after left written keeps = record {
-      left =
-          left ∙ ap (λ t. (run program_of pids t).final) first.left ∙ sym (ap (λ r. r.final) (run-append program_of made pids s));
-      as_written = writes_as (text-both pids) (writes_ok (writes_both {E = Stop} {x = tt} first.as_written (or_written {x = x} {y = x} written)));
-      keeps = λ q lives.
-          keeps q lives
-          ∙ through-same pids now preserved (settings_through a made s) whole first.keeps q (subst (λ (t : State). Rattle.pv_explain.specs.Keeping.IsLive t q) left lives)
-          ∙ ap (λ (t : State). settings_of (settings_through (settings_through a made s) pids t) q) first.left
-          ∙ ap (λ all. settings_of all q) (sym (through-append made pids a s));
-    }
+  -- the text of the steps is written
+  pub explained : (pids : List ℕ) (x z : Observed Explaining W) → AreMade (ExplainsStep sink) pids x z → x.observer.number + length pids < 2 ^ 64
+      → Writes {T = Unit {0}} {E = Unit {0}} sink (text_from x pids x.state) x.out z.out (Ok tt)
+  explained [] x z same fits = subst (λ (t : Observed Explaining W). Writes {T = Unit {0}} {E = Unit {0}} sink [] x.out t.out (Ok tt)) (sym same) writes_none
+  explained (pid ∷ pids) x z made fits =
+      let y : Observed Explaining W = made.0 in
+      writes_as (text-both pid x y made.1 (omega arith) pids) (writes_both made.1.written (explained pids y z made.2 (omega (arith, made.1.number))))
 
-    -- out of memory in a following step
-    pub more-stopped : (pids others : List ℕ) (new : State) (after : Option Bytes) (stop : Stop) → StopsExplained extra stop (k + length made) preserved pids now new (sink.written mid) after
-        → StopsExplained extra stop k a ((made ++ pids) ++ others) s new (sink.written before) after
-    more-stopped pids others new after Memory at = record {
-      made = made ++ at.made;
-      pid = at.pid;
-      rest = at.rest ++ others;
-      parts =
-          ap (λ ps. (made ++ ps) ++ others) at.parts ∙ ap (λ ps. ps ++ others) (sym (append_assoc made at.made (at.pid ∷ at.rest)))
-          ∙ append_assoc (made ++ at.made) (at.pid ∷ at.rest) others;
-      left = at.left ∙ ap (λ t. (run program_of at.made t).final) first.left ∙ sym (ap (λ r. r.final) (run-append program_of made at.made s));
-      as_written = written_both (answer_bytes (steps_lines extra k a made s)) _ _ _ _ first.as_written.whole at.as_written ∙ ap (and_all (sink.written before)) (text-both at.made);
-      loads = at.loads;
-    }
-    more-stopped pids others new after Write at = tt
+  module _ (stop : Stop) where
+    -- if a step could not be written, a prefix of the text of all steps is written
+    pub explain-begun : (pids : List ℕ) (x z : Observed Explaining W) → AreStopped (ExplainsStep sink) (StopsExplaining sink stop) pids x z → x.observer.number + length pids < 2 ^ 64
+        → WritesOr {T = Unit {0}} sink FailsBy (text_from x pids x.state) x.out z.out (Err stop)
+    explain-begun [] x z none fits = absurd none
+    explain-begun (pid ∷ pids) x z stopped fits =
+        ⊎_elim
+        (λ it. or_as (sym (answers-append x.observer.extra (explained_step_lines x.observer.extra x.observer.number x.observer.explainer x.state pid) _)) (or_longer _ it.begun))
+        (λ it. or_as (text-both pid x it.0 it.1 (omega arith) pids) (or_both it.1.written (explain-begun pids it.0 z it.2 (omega (arith, it.1.number)))))
+        stopped
 
-  pub none-made : {W : Type 0} (sink : Writing W) (k : ℕ) (a : Settings) (s now : State) (preserved : Settings) (written : W) → now ≡ s → preserved ≡ a → IsMadeUpTo sink k a [] s now preserved written written
-  none-made sink k a s now preserved written same all = record {
-    left = same;
-    as_written = writes_none;
-    keeps = λ q lives. ap (λ (x : Settings). settings_of x q) all;
-  }
-
-  -- out of memory at the next step
-  pub stops-here : (k : ℕ) (a : Settings) (s now : State) (pid : ℕ) (written : Option Bytes) → now ≡ s → NextLoads s pid → (e : Stop) → e ≡ Memory
-      → StopsExplained extra e k a (pid ∷ []) s now written written
-  stops-here k a s now pid written same loads e memory = rw memory (record {
-    made = [];
-    pid = pid;
-    rest = [];
-    parts = refl;
-    left = same;
-    as_written = written_none written;
-    loads = subst (λ (t : State). NextLoads t pid) (sym same) loads;
-  })
-
-  -- ---- one more step of a turn
-
-  module _ {W : Type 0} (sink : Writing W) (k : ℕ) (a : Settings) (pid i : ℕ) (s now : State) (preserved : Settings) (before mid : W) (first : IsMadeUpTo sink k a (replicate i pid) s now preserved before mid) (whole : IsValid now) where
-    abbrev numbered : ℕ
-    numbered = k + length (replicate i pid)
-
-    number : k + i ≡ numbered
-    number = ap (λ n. k + n) (sym (length-replicate i pid))
-
-    one-line : explained_step_lines extra (k + i) preserved now pid ≡ steps_lines extra numbered preserved (pid ∷ []) now
-    one-line = ap (λ n. explained_step_lines extra n preserved now pid) number ∙ sym (append-nil (explained_step_lines extra numbered preserved now pid))
-
-    one-more : replicate i pid ++ pid ∷ [] ≡ replicate (i + 1) pid
-    one-more = let same : suc i ≡ i + 1 = omega arith in sym (replicate_more i pid) ∙ ap (λ n. replicate n pid) same
-
-    pub turn-on : {U : Type 0} {x : U} (new : State) (then_preserved : Settings) (after : W) → new ≡ (step program_of now pid).after
-        → WritesOr sink FailsBy (answer_bytes (explained_step_lines extra (k + i) preserved now pid)) mid after (Ok x) → Agree new then_preserved (settings_next program_of now pid preserved)
-        → IsMadeUpTo sink k a (replicate (i + 1) pid) s new then_preserved before after
-    turn-on new then_preserved after left written keeps =
-        subst (λ (made : List ℕ). IsMadeUpTo sink k a made s new then_preserved before after) one-more
-        (more-made sink k a (replicate i pid) s now preserved before mid first whole (pid ∷ []) new then_preserved after left (or_as (ap answer_bytes one-line) written) keeps)
-
-    module _ (count : ℕ) (within : i < count) where
-      parts : (replicate i pid ++ pid ∷ []) ++ replicate (count - (i + 1)) pid ≡ replicate count pid
-      parts =
-          let all : i + suc (count - (i + 1)) ≡ count = omega (arith, within) in
-          append_assoc (replicate i pid) (pid ∷ []) (replicate (count - (i + 1)) pid)
-          ∙ replicate-append-replicate i (suc (count - (i + 1))) pid ∙ ap (λ n. replicate n pid) all
-
-      pub turn-begun : {U : Type 0} (after : W) (stop : Stop) → WritesOr {T = U} sink FailsBy (answer_bytes (explained_step_lines extra (k + i) preserved now pid)) mid after (Err stop)
-          → WritesOr {T = U} sink FailsBy (answer_bytes (steps_lines extra k a (replicate count pid) s)) before after (Err stop)
-      turn-begun after stop begun =
-          or_as (ap (λ pids. answer_bytes (steps_lines extra k a pids s)) parts)
-          (more-begun sink k a (replicate i pid) s now preserved before mid first whole (pid ∷ []) (replicate (count - (i + 1)) pid) after stop (or_as (ap answer_bytes one-line) begun))
-
-      pub turn-stopped : (new : State) (after : Option Bytes) (stop : Stop) → StopsExplained extra stop (k + i) preserved (pid ∷ []) now new (sink.written mid) after → StopsExplained extra stop k a (replicate count pid) s new (sink.written before) after
-      turn-stopped new after stop at =
-          subst (λ (pids : List ℕ). StopsExplained extra stop k a pids s new (sink.written before) after) parts
-          (more-stopped sink k a (replicate i pid) s now preserved before mid first whole (pid ∷ []) (replicate (count - (i + 1)) pid) new after stop
-          (subst (λ (n : ℕ). StopsExplained extra stop n preserved (pid ∷ []) now new (sink.written mid) after) number at))
-
-  -- ---- one more turn of a schedule
-
-  module _ {W : Type 0} (sink : Writing W) (a : Settings) (schedule : Schedule) (i : ℕ) (within : i < length schedule) (s now : State) (preserved : Settings) (before mid : W)
-      (first : IsMadeUpTo sink 1 a (steps_of (take i schedule)) s now preserved before mid) (whole : IsValid now) where
-    abbrev entry : ℕ × ℕ
-    entry = get_or schedule i (0, 0)
-
-    abbrev turned : List ℕ
-    turned = replicate entry.1 entry.0
-
-    abbrev done : List ℕ
-    done = steps_of (take i schedule)
-
-    pub schedule-on : {U : Type 0} {x : U} (new : State) (then_preserved : Settings) (after : W) → new ≡ (run program_of turned now).final
-        → WritesOr sink FailsBy (answer_bytes (steps_lines extra (1 + length done) preserved turned now)) mid after (Ok x) → Agree new then_preserved (settings_through preserved turned now)
-        → IsMadeUpTo sink 1 a (steps_of (take (i + 1) schedule)) s new then_preserved before after
-    schedule-on new then_preserved after left written keeps =
-        subst (λ (made : List ℕ). IsMadeUpTo sink 1 a made s new then_preserved before after) (sym (steps_more schedule i within))
-        (more-made sink 1 a done s now preserved before mid first whole turned new then_preserved after left written keeps)
-
-    rest : (done ++ turned) ++ steps_of (drop (i + 1) schedule) ≡ steps_of schedule
-    rest =
-        ap (λ ps. ps ++ steps_of (drop (i + 1) schedule)) (sym (steps_more schedule i within))
-        ∙ sym (flat_map-append (λ e. replicate e.1 e.0) (take (i + 1) schedule) (drop (i + 1) schedule)) ∙ ap steps_of (take-append-drop (i + 1) schedule)
-
-    pub schedule-begun : {U : Type 0} (after : W) (stop : Stop) → WritesOr {T = U} sink FailsBy (answer_bytes (steps_lines extra (1 + length done) preserved turned now)) mid after (Err stop)
-        → WritesOr {T = U} sink FailsBy (answer_bytes (steps_lines extra 1 a (steps_of schedule) s)) before after (Err stop)
-    schedule-begun after stop begun =
-        or_as (ap (λ pids. answer_bytes (steps_lines extra 1 a pids s)) rest)
-        (more-begun sink 1 a done s now preserved before mid first whole turned (steps_of (drop (i + 1) schedule)) after stop begun)
-
-    pub schedule-stopped : (new : State) (after : Option Bytes) (stop : Stop) → StopsExplained extra stop (1 + length done) preserved turned now new (sink.written mid) after → StopsExplained extra stop 1 a (steps_of schedule) s new (sink.written before) after
-    schedule-stopped new after stop at =
-        subst (λ (pids : List ℕ). StopsExplained extra stop 1 a pids s new (sink.written before) after) rest
-        (more-stopped sink 1 a done s now preserved before mid first whole turned (steps_of (drop (i + 1) schedule)) new after stop at)
-
-    pub schedule-number : 1 + length done + entry.1 ≡ 1 + length (steps_of (take (i + 1) schedule))
-    schedule-number =
-        omega (arith, ap length (steps_more schedule i within), Rattle.std.proofs.Common.length-append done turned, length-replicate entry.1 entry.0)
+    -- out of memory stops a run only before an execve that leads to a program
+    pub explain-stopped : (pids : List ℕ) (x z : Observed Explaining W) → AreStopped (ExplainsStep sink) (StopsExplaining sink stop) pids x z → x.observer.number + length pids < 2 ^ 64
+        → StopsExplained x.observer.extra stop x.observer.number x.observer.explainer pids x.state z.state (sink.written x.out) (sink.written z.out)
+    explain-stopped [] x z none fits = absurd none
+    explain-stopped (pid ∷ pids) x z stopped fits =
+        ⊎_elim
+        (λ it. stops-before (text_from x) x.state pid stop pids z.state _ _ it.at)
+        (λ it.
+        stops-after (text_from x) x.state pid (text_from it.0) _ it.0.state it.1.after (text-both pid x it.0 it.1 (omega arith)) stop pids z.state _ _ _ it.1.written.whole
+        (explain-stopped pids it.0 z it.2 (omega (arith, it.1.number))))
+        stopped

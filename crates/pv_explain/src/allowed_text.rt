@@ -9,10 +9,8 @@ ghost use Rattle.pv_streams.specs.Sinks.{Writes};
 use crate::allowed::{AllowedWalk, AllowedWalks, AllowingEntry};
 use pv_model::{Perms, Target};
 use pv_step_lines::Origin;
-use pv_step_lines::answers::{
-    Decimal, Fragment, Letters, Line as AnswerLine, NameWords, NodeBrief, Plain,
-};
-use pv_streams::{Failed, Sink, write_whole};
+use pv_step_lines::answers::{Letters, Line as AnswerLine, NameWords, NodeBrief};
+use pv_streams::{Decimal, Failed, Fragment, Plain, Sink, write_whole};
 use pv_tree::Tree;
 
 // The origin of an entry. Nothing is written if it is unknown.

@@ -11,9 +11,9 @@ ghost use Rattle.pv_streams.specs.Sinks.{Writes};
 use crate::errors::{ErrorReason, PathPrefix, reason_of};
 use itoa::Buffer;
 use pv_model::{CallRef, Cause, Errno, Kind, Mode, Outcome, Place};
-use pv_step_lines::answers::{Decimal, Fragment, Line as AnswerLine, ModeLetters, Plain, Quoted};
+use pv_step_lines::answers::{Line as AnswerLine, ModeLetters};
 use pv_step_lines::calls_state::Parts;
-use pv_streams::{Failed, Sink, write_whole};
+use pv_streams::{Decimal, Failed, Fragment, Plain, Quoted, Sink, write_whole};
 use pv_tree::Tree;
 
 // A signed number in decimal digits.

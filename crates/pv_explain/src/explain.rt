@@ -1,15 +1,14 @@
 //! Explained runs of schedules, step by step.
-ghost use Rattle.std.specs.Prelude.{◌≡◌, ◌+◌, ◌≤◌, ◌<◌, ◌^◌, [], ◌∷◌, length, replicate, IfErr, IfOk, IfSome, IsTrue, OnOk, option_copied};
+ghost use Rattle.std.specs.Prelude.{◌≡◌, ◌≤◌, ◌<◌, [], ◌∷◌, length, IfErr, IfOk, IfSome, OnOk, option_copied};
 ghost use Rattle.pv_explain.specs.Errors.{explained_lines};
 ghost use Rattle.pv_explain.specs.Keeping.{Agree, entry_for_target};
 ghost use Rattle.pv_explain.specs.Made.{settings_called};
-ghost use Rattle.pv_explain.specs.Steps.{StopsExplained, settings_through, explained_step_lines, steps_lines};
+ghost use Rattle.pv_explain.specs.Steps.{StopsExplained, explained_step_lines};
 ghost use Rattle.pv_model.specs.declared.limits.TheConstants.{SCHEDULE_LINES, UNVEILS};
-ghost use Rattle.pv_laws_states.specs.States.{is_call};
-ghost use Rattle.pv_model.specs.Machine.{settings_next, answer_bytes, call_of, program_of, process_at, steps_of};
+ghost use Rattle.pv_model.specs.Machine.{settings_next, answer_bytes, program_of, process_at, steps_of};
 ghost use Rattle.pv_procs.specs.Turns.{CallsNext};
-ghost use Rattle.pv_step_lines.specs.OfSession.Running.{FailsBy, run_of, stepped, run_of_turn};
-ghost use Rattle.pv_streams.specs.Sinks.{WritesOr};
+ghost use Rattle.pv_step_lines.specs.OfSession.Running.{run_of, stepped};
+ghost use Rattle.pv_streams.specs.Sinks.{FailsBy, WritesOr};
 
 use crate::explained::{write_call_and_added, write_step_line};
 use crate::extra::Extra;
@@ -20,9 +19,9 @@ use pv_procs::Fetched;
 use pv_script::CallTexts;
 use pv_step_lines::answers::write_locations;
 use pv_step_lines::calls_state::Parts;
-use pv_step_lines::session::{Session, Stop};
+use pv_step_lines::session::{RunObserver, Session, run_with, step_count};
 use pv_step_lines::{MadeCall, make_call, make_register};
-use pv_streams::Sink;
+use pv_streams::{Sink, Stop};
 use pv_trace::{LineBuffer, write_gone_line};
 use std::alloc::{AllocError, Global};
 use std::marker::Model;
@@ -74,8 +73,7 @@ fn explain_call<W: Sink>(
     extra: Extra,
     out: &mut W,
 ) -> Result<(), Stop>
-    requires next { CallsNext call (process_at session.old step.pid) }
-    requires callable { IsTrue (is_call (call_of call)) }
+    requires { CallsNext call (process_at session.old step.pid) }
     ensures after { OnOk result (session.new ≡ (stepped session.old step.pid).after) }
     ensures written { WritesOr W.Sink FailsBy (answer_bytes (explained_step_lines extra step.number origins.old session.old step.pid)) out.old out.new result }
     ensures stopped { IfErr result (λ stop. StopsExplained extra stop step.number origins.old (step.pid ∷ []) session.old session.new (W.written out.old) (W.written out.new)) }
@@ -158,7 +156,7 @@ impl Explainer {
         // The explainer knows the origins of the entries of live processes.
         ensures keeps { OnOk result (Agree session.new self.new (settings_next program_of session.old pid self.old)) }
     {
-        match session.fetch(pid, &mut self.texts) {
+        match session.parts().processes().fetch(pid, &mut self.texts) {
             Fetched::Gone => {
                 write_step_line(out, pid, number, None)?;
                 write_gone_line(out, &mut *self.line_buffer, pid)?;
@@ -183,54 +181,37 @@ impl Explainer {
     }
 }
 
-// Explains `count` steps of a process, whose numbers start at `number`.
-fn explain_turn<W: Sink>(
-    alloc: Global,
-    session: &mut Session,
-    explainer: &mut Explainer,
-    pid: u32,
-    count: u32,
-    number: u64,
+// The observer that explains each step.
+#[derive(Drop)]
+struct Explaining {
+    explainer: Explainer,
     extra: Extra,
-    out: &mut W,
-) -> Result<(), Stop>
-    requires { number + count < 2 ^ 64 }
-    ensures after { OnOk result (session.new ≡ (run_of_turn session.old pid count).final) }
-    ensures written { WritesOr W.Sink FailsBy (answer_bytes (steps_lines extra number explainer.old (replicate count pid) session.old)) out.old out.new result }
-    ensures stopped { IfErr result (λ stop. StopsExplained extra stop number explainer.old (replicate count pid) session.old session.new (W.written out.old) (W.written out.new)) }
-    ensures keeps { OnOk result (Agree session.new explainer.new (settings_through explainer.old (replicate count pid) session.old)) }
-{
-    for step in 0..count {
-        // The contract of `parts` states that the state satisfies the invariant.
-        let _ = session.parts();
-        let at = number + u64::from(step);
-        explainer.explain_step(alloc, session, pid, at, extra, out)?;
-    }
-    Ok(())
+    // The number of the next step, at most 2^64 - 1.
+    number: u64,
 }
 
-// Explains the steps of a schedule.
-fn explain_steps<W: Sink>(
-    alloc: Global,
-    session: &mut Session,
-    explainer: &mut Explainer,
-    schedule: &[(u32, u32)],
-    extra: Extra,
-    out: &mut W,
-) -> Result<(), Stop>
-    requires { length schedule.now ≤ SCHEDULE_LINES }
-    ensures after { OnOk result (session.new ≡ (run_of session.old schedule.now).final) }
-    ensures written { WritesOr W.Sink FailsBy (answer_bytes (steps_lines extra 1 explainer.old (steps_of schedule.now) session.old)) out.old out.new result }
-    ensures stopped { IfErr result (λ stop. StopsExplained extra stop 1 explainer.old (steps_of schedule.now) session.old session.new (W.written out.old) (W.written out.new)) }
-{
-    let mut number = 1;
-    for turn in schedule {
+impl<W: Sink> RunObserver<W> for Explaining {
+    ghost use Rattle.pv_explain.specs.Explaining.{ExplainsStep, StopsExplaining};
+
+    ghost makes = { ExplainsStep W.Sink };
+
+    ghost stops = { StopsExplaining W.Sink };
+
+    fn make_steps(
+        &mut self,
+        alloc: Global,
+        session: &mut Session,
+        pid: u32,
+        _most: u32,
+        out: &mut W,
+    ) -> Result<u32, Stop> {
+        // The contract of `parts` states that the state satisfies the invariant.
         let _ = session.parts();
-        let (pid, count) = *turn;
-        explain_turn(alloc, session, explainer, pid, count, number, extra, out)?;
-        number += u64::from(count);
+        self.explainer
+            .explain_step(alloc, session, pid, self.number, self.extra, out)?;
+        self.number = self.number.saturating_add(1);
+        Ok(1)
     }
-    Ok(())
 }
 
 /// Runs a schedule, and writes the explained lines of each step before it makes the next: the number of the step first,
@@ -247,17 +228,24 @@ fn explain_steps<W: Sink>(
 pub fn explain_schedule<W: Sink>(
     alloc: Global,
     session: &mut Session,
-    explainer: &mut Explainer,
+    explainer: Explainer,
     schedule: &[(u32, u32)],
     extra: Extra,
     out: &mut W,
 ) -> Result<(), Stop>
     requires lines { length schedule.now ≤ SCHEDULE_LINES }
-    requires fresh { explainer.old ≡ [] }
+    requires fresh { explainer ≡ [] }
     ensures after { OnOk result (session.new ≡ (run_of session.old schedule.now).final) }
     ensures written { WritesOr W.Sink FailsBy (answer_bytes (explained_lines extra (steps_of schedule.now) session.old)) out.old out.new result }
     ensures stopped { IfErr result (λ stop. StopsExplained extra stop 1 [] (steps_of schedule.now) session.old session.new (W.written out.old) (W.written out.new)) }
 {
-    explain_steps(alloc, session, explainer, schedule, extra, out)?;
+    // The contract of `step_count` states that the numbers of the steps fit into 64 bits.
+    let _ = step_count(schedule);
+    let mut explaining = Explaining {
+        explainer,
+        extra,
+        number: 1,
+    };
+    run_with(alloc, session, schedule, &mut explaining, out)?;
     Ok(write_locations(out, session.parts())?)
 }

@@ -13,11 +13,11 @@ use crate::error_text::write_error;
 use crate::prior::Prior;
 use crate::restraints::write_execve;
 use itoa::Buffer;
-use pv_step_lines::answers::{Decimal, Fragment, Line, Plain};
+use pv_step_lines::answers::Line;
 use pv_step_lines::calls_state::Parts;
 use pv_step_lines::session::Session;
 use pv_step_lines::{MadeCall, Origin, write_call};
-use pv_streams::{Failed, Sink, write_whole};
+use pv_streams::{Decimal, Failed, Fragment, Plain, Sink, write_whole};
 use pv_trace::LineBuffer;
 
 // Writes why a call that was just made failed, or its effect on the restraints of its process.

@@ -10,9 +10,9 @@ ghost use Rattle.pv_streams.specs.Sinks.{Writes};
 use pv_model::{CallRef, Outcome, Promises};
 use pv_procs::ProcessRecord;
 use pv_promises::Pledge;
-use pv_step_lines::answers::{Fragment, Line as AnswerLine, Plain, Pledged};
+use pv_step_lines::answers::{Line as AnswerLine, Pledged};
 use pv_step_lines::calls_state::Parts;
-use pv_streams::{Failed, Sink, write_whole};
+use pv_streams::{Failed, Fragment, Plain, Sink, write_whole};
 
 /// The restraints of a process: its promises and execpromises, whether it has a table, and whether the table is locked.
 #[derive(Clone, Copy)]

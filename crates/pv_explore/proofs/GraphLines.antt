@@ -9,7 +9,7 @@ use Rattle.std.proofs.Math.Seq.{drop-cons}
 use Rattle.pv_explore.specs.Plan.{Visited, first_visited, visited_from, state_key, state_at, live_at, reported_from}
 use Rattle.pv_explore.specs.Vertices.{found_lines, listed_bytes, vertex_step, steps_at, vertex_at, vertices_from}
 use Rattle.pv_step_cache.proofs.KeyLists.{position-mapped}
-use Rattle.pv_explore.proofs.ProperPrefixes.{lines-long}
+use Rattle.pv_streams.proofs.ProperPrefixes.{lines-long}
 use Rattle.pv_explore.proofs.PlannedSearch.{Finds, plan-found, same-known, state_of_found, witness_of_found}
 use Rattle.pv_model.specs.Machine.{Found, is_complete, move, states_found, explained_step, graph_lines, AnswerLine, answer_bytes, answer_line, answer_line_bytes, counted_from, same_state, Observer, state_lines, reach_lines, Bytes, lines_of, program_of, live_processes, listing, Process, State}
 use Rattle.pv_model.specs.Answers.Explore.{states_line}

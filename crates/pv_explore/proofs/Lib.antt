@@ -8,7 +8,7 @@
 -- at a time), CachedFollowing (steps from the cache, and the states at the ends of witnesses), StoredWitnesses
 -- (witnesses stored as their last steps), ImageSizes (of images, which runs leave unchanged), SideStates (the states of
 -- one side of a search of pairs), SteppingProcess (the process that makes a step), NumberRanges (the numbers from 1 on,
--- and the greatest of numbers), StoppedAnswers (answers that stop), ProperPrefixes (the proper prefixes of answers).
+-- and the greatest of numbers).
 pub mod PlannedSearch
 pub mod WitnessTurns
 pub mod LastProcessNumbers
@@ -30,8 +30,6 @@ pub mod ImageSizes
 pub mod SideStates
 pub mod SteppingProcess
 pub mod NumberRanges
-pub mod StoppedAnswers
-pub mod ProperPrefixes
 pub use Rattle.pv_step_lines.proofs.OfAnswers
 pub use Rattle.pv_step_cache.proofs.OfLawsSteps
 pub use Rattle.pv_step_lines.proofs.OfSession

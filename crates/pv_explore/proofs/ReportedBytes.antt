@@ -5,7 +5,7 @@ use Rattle.std.specs.Fmt.{decimal, digits, digits_onto, digit_glyph}
 use Rattle.std.specs.List.{list_any}
 use Rattle.std.proofs.lemmas.Bool.Decides.{nat_tests}
 use Rattle.std.proofs.lemmas.Grind.{flat_map-append}
-use Rattle.pv_explore.proofs.ProperPrefixes.{lines-long}
+use Rattle.pv_streams.proofs.ProperPrefixes.{lines-long}
 use Rattle.std.proofs.lemmas.List.{map-append}
 use Rattle.std.proofs.lemmas.List.Folds.{list_any-append}
 use Rattle.pv_step_lines.proofs.CallLines.{trace-bytes}

@@ -3,7 +3,6 @@ pub mod Checkpoints
 pub mod FirstMachines
 pub mod Observing
 pub mod Plan
-pub mod ProperPrefixes
 pub mod Rows
 pub mod Searches
 pub mod Sides

@@ -1,20 +1,18 @@
 //! The search of all states, and its answer: what can happen under any schedule.
 ghost use Rattle.std.specs.Prelude.{◌≡◌, ◌≤◌, IfOk};
 ghost use Rattle.pv_explore.specs.Plan.{result_lines};
-ghost use Rattle.pv_explore.specs.ProperPrefixes.{StopsInside};
+ghost use Rattle.pv_streams.specs.ProperPrefixes.{StopsInside};
 ghost use Rattle.pv_model.specs.Machine.{endings_line, is_complete, answer_bytes, answer_line_bytes, program_of};
 ghost use Rattle.pv_model.specs.Answers.Explore.{completeness_text, explore_lines, states_line};
-ghost use Rattle.pv_step_lines.specs.OfSession.Running.{FailsBy};
-ghost use Rattle.pv_streams.specs.Sinks.{Writes, WritesOr};
+ghost use Rattle.pv_streams.specs.Sinks.{FailsBy, Writes, WritesOr};
 
 use crate::first_machine::FirstMachine;
 use crate::observer::TraceLines;
 use crate::progress::Progress;
 use crate::searched::{Searched, search_observed};
 use crate::witness::Count;
-use pv_step_lines::answers::{Fragment, Line, Plain};
-use pv_step_lines::session::Stop;
-use pv_streams::{Failed, Sink};
+use pv_step_lines::answers::Line;
+use pv_streams::{Failed, Fragment, Plain, Sink, Stop};
 use std::alloc::Global;
 
 /// Returns in words whether a search left no state out.

@@ -9,13 +9,13 @@ ghost use Rattle.pv_explore.specs.Vertices.{vertex_step};
 ghost use Rattle.pv_model.specs.Answers.Graph.{leads_to_text};
 ghost use Rattle.pv_model.specs.Machine.{answer_bytes, answer_line, answer_line_bytes, has_ended, program_of, live_processes, named_tree, call_of, process_at};
 ghost use Rattle.pv_laws_states.specs.States.{IsValid};
-ghost use Rattle.pv_step_lines.specs.OfSession.Running.{FailsBy, stepped};
+ghost use Rattle.pv_step_lines.specs.OfSession.Running.{stepped};
 ghost use Rattle.pv_step_cache.specs.OfStateEncoding.Groups.{groups_of, state_groups};
 ghost use Rattle.pv_step_cache.specs.OfStateEncoding.Encoded.{counts_group, encoded, encoded_all, encoded_of, numbered_encoded, plain, tree_groups};
 ghost use Rattle.pv_explore.specs.Observing.{stays_inside};
 ghost use Rattle.pv_step_cache.specs.OfLawsSteps.Commuting.{only_queries};
 ghost use Rattle.pv_step_cache.specs.Steps.{texts_in};
-ghost use Rattle.pv_streams.specs.Sinks.{Writes, WritesOr};
+ghost use Rattle.pv_streams.specs.Sinks.{FailsBy, Writes, WritesOr};
 ghost use Rattle.pv_image.specs.OfTree.Sizes.{HaveSameSizes};
 
 use crate::observer::Observer;
@@ -27,13 +27,13 @@ use pv_step_cache::state_encoding::{
     EncodedGroup, encoded_counts, encoded_process, encoded_state, encoded_trees, push_tree,
     state_groups,
 };
-use pv_step_lines::answers::{Fragment, Line, Plain};
+use pv_step_lines::answers::Line;
 use pv_step_lines::calls_state::Parts;
 use pv_step_lines::procs::{Fetched, Processes};
 use pv_step_lines::script::CallTexts;
-use pv_step_lines::session::{Session, Stop};
+use pv_step_lines::session::Session;
 use pv_step_lines::{make_step, write_made};
-use pv_streams::{Failed, Sink};
+use pv_streams::{Failed, Fragment, Plain, Sink, Stop};
 use pv_trace::LineBuffer;
 use std::alloc::Global;
 use std::marker::Model;
@@ -88,7 +88,7 @@ fn stays_inside(session: &Session, pid: u32) -> bool
     ensures { result ≡ stays_inside (process_at session.now pid) }
 {
     let mut texts = CallTexts::new();
-    match session.fetch(pid, &mut texts) {
+    match session.parts().processes().fetch(pid, &mut texts) {
         Fetched::Register => true,
         Fetched::Call(call) => only_asks(call),
         Fetched::Gone => false,
@@ -199,7 +199,7 @@ impl Position {
     pub(crate) fn fits(&self, other: &Position) -> bool
         ensures { result ≡ true → HaveSameSizes self.now.tree other.now.tree }
     {
-        self.session.tree().sizes() == other.session.tree().sizes()
+        self.session.parts().tree().sizes() == other.session.parts().tree().sizes()
     }
 
     /// Sets the machine to the state of another one. Allocates no memory.

@@ -8,9 +8,8 @@ ghost use Rattle.pv_explore.specs.Searches.{AreAt, endings_found, HasMoved, HasM
 ghost use Rattle.pv_explore.specs.Witnesses.{longer, witness_of};
 ghost use Rattle.pv_laws_states.specs.States.{IsValid};
 ghost use Rattle.pv_model.specs.Machine.{program_of};
-ghost use Rattle.pv_step_lines.specs.OfSession.Running.{FailsBy};
 ghost use Rattle.pv_step_cache.specs.Steps.{texts_in};
-ghost use Rattle.pv_streams.specs.Sinks.{Writes, WritesOr};
+ghost use Rattle.pv_streams.specs.Sinks.{FailsBy, Writes, WritesOr};
 
 use crate::checkpoints::Checkpoints;
 use crate::first_machine::FirstMachine;
@@ -23,9 +22,8 @@ use crate::witness::Witness;
 use crate::witnesses::Witnesses;
 use pv_model::StepFault;
 use pv_step_cache::tables::Keys;
-use pv_step_lines::answers::{Fragment, Line, Plain};
-use pv_step_lines::session::Stop;
-use pv_streams::{Failed, Sink};
+use pv_step_lines::answers::Line;
+use pv_streams::{Failed, Fragment, Plain, Sink, Stop};
 use std::alloc::Global;
 
 /// The data of a search.

@@ -4,16 +4,14 @@ ghost use Rattle.std.specs.List.{list_any};
 ghost use Rattle.pv_explore.specs.Observing.{IsSearched, observed_bytes};
 ghost use Rattle.pv_explore.specs.Plan.{first_visited};
 ghost use Rattle.pv_explore.specs.Searches.{all_reported, all_visited, visited_of};
-ghost use Rattle.pv_step_lines.specs.OfSession.Running.{FailsBy};
-ghost use Rattle.pv_streams.specs.Sinks.{WritesOr};
+ghost use Rattle.pv_streams.specs.Sinks.{FailsBy, WritesOr};
 
 use crate::first_machine::FirstMachine;
 use crate::observer::Observer;
 use crate::progress::Progress;
 use crate::search::Search;
 use pv_step_cache::tables::Keys;
-use pv_step_lines::session::Stop;
-use pv_streams::Sink;
+use pv_streams::{Sink, Stop};
 use std::alloc::Global;
 
 /// The result of a search.

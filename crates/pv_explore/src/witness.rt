@@ -5,8 +5,8 @@ ghost use Rattle.pv_model.specs.Answers.Explore.{turn_text};
 ghost use Rattle.pv_streams.specs.Sinks.{Writes};
 
 use itoa::Buffer;
-use pv_step_lines::answers::{Decimal, Fragment, Line, Plain};
-use pv_streams::{Failed, Sink, write_whole};
+use pv_step_lines::answers::Line;
+use pv_streams::{Decimal, Failed, Fragment, Plain, Sink, write_whole};
 
 /// A count in decimal digits.
 #[derive(Clone, Copy)]

@@ -1,5 +1,5 @@
 -- The file that a step reads.
-use Rattle.std.proofs.Common.{◌≡◌, ◌∙◌, ◌⊎◌, ⊎_elim, sym, ap, subst, ℕ, Bool, true, false, not, ◌==◌, if◌then◌else◌, List, [], ◌∷◌, Option, None, Some, refl}
+use Rattle.std.proofs.Common.{◌≡◌, ◌∙◌, sym, ap, ℕ, Bool, true, false, not, ◌==◌, if◌then◌else◌, List, [], ◌∷◌, Option, None, Some, refl}
 use Rattle.std.specs.Prelude.{filter_map, option_and_then, option_map, option_to_list}
 use Rattle.std.specs.List.{cons_option}
 use Rattle.pv_model.specs.declared.call.Call.{Call}
@@ -11,10 +11,8 @@ use Rattle.pv_model.specs.declared.place.Place.{Place}
 use Rattle.pv_model.specs.Answers.Access.{nodes_read}
 use Rattle.pv_model.specs.Machine.{calls_for, Found, next, node_of, of_next, of_process, Process, process_at, State, Stepped}
 use Rattle.pv_model_questions.specs.Exposure.{read_observer}
-use Rattle.pv_programs.proofs.OfAnswers.InstructionWords.{register-next}
-use Rattle.pv_procs.specs.declared.processes.Fetched.{Fetched}
-use Rattle.pv_procs.specs.declared.processes.Fetched.TheVariants.{Gone, Register}
-use Rattle.pv_procs.specs.Turns.{IsFetched, RegisterNext}
+use Rattle.pv_programs.proofs.OfAnswers.InstructionWords.{no-calls}
+use Rattle.pv_procs.specs.Turns.{NoCallNext}
 use Rattle.pv_reduced.specs.OfExplore.declared.visited.VisitedState.{VisitedState}
 use Rattle.pv_reduced.specs.OfExplore.Visiting.{found_of}
 use Rattle.pv_exposure.specs.Reading.{file_to_read, has_read, may_read}
@@ -54,19 +52,9 @@ module _ (s : State) (pid : ℕ) (now : Stepped) where
   pub read-called : (me : Process) (call : Call) → process_at s pid ≡ Some me → next me ≡ calls_for call → read_observer s pid now ≡ nodes_read s me call now.outcome
   read-called me call at comes = ap read_by at ∙ ap (of_next (λ s pid p call now. nodes_read s p call now.outcome) s pid now me) comes
 
-  pub read-gone : process_at s pid ≡ None → read_observer s pid now ≡ []
-  read-gone none = ap read_by none
-
-  pub read-inside : RegisterNext (process_at s pid) → read_observer s pid now ≡ []
-  read-inside at =
-      let it = register-next (process_at s pid) at in
-      ap read_by it.1 ∙ ap (of_next (λ s pid p call now. nodes_read s p call now.outcome) s pid now it.0) it.3
-
   -- a step that is not a call
-  pub read-none : (x : Fetched) → (x ≡ Register) ⊎ (x ≡ Gone) → IsFetched x (process_at s pid) → read_observer s pid now ≡ []
-  read-none x which is =
-      ⊎_elim (λ register. read-inside (subst (λ (y : Fetched). IsFetched y (process_at s pid)) register is))
-      (λ gone. read-gone (subst (λ (y : Fetched). IsFetched y (process_at s pid)) gone is)) which
+  pub read-none : NoCallNext (process_at s pid) → read_observer s pid now ≡ []
+  read-none none = no-calls (λ s pid p call now. nodes_read s p call now.outcome) s pid now none
 
 -- ---- a visited state of the code
 

@@ -9,8 +9,7 @@ ghost use Rattle.pv_model.specs.Answers.Exposure.{located_at};
 ghost use Rattle.pv_named_files.specs.FirstPaths.{files_given, first_tree, path_texts};
 ghost use Rattle.pv_reduced.specs.Kinds.{is_complete_by};
 ghost use Rattle.pv_reduced.specs.OfExplore.Visiting.{found_of};
-ghost use Rattle.pv_reduced.specs.OfSession.Running.{FailsBy};
-ghost use Rattle.pv_streams.specs.Sinks.{WritesOr};
+ghost use Rattle.pv_streams.specs.Sinks.{FailsBy, WritesOr};
 
 use crate::files::StateFiles;
 use crate::programs::{ProgramRecord, add_process};
@@ -22,8 +21,7 @@ use pv_named_files::{FirstPaths, named_files};
 use pv_programs::calls_state::Parts;
 use pv_reduced::SearchKind;
 use pv_reduced::explore_crate::{FirstMachine, Progress, SearchedStates, VisitedState};
-use pv_reduced::session::Stop;
-use pv_streams::{Sink, write_whole};
+use pv_streams::{Sink, Stop, write_whole};
 use pv_tree::Tree;
 use std::alloc::Global;
 

@@ -1,7 +1,7 @@
 //! The file that the next step of a process reads.
-ghost use Rattle.std.specs.Prelude.{◌≡◌, length, IfOk, IsSome, IsTrue, Some, option_and_then, option_map, option_to_list, slice_get};
+ghost use Rattle.std.specs.Prelude.{◌≡◌, length, IfOk, IsSome, Some, option_and_then, option_map, option_to_list, slice_get};
 ghost use Rattle.pv_exposure.specs.Reading.{file_to_read, has_read, may_read};
-ghost use Rattle.pv_laws_states.specs.States.{IsValid, is_call};
+ghost use Rattle.pv_laws_states.specs.States.{IsValid};
 ghost use Rattle.pv_model.specs.declared.call.Call.{Call};
 ghost use Rattle.pv_model.specs.Machine.{call_of, Found, calls_for, next, node_of, open_file, Process, process_at};
 ghost use Rattle.pv_model_questions.specs.Exposure.{read_observer};
@@ -13,7 +13,6 @@ use pv_programs::calls_state::Parts;
 use pv_reduced::calls_path::ends::end_of;
 use pv_reduced::calls_plain::descriptors::open_file;
 use pv_reduced::explore_crate::{SearchedStates, VisitedState};
-use pv_reduced::procs::Fetched;
 use pv_reduced::session::Session;
 use pv_script::CallTexts;
 use std::alloc::Global;
@@ -79,8 +78,7 @@ fn read_by_call(
     pid: u32,
     call: CallRef<'_>,
 ) -> Result<Option<u16>, StepFault>
-    requires next { CallsNext call (process_at session.old pid) }
-    requires callable { IsTrue (is_call (call_of call)) }
+    requires { CallsNext call (process_at session.old pid) }
     ensures { IfOk result (λ read. option_to_list read ≡ read_observer session.old pid (stepped session.old pid)) }
 {
     let file = file_of(session.parts(), pid, call);
@@ -97,10 +95,9 @@ fn read_by_step(alloc: Global, session: &mut Session, pid: u32) -> Result<Option
     ensures { IfOk result (λ read. option_to_list read ≡ read_observer session.old pid (stepped session.old pid)) }
 {
     let mut texts = CallTexts::new();
-    match session.fetch(pid, &mut texts) {
-        Fetched::Call(call) => read_by_call(alloc, session, pid, call),
-        Fetched::Register => Ok(None),
-        Fetched::Gone => Ok(None),
+    match session.next_call(pid, &mut texts) {
+        Some(call) => read_by_call(alloc, session, pid, call),
+        None => Ok(None),
     }
 }
 
@@ -154,14 +151,13 @@ pub(crate) fn read_of(
     ensures read { IfOk result (λ read. option_to_list read ≡ read_observer parts.now pid (stepped parts.now pid)) }
 {
     let mut texts = CallTexts::new();
-    match parts.processes().fetch(pid, &mut texts) {
-        Fetched::Call(call) => {
+    match parts.processes().next_call(pid, &mut texts) {
+        Some(call) => {
             if may_read(call) {
                 return read_at(alloc, states, number, pid);
             }
             Ok(None)
         }
-        Fetched::Register => Ok(None),
-        Fetched::Gone => Ok(None),
+        None => Ok(None),
     }
 }

@@ -10,9 +10,8 @@ use pv_audit::leak;
 use pv_model::Why;
 use pv_model_questions::{EditReason, FindingKind};
 use pv_named_files::FirstPaths;
-use pv_programs::answers::{Decimal, Fragment, Plain, text_of};
 use pv_programs::calls_state::Parts;
-use pv_streams::{Failed, Sink};
+use pv_streams::{Decimal, Failed, Fragment, Plain, Sink, text_of};
 use std::alloc::{AllocError, Global};
 
 /// A live process of a visited state.

@@ -15,11 +15,11 @@ use crate::ranges::append_ranges;
 use pv_model_questions::FindingKind;
 use pv_named_files::FirstPaths;
 use pv_named_files::step_cache::tables::Keys;
-use pv_programs::answers::{Line, NodeBrief, Plain, append};
+use pv_programs::answers::{Line, NodeBrief};
 use pv_programs::append_program_line;
 use pv_reduced::SearchKind;
 use pv_reduced::explore_crate::{Witness, ascending, greatest};
-use pv_streams::Gathered;
+use pv_streams::{Gathered, Plain, append};
 use pv_tree::Tree;
 use std::alloc::{AllocError, Global};
 

@@ -1,8 +1,8 @@
 -- The records of numbers, by their keys.
-use Rattle.std.proofs.Common.{◌≡◌, ◌≢◌, inl, inr, ℕ, zero, suc, ◌+◌, ◌-◌, min, ◌<◌, ◌≤◌, drop, length-drop, MatchOption, true, false, not, List, [], ◌∷◌, length, replicate, get_or, position, cond, nat_lt, Option, None, Some, is_none, is_some, IsSome, option_map, option_and_then, slice_index, slice_set, refl, sym, ap, ap₂, ◌∙◌, arith}
+use Rattle.std.proofs.Common.{◌≡◌, ◌≢◌, inl, inr, ℕ, zero, suc, ◌+◌, ◌-◌, min, ◌<◌, ◌≤◌, drop, take, length-drop, MatchOption, true, false, not, List, [], ◌∷◌, length, replicate, get_or, position, cond, nat_lt, Option, None, Some, is_none, is_some, IsSome, option_map, option_and_then, slice_index, slice_set, refl, sym, ap, ap₂, ◌∙◌, arith}
 use Rattle.std.proofs.Math.ListN.{set, length-map}
-use Rattle.std.proofs.lemmas.Bool.{cases_eq, ltb-true, ltb-false}
-use Rattle.std.proofs.lemmas.List.{drop-map, get_or-map, get_or_read, get_or-set_same, get_or-set_other}
+use Rattle.std.proofs.lemmas.Bool.{cases_eq, cases_lt, ltb-true, ltb-false}
+use Rattle.std.proofs.lemmas.List.{drop-map, get_or-map, get_or-take, get_or_read, same_lists, get_or-set_same, get_or-set_other}
 use Rattle.std.specs.List.{position_or_len}
 use Rattle.std.specs.Prelude.{◌↔◌}
 use Rattle.slab.specs.Slab.{Slab, get, ContainsKey, Updates, with_value}
@@ -11,7 +11,7 @@ use Rattle.pv_files.specs.declared.opened.Opened.{Opened}
 use Rattle.pv_files.specs.Counted.{Counted, IsCounted, no_files, counted_with_file, with_users}
 use Rattle.pv_files.specs.Slots.{file_of, users_of, where_used, counted_of, record_at, slots_under, AreKeys, AreRecords}
 use Rattle.pv_files.proofs.OpenFileUsers.{opened_there, opened_below, slot_there, used_where, used_some, used_none, users_where, old_used, old_file, fewer_after, files_stay, files_without, shared_after, changed_after, IsSlot, is_slot, no_slots}
-use Rattle.pv_files.proofs.ViewedMaps.{least_free_after, least_free-le, used-set_some, used-set_least, used-set}
+use Rattle.pv_files.proofs.ViewedMaps.{at_number-seen_read, least_free_after, least_free-le, used-set_some, used-set_least, used-set}
 use Rattle.pv_model.proofs.NumberMaps.{at_number_past}
 use Rattle.pv_model.specs.Machine.{at_number, without_number, least_free, OpenFile}
 
@@ -33,8 +33,8 @@ pub position_under : (s : Records) (keys : List ℕ) → position (λ key. is_no
 position_under s keys = ap₂ (λ n m. cond (nat_lt n m) (Some n) None) (first_under s keys) (sym (length-map keys (record_at s)))
 
 -- a search starts at a number that has a key, or at the end
-pub first_within : (s : Records) (keys : List ℕ) (first : ℕ) → AreRecords s keys first → first ≤ length keys
-first_within s keys first are = omega (arith, are.used, least_free-le (slots_under s keys), length-map keys (record_at s))
+pub first_within : (s : Records) (keys : List ℕ) (first most : ℕ) → AreRecords s keys first most → first ≤ length keys
+first_within s keys first most are = omega (arith, are.used, least_free-le (slots_under s keys), length-map keys (record_at s))
 
 -- a search that skips numbers in use finds the least free number
 pub free_after : (s : Records) (keys : List ℕ) (first : ℕ) → first ≤ least_free (slots_under s keys) → first ≤ length keys → (found : Option ℕ)
@@ -137,27 +137,39 @@ module _ (s : Records) (keys : List ℕ) (are : AreKeys s keys) (k : ℕ) (withi
   least_after : (new : Opened) → least_free (set (slots_under s keys) k (where_used new)) ≡ least_free (slots_under (wrote new) keys)
   least_after new = ap least_free (sym (slots_after new))
 
-  pub records_used : (first : ℕ) → first ≤ least_free (slots_under s keys) → (new : Opened) → 0 < new.users → AreRecords (wrote new) keys first
-  records_used first used new some = record {
+  -- no number past the end of those in use is put in use
+  unused_after : (most new_most : ℕ) → ((j : ℕ) → most ≤ j → j < 128 → record_at s (slice_index keys j) ≡ None) → most ≤ new_most → k < new_most → (new : Opened) → (j : ℕ) → new_most ≤ j → j < 128 → record_at (wrote new) (slice_index keys j) ≡ None
+  unused_after most new_most unused up below new j past small =
+      let apart : slice_index keys j ≢ slice_index keys k = λ same. let here = are.own j k small (omega (arith, are.count)) same in omega arith in
+      ap (option_and_then where_used) ((Updates-with_value s (slice_index keys k) new has_record).others (slice_index keys j) apart) ∙ unused j (omega arith) small
+
+  pub records_used : (first most : ℕ) → AreRecords s keys first most → k < most → (new : Opened) → 0 < new.users → AreRecords (wrote new) keys first most
+  records_used first most held below new some = record {
     are_keys = keys_after new;
     used =
-        let still : first ≤ least_free (set (slots_under s keys) k (where_used new)) = rw (used_some new some) (used-set_some (slots_under s keys) k first new used) in
+        let still : first ≤ least_free (set (slots_under s keys) k (where_used new)) = rw (used_some new some) (used-set_some (slots_under s keys) k first new held.used) in
         omega (arith, still, least_after new);
+    few = held.few;
+    unused = unused_after most most held.unused (omega arith) below new;
   }
 
-  pub records_opened : least_free (slots_under s keys) ≡ k → (new : Opened) → 0 < new.users → AreRecords (wrote new) keys (k + 1)
-  records_opened is new some = record {
+  pub records_opened : (first most new_most : ℕ) → AreRecords s keys first most → most ≤ new_most → k < new_most → new_most ≤ 128 → least_free (slots_under s keys) ≡ k → (new : Opened) → 0 < new.users → AreRecords (wrote new) keys (k + 1) new_most
+  records_opened first most new_most held up below few is new some = record {
     are_keys = keys_after new;
     used =
-        let below : k < length (slots_under s keys) = omega (arith, within, length-map keys (record_at s)) in
-        let more : k + 1 ≤ least_free (set (slots_under s keys) k (where_used new)) = rw (used_some new some) (used-set_least (slots_under s keys) k new is below) in
+        let less : k < length (slots_under s keys) = omega (arith, within, length-map keys (record_at s)) in
+        let more : k + 1 ≤ least_free (set (slots_under s keys) k (where_used new)) = rw (used_some new some) (used-set_least (slots_under s keys) k new is less) in
         omega (arith, more, least_after new);
+    few = few;
+    unused = unused_after most new_most held.unused up below new;
   }
 
-  pub records_freed : (first least : ℕ) → first ≤ least_free (slots_under s keys) → least ≤ first → least ≤ k → (new : Opened) → AreRecords (wrote new) keys least
-  records_freed first least used below before new = record {
+  pub records_freed : (first least most : ℕ) → AreRecords s keys first most → k < most → least ≤ first → least ≤ k → (new : Opened) → AreRecords (wrote new) keys least most
+  records_freed first least most held less below before new = record {
     are_keys = keys_after new;
-    used = omega (arith, used-set (slots_under s keys) k least (where_used new) (omega (arith, used, below)) before, least_after new);
+    used = omega (arith, used-set (slots_under s keys) k least (where_used new) (omega (arith, held.used, below)) before, least_after new);
+    few = held.few;
+    unused = unused_after most most held.unused (omega arith) less new;
   }
 
 -- ---- a number with an open file
@@ -219,17 +231,77 @@ module _ (s : Records) (keys : List ℕ) (are : AreKeys s keys) (c : Counted) (s
 
   -- the numbers before the start of a search stay in use, if the record still has a user, and those below it do, if it
   -- has none
-  pub used_still : (first : ℕ) → first ≤ least_free (slots_under s keys) → (new : Opened) → 0 < new.users → AreRecords (with_value s (slice_index keys k) new) keys first
-  used_still first used new some = records_used s keys are k within first used new some
+  below_most : (first most : ℕ) → AreRecords s keys first most → k < most
+  below_most first most held = elim (cases_lt k most) [
+    | inl below ↦ below
+    | inr past ↦
+        let none = held.unused k past (omega (arith, are.count, within)) in
+        let some : record_at s (slice_index keys k) ≡ Some old = ap (option_and_then where_used) is ∙ used_some old used_open in
+        cc
+  ]
 
-  pub used_before : (first : ℕ) → first ≤ least_free (slots_under s keys) → (new : Opened) → AreRecords (with_value s (slice_index keys k) new) keys (min first k)
-  used_before first used new = records_freed s keys are k within first (min first k) used (omega arith) (omega arith) new
+  pub used_still : (first most : ℕ) → AreRecords s keys first most → (new : Opened) → 0 < new.users → AreRecords (with_value s (slice_index keys k) new) keys first most
+  used_still first most held new some = records_used s keys are k within first most held (below_most first most held) new some
+
+  pub used_before : (first most : ℕ) → AreRecords s keys first most → (new : Opened) → AreRecords (with_value s (slice_index keys k) new) keys (min first k) most
+  used_before first most held new = records_freed s keys are k within first (min first k) most held (below_most first most held) (omega arith) (omega arith) new
 
   -- another file
   pub changed : (new : Opened) (g : OpenFile → OpenFile) → file_of new ≡ g (file_of old) → new.users ≡ old.users → option_map (λ f. counted_with_file c k (g f)) (at_number c.files k) ≡ Some (after new)
   changed new g same users =
       ap (λ (v : Counted). option_map (λ f. counted_with_file v k (g f)) (at_number v.files k)) (sym seen)
       ∙ changed_after (slots_under s keys) k old new slot g there_before same users ∙ ap Some (sym (counted_after s keys are k within new))
+
+-- ---- two tables
+
+-- the record of a number that was not written is the same
+pub unwritten : (s t : Records) (keys : List ℕ) (number k : ℕ) (slot : Option Opened) → length keys ≡ 128 → slots_under t keys ≡ set (slots_under s keys) number slot → k < 128 → k ≢ number → record_at t (slice_index keys k) ≡ record_at s (slice_index keys k)
+unwritten s t keys number k slot long is small other =
+    sym (get_or-map (record_at t) keys k 0 None (omega arith))
+    ∙ ap (λ (ps : List (Option Opened)). get_or ps k None) is
+    ∙ get_or-set_other (slots_under s keys) number k slot None other
+    ∙ get_or-map (record_at s) keys k 0 None (omega arith)
+
+module _ (s t : Records) (keys others : List ℕ) (long : length keys ≡ 128) (also : length others ≡ 128) where
+  -- numbers with the same slots have the same records
+  pub record-same : slots_under s keys ≡ slots_under t others → (k : ℕ) → k < 128 → record_at s (slice_index keys k) ≡ record_at t (slice_index others k)
+  record-same same k small =
+      sym (get_or-map (record_at s) keys k 0 None (omega arith))
+      ∙ ap (λ (ps : List (Option Opened)). get_or ps k None) same
+      ∙ get_or-map (record_at t) others k 0 None (omega arith)
+
+  -- the slots are the same if the first ones are, and the records of the others
+  pub slots-same : (n : ℕ) → take n (slots_under s keys) ≡ take n (slots_under t others) → ((k : ℕ) → n ≤ k → k < 128 → record_at s (slice_index keys k) ≡ record_at t (slice_index others k)) → slots_under s keys ≡ slots_under t others
+  slots-same n same rest =
+      let mine = length-map keys (record_at s) in
+      let theirs = length-map others (record_at t) in
+      same_lists _ _ (omega arith) (λ k d in_range. elim (cases_lt k n) [
+        | inl below ↦ sym (get_or-take n (slots_under s keys) k d below) ∙ ap (λ (ps : List (Option Opened)). get_or ps k d) same ∙ get_or-take n (slots_under t others) k d below
+        | inr past ↦ get_or-map (record_at s) keys k 0 d (omega arith) ∙ rest k past (omega arith) ∙ sym (get_or-map (record_at t) others k 0 d (omega arith))
+      ])
+
+  -- the open files are the same if those of each number are
+  pub files-same : ((k : ℕ) → k < 128 → option_map file_of (record_at s (slice_index keys k)) ≡ option_map file_of (record_at t (slice_index others k))) → (counted_of (slots_under s keys)).files ≡ (counted_of (slots_under t others)).files
+  files-same same =
+      let mine = length-map keys (record_at s) in
+      let theirs = length-map others (record_at t) in
+      let my_files = length-map (slots_under s keys) (option_map file_of) in
+      let their_files = length-map (slots_under t others) (option_map file_of) in
+      same_lists _ _ (omega arith) (λ k d in_range.
+      let small : k < 128 = omega arith in
+      get_or-map (option_map file_of) (slots_under s keys) k None d (omega arith)
+      ∙ ap (option_map file_of) (get_or-map (record_at s) keys k 0 None (omega arith))
+      ∙ same k small
+      ∙ sym (get_or-map (option_map file_of) (slots_under t others) k None d (omega arith) ∙ ap (option_map file_of) (get_or-map (record_at t) others k 0 None (omega arith))))
+
+-- no number past the end of those in use has an open file
+pub none_from : (s : Records) (keys : List ℕ) (first most : ℕ) → AreRecords s keys first most → (k : ℕ) → most ≤ k → at_number (counted_of (slots_under s keys)).files k ≡ None
+none_from s keys first most held k past = elim (cases_lt k 128) [
+  | inl small ↦
+      at_number-seen_read file_of (slots_under s keys) k
+      ∙ ap (option_map file_of) (get_or-map (record_at s) keys k 0 None (omega (arith, held.are_keys.count)) ∙ held.unused k past small)
+  | inr beyond ↦ at_number_past file_of (slots_under s keys) k (omega (arith, held.are_keys.count, length-map keys (record_at s)))
+]
 
 -- ---- the first records
 

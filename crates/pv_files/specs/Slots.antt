@@ -35,7 +35,10 @@ pub record AreKeys (records : Slab Opened) (keys : List ℕ) : Type 0 where
   pub recorded : (k : ℕ) → k < OPEN_FILES → ContainsKey records (slice_index keys k)
   pub own : (j k : ℕ) → j < OPEN_FILES → k < OPEN_FILES → slice_index keys j ≡ slice_index keys k → j ≡ k
 
--- the invariant of the number at which a search for a free one starts: all numbers below it are in use
-pub record AreRecords (records : Slab Opened) (keys : List ℕ) (first : ℕ) : Type 0 where
+-- the invariant of the number at which a search for a free one starts: all numbers below it are in use; and of the
+-- number at which a copy ends: no number from it on is in use
+pub record AreRecords (records : Slab Opened) (keys : List ℕ) (first most : ℕ) : Type 0 where
   pub are_keys : AreKeys records keys
   pub used : first ≤ least_free (slots_under records keys)
+  pub few : most ≤ OPEN_FILES
+  pub unused : (k : ℕ) → most ≤ k → k < OPEN_FILES → record_at records (slice_index keys k) ≡ None

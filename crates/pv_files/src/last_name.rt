@@ -1,5 +1,5 @@
 //! The last name that was listed through an open file.
-ghost use Rattle.std.specs.Prelude.{◌≡◌, None, Some};
+ghost use Rattle.std.specs.Prelude.{◌≡◌, true, None, Some};
 ghost use Rattle.std.specs.Option.{option_copied};
 
 use pv_model::Name;
@@ -52,6 +52,17 @@ impl LastName {
         ensures { option_copied result ≡ self.now }
     {
         if self.given { Some(&self.name) } else { None }
+    }
+
+    /// Returns true only if two values are equal.
+    pub(crate) fn is_same(&self, other: &LastName) -> bool
+        ensures { result ≡ true → self.now ≡ other.now }
+    {
+        match (self.get(), other.get()) {
+            (None, None) => true,
+            (Some(name), Some(other)) => name.as_slice() == other.as_slice(),
+            _ => false,
+        }
     }
 
     /// Makes this value equal to another one.

@@ -1,5 +1,5 @@
 //! The open files of the system.
-ghost use Rattle.std.specs.Prelude.{◌≡◌, ◌+◌, ◌-◌, ◌<◌, ◌≤◌, ◌↔◌, is_some, length, None, Some, OnSome, IfSome, IfNone, IfOk, OnErr, IfErr, IsSome, IsTrue, MatchOption, option_map, slice_index, slice_set, position, is_none};
+ghost use Rattle.std.specs.Prelude.{◌≡◌, ℕ, ◌+◌, ◌-◌, ◌<◌, ◌≤◌, ◌↔◌, true, is_some, length, None, Some, OnSome, IfSome, IfNone, IfOk, OnErr, IfErr, IsSome, IsTrue, MatchOption, option_map, slice_index, slice_set, position, is_none};
 ghost use Rattle.std.specs.Option.{option_copied};
 ghost use Rattle.pv_model.specs.Machine.{at_number, without_number, least_free};
 ghost use Rattle.pv_files.specs.Counted.{IsCounted, no_files, counted_with_file, with_users, with_opened};
@@ -24,6 +24,8 @@ pub struct OpenFiles {
     keys: [usize; OPEN_FILES],
     // No number below this one is free, so the search for the least free number starts here.
     first: usize,
+    // No number from this one on is in use, so a copy or a comparison ends here.
+    most: usize,
 }
 
 impl Model for OpenFiles {
@@ -35,7 +37,7 @@ impl Model for OpenFiles {
 
     ghost view = { λ t. counted_of (slots_under t.records t.keys) };
 
-    ghost invariant = { λ t. AreRecords t.records t.keys t.first };
+    ghost invariant = { λ t. AreRecords t.records t.keys t.first t.most };
 }
 
 // Returns the open file in the record with this key, or `None` if the record is free.
@@ -90,13 +92,16 @@ fn copy_records(
     keys: &[usize],
     others: &Slab<Opened>,
     other_keys: &[usize],
+    most: usize,
 )
     requires are_keys { AreKeys records.old keys.now }
     requires are_other_keys { AreKeys others.now other_keys.now }
+    requires few { most ≤ OPEN_FILES }
+    requires rest { (k : ℕ) → most ≤ k → k < OPEN_FILES → (record_at records.old (slice_index keys.now k) ≡ None) × (record_at others.now (slice_index other_keys.now k) ≡ None) }
     ensures are_keys { AreKeys records.new keys.now }
     ensures copied { slots_under records.new keys.now ≡ slots_under others.now other_keys.now }
 {
-    for number in 0..OPEN_FILES {
+    for number in 0..most {
         copy_record(records, keys, number, &others[other_keys[number]]);
     }
 }
@@ -120,6 +125,7 @@ impl OpenFiles {
             records,
             keys,
             first: 0,
+            most: 0,
         })
     }
 
@@ -134,8 +140,37 @@ impl OpenFiles {
     pub fn copy_from(&mut self, other: &OpenFiles)
         ensures { self.new ≡ other.now }
     {
-        copy_records(&mut self.records, &self.keys, &other.records, &other.keys);
+        let most = self.most.max(other.most);
+        copy_records(
+            &mut self.records,
+            &self.keys,
+            &other.records,
+            &other.keys,
+            most,
+        );
         self.first = other.first;
+        self.most = other.most;
+    }
+
+    /// Returns a number from which on no number has an open file.
+    pub fn bound(&self) -> usize
+        ensures within { result ≤ OPEN_FILES }
+        ensures none { (k : ℕ) → result ≤ k → at_number self.now.files k ≡ None }
+    {
+        self.most
+    }
+
+    /// Returns true only if the open files are the same as those of another table.
+    pub fn is_same(&self, other: &OpenFiles) -> bool
+        ensures { result ≡ true → self.now.files ≡ other.now.files }
+    {
+        for number in 0..self.most.max(other.most) {
+            let opened = &self.records[self.keys[number]];
+            if !opened.is_same(&other.records[other.keys[number]]) {
+                return false;
+            }
+        }
+        true
     }
 
     /// Returns whether some number is free.
@@ -165,6 +200,7 @@ impl OpenFiles {
         };
         self.records[self.keys[file]].open(node, mode, append);
         self.first = file + 1;
+        self.most = self.most.max(file + 1);
         Ok(file)
     }
 

@@ -1,5 +1,5 @@
 //! One open file and its record.
-ghost use Rattle.std.specs.Prelude.{◌≡◌, ◌+◌, ◌-◌, ◌<◌, ◌↔◌, None, Some, IfSome, IsSome};
+ghost use Rattle.std.specs.Prelude.{◌≡◌, ◌+◌, ◌-◌, ◌<◌, ◌↔◌, true, None, Some, IfSome, IsSome, option_map};
 
 use crate::last_name::LastName;
 use pv_model::{Mode, Name};
@@ -22,7 +22,7 @@ pub(crate) struct Opened {
 }
 
 impl Opened {
-    ghost use Rattle.pv_files.specs.Slots.{where_used};
+    ghost use Rattle.pv_files.specs.Slots.{file_of, where_used};
 
     /// Creates a free record.
     pub(crate) fn free() -> Opened
@@ -86,6 +86,28 @@ impl Opened {
         ensures { self.new ≡ record self.old { listed = Some name } }
     {
         self.listed.keep(name);
+    }
+
+    /// Returns true only if two records are free, or are in use and have the same open file.
+    pub(crate) fn is_same(&self, other: &Opened) -> bool
+        ensures { result ≡ true → option_map file_of (where_used self.now) ≡ option_map file_of (where_used other.now) }
+    {
+        if self.users > 0 && other.users > 0 {
+            self.has_same_file(other)
+        } else {
+            self.users == other.users
+        }
+    }
+
+    // Returns true only if two records have the same open file.
+    fn has_same_file(&self, other: &Opened) -> bool
+        ensures { result ≡ true → file_of self.now ≡ file_of other.now }
+    {
+        self.node == other.node
+            && self.mode == other.mode
+            && self.append == other.append
+            && self.offset == other.offset
+            && self.listed.is_same(&other.listed)
     }
 
     /// Makes this record free if another one is free, and otherwise equal to it.

@@ -20,13 +20,9 @@ refused_ending Exists = codes ": exists\n"
 refused_ending Source = codes ": source\n"
 refused_ending Room = codes ": room\n"
 
--- the start of the line of a path
-abbrev pub path_line_front : Bytes → Bytes
-path_line_front path = codes "pvsim: import: " ++ quote (listed_path path)
-
--- the whole line
+-- the line of a path with this end
 abbrev pub import_path_line : Bytes → Bytes → Bytes
-import_path_line path end = path_line_front path ++ end
+import_path_line path end = codes "pvsim: import: " ++ quote (listed_path path) ++ end
 
 -- the line of a skipped path
 abbrev pub skipped_line : Bytes × SkipReason → Bytes

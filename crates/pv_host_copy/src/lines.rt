@@ -2,14 +2,14 @@
 ghost use Rattle.std.specs.Prelude.{◌≡◌, flat_map, map, OnOk};
 ghost use Rattle.pv_streams.specs.Sinks.{and_all};
 ghost use Rattle.pv_host_copy.specs.Firsts.{skipped_pair};
-ghost use Rattle.pv_host_copy.specs.Lines.{ending, path_line_front, import_path_line, refused_ending, refused_line, skipped_line, line_of_missing_node};
+ghost use Rattle.pv_host_copy.specs.Lines.{ending, import_path_line, refused_ending, refused_line, skipped_line, line_of_missing_node};
 ghost use Rattle.pv_host_copy.specs.Stopped.{refused_pair};
 
 use crate::fault::{Refused, SkipReason};
 use crate::skipped::Skipped;
 use pv_image_manifest::EntryFault;
-use pv_listing::write_path;
-use pv_streams::{Failed, Sink, write_whole};
+use pv_listing::ListedPath;
+use pv_streams::{Failed, Fragment, Plain, Sink};
 
 // Returns the end of the line of a skipped path: the reason in a word.
 fn ending(why: SkipReason) -> &'static [u8]
@@ -35,22 +35,11 @@ fn refused_ending(fault: EntryFault) -> &'static [u8]
     }
 }
 
-// Writes the start of the line of a path.
-#[tactic(auto, using(pv_streams::proofs::OutputTexts::written_both))]
-fn write_front<W: Sink>(out: &mut W, path: &[u8]) -> Result<(), Failed>
-    ensures { OnOk result (W.written out.new ≡ and_all (W.written out.old) (path_line_front path.now)) }
-{
-    write_whole(out, b"pvsim: import: ")?;
-    write_path(out, path)
-}
-
 // Writes the line of a path with this end.
-#[tactic(auto, using(pv_streams::proofs::OutputTexts::written_both))]
 fn write_path_line<W: Sink>(out: &mut W, path: &[u8], end: &[u8]) -> Result<(), Failed>
     ensures { OnOk result (W.written out.new ≡ and_all (W.written out.old) (import_path_line path.now end.now)) }
 {
-    write_front(out, path)?;
-    write_whole(out, end)
+    (Plain(b"pvsim: import: "), ListedPath(path), Plain(end)).write(out)
 }
 
 // Writes the line of a skipped path.
@@ -94,7 +83,10 @@ pub fn write_refused<W: Sink>(out: &mut W, refused: &Refused) -> Result<(), Fail
 pub fn write_unmade<W: Sink>(out: &mut W, path: &[u8]) -> Result<(), Failed>
     ensures { OnOk result (W.written out.new ≡ and_all (W.written out.old) (line_of_missing_node path.now)) }
 {
-    write_whole(out, b"pvsim: export: ")?;
-    write_path(out, path)?;
-    write_whole(out, b": write\n")
+    (
+        Plain(b"pvsim: export: "),
+        ListedPath(path),
+        Plain(b": write\n"),
+    )
+        .write(out)
 }

@@ -1,7 +1,8 @@
 -- Lemmas of files on blocks.
 --
 -- - numbers: NumberMaps (maps from numbers), ByteLists (overwriting), InodeLayouts (the sizes of a version: no other
---   proof computes with them), LeastFreeInode (the start of the search for a free inode)
+--   proof computes with them), LeastFreeInode (the start of the search for a free inode), GreatestUsedInode
+--   (the end of those in use)
 -- - a write to a block: BlockNumbers, ContentWrites, InodeFields (fields of inodes, and pointers), InodeContents (byte
 --   by byte)
 -- - owners of blocks: BlockOwners, BlockAllocation (an inode allocates a block), InodeCreation (an inode is created or
@@ -23,6 +24,7 @@ pub mod InodeFields
 pub mod ImageBlocks
 pub mod UsedInodes
 pub mod InodeLayouts
+pub mod GreatestUsedInode
 pub mod LeastFreeInode
 pub mod MethodResults
 pub mod InodeCreation

@@ -1,5 +1,5 @@
 -- Maps from numbers, as lists of options.
-use Rattle.std.proofs.Common.{◌≡◌, ℕ, zero, suc, ◌+◌, ◌<◌, ◌≢◌, [], ◌∷◌, length, get_or, set, Option, None, Some, refl, sym, ap, arith}
+use Rattle.std.proofs.Common.{◌≡◌, ℕ, zero, suc, ◌+◌, ◌<◌, ◌≢◌, [], ◌∷◌, length, get_or, set, replicate, Option, None, Some, refl, sym, ap, arith}
 use Rattle.std.specs.List.{sum_by}
 use Rattle.std.proofs.lemmas.List.Sums.{sum_by-cons}
 use Rattle.pv_model.specs.Machine.{Numbered, at_number, with_number, without_number, least_free, present}
@@ -75,3 +75,9 @@ module _ {X : Type 0} where
   without_number-with_number [] n old v there = cc
   without_number-with_number (x ∷ xs) zero old v there = refl
   without_number-with_number (x ∷ xs) (suc n) old v there = ap (λ ys. x ∷ ys) (without_number-with_number xs n old v there)
+
+-- a map without values
+pub at_number-none : {X : Type 0} (k n : ℕ) → at_number {X = X} (replicate k None) n ≡ None
+at_number-none zero n = refl
+at_number-none (suc k) zero = refl
+at_number-none (suc k) (suc n) = at_number-none k n

@@ -1,10 +1,10 @@
 -- The invariant of the blocks of files, and the files in them.
-use Rattle.std.specs.Prelude.{◌≡◌, ℕ, suc, ◌+◌, ◌-◌, ◌<◌, ◌≤◌, false, true, length, slice_index_or, slice_set}
+use Rattle.std.specs.Prelude.{◌≡◌, ℕ, suc, None, ◌+◌, ◌-◌, ◌<◌, ◌≤◌, false, true, length, slice_index_or, slice_set}
 use Rattle.pv_model.specs.Machine.{greatest_length, inode_blocks, Bytes}
 use Rattle.pv_model.specs.declared.version.Version.{Version}
 use Rattle.pv_model.specs.declared.limits.TheConstants.{BLOCK}
 use Rattle.pv_blocks.specs.BlockStore.{BlockStore}
-use Rattle.pv_inodes.specs.Files.{Files, IsUsed}
+use Rattle.pv_inodes.specs.Files.{Files, IsUsed, held}
 use Rattle.pv_inodes.specs.Layout.{block_at, kind_at, size_at, owned_at, owned_count, most_owned, nodes_in, splice, with_kind, with_owned, with_size, zeros}
 use Rattle.pv_inodes.specs.Owning.{IsOwning}
 
@@ -34,6 +34,10 @@ files_of version st inodes = record { version = version; nodes = nodes_in versio
 -- each inode below `least`, numbered from 0, is in use
 abbrev pub AllUsed : Files → ℕ → Type 0
 AllUsed f least = (s : ℕ) → s < least → IsUsed f (suc s)
+
+-- no inode from `most` on, numbered from 0, is in use
+abbrev pub NoneUsed : Files → ℕ → Type 0
+NoneUsed f most = (s : ℕ) → most ≤ s → held f (suc s) ≡ None
 
 -- the store after block k is allocated, cleared, and made the i-th block of inode s
 unfoldable pub pushed : Version → BlockStore → ℕ → ℕ → ℕ → BlockStore

@@ -1,5 +1,5 @@
 //! The inodes of an image and their contents.
-ghost use Rattle.std.specs.Prelude.{◌≡◌, ◌+◌, ◌-◌, ◌*◌, ◌/◌, ◌%◌, ◌<◌, ◌≤◌, ◌≢◌, ◌↔◌, suc, min, false, length, replicate, vec_len, All, take, drop, ◌++◌, IsTrue, None, Some, IsNone, IfNone, IfSome, OnOk, OnErr};
+ghost use Rattle.std.specs.Prelude.{◌≡◌, ℕ, ◌+◌, ◌-◌, ◌*◌, ◌/◌, ◌%◌, ◌<◌, ◌≤◌, ◌≢◌, ◌↔◌, suc, min, true, false, length, replicate, vec_len, All, take, drop, ◌++◌, IsTrue, None, Some, IsNone, IfNone, IfSome, OnOk, OnErr};
 ghost use Rattle.pv_model.specs.declared.limits.TheConstants.{BLOCK};
 ghost use Rattle.pv_model.specs.Machine.{overwrite, resize, inode_blocks, greatest_length};
 ghost use Rattle.pv_inodes.specs.Layout.{position_of_block, wanted};
@@ -26,17 +26,19 @@ pub struct Inodes {
     version: Version,
     // No inode below this one is free. Inodes are numbered from 0 here.
     least: u16,
+    // No inode from this one on is in use.
+    most: u16,
 }
 
 impl Model for Inodes {
     ghost use Rattle.pv_inodes.specs.Files.{Files};
-    ghost use Rattle.pv_inodes.specs.Sound.{AllUsed, IsSound, files_of};
+    ghost use Rattle.pv_inodes.specs.Sound.{AllUsed, IsSound, NoneUsed, files_of};
 
     ghost Value = { Files };
 
     ghost view = { λ f. files_of f.version f.blocks f.inodes };
 
-    ghost invariant = { λ f. IsSound f.version f.blocks f.inodes × AllUsed (files_of f.version f.blocks f.inodes) f.least };
+    ghost invariant = { λ f. IsSound f.version f.blocks f.inodes × AllUsed (files_of f.version f.blocks f.inodes) f.least × NoneUsed (files_of f.version f.blocks f.inodes) f.most };
 }
 
 impl Inodes {
@@ -59,6 +61,7 @@ impl Inodes {
             inodes,
             version,
             least: 0,
+            most: 0,
         }
     }
 
@@ -73,6 +76,35 @@ impl Inodes {
         self.inodes = other.inodes;
         self.version = other.version;
         self.least = other.least;
+        self.most = other.most;
+    }
+
+    /// Returns a number that no inode in use exceeds.
+    pub fn bound(&self) -> u16
+        ensures { (k : ℕ) → result < k → held self.now k ≡ None }
+    {
+        self.most
+    }
+
+    /// Returns true only if an inode has the same kind and contents here and in another image.
+    pub fn is_same(&self, other: &Inodes, inode: u16) -> bool
+        requires used { IsUsed self.now inode }
+        requires also_used { IsUsed other.now inode }
+        ensures { result ≡ true → held self.now inode ≡ held other.now inode }
+    {
+        let size = self.size(inode);
+        if self.kind(inode) != other.kind(inode) || size != other.size(inode) {
+            return false;
+        }
+        let mut at = 0;
+        while at < size {
+            let run = self.lend(inode, at);
+            if run != other.lend(inode, at) {
+                return false;
+            }
+            at += run.len() as u32;
+        }
+        true
     }
 
     /// Returns the version of the image's format.
@@ -276,6 +308,7 @@ impl Inodes {
     {
         let slot = self.free_slot()?;
         self.least = slot;
+        self.most = self.most.max(slot + 1);
         set_size(&mut self.blocks, self.version, slot, 0);
         set_kind(&mut self.blocks, self.version, slot, number_of(sort));
         Some(slot + 1)

@@ -1,5 +1,5 @@
 //! The fields of an inode, and the blocks that it owns. Inodes are numbered from 0 here.
-ghost use Rattle.std.specs.Prelude.{◌≡◌, ◌<◌, ◌≤◌, ◌≢◌, length};
+ghost use Rattle.std.specs.Prelude.{◌≡◌, ℕ, ◌<◌, ◌≤◌, ◌≢◌, length};
 ghost use Rattle.pv_blocks.specs.BlockStore.{free_count, IsFree, with_block};
 ghost use Rattle.pv_model.specs.declared.version.Version.TheVariants.{V2};
 ghost use Rattle.pv_model.specs.Machine.{greatest_length};
@@ -28,6 +28,18 @@ pub(crate) fn size_of(blocks: &Blocks, version: Version, slot: u16) -> u32
     ensures { result ≡ size_at version blocks.now.blocks slot }
 {
     u32_at(blocks, home(version, slot), offset(version, slot) + SIZE_AT)
+}
+
+/// Returns a number such that no inode from it on is in use.
+pub(crate) fn end_of_used(blocks: &Blocks, version: Version, inodes: u16) -> u16
+    requires { (s : ℕ) → s < inodes → home version s < length blocks.now.blocks }
+    ensures { (s : ℕ) → result ≤ s → s < inodes → kind_at version blocks.now.blocks s ≡ 0 }
+{
+    let mut end = inodes;
+    while end > 0 && kind_of(blocks, version, end - 1) == FREE {
+        end -= 1;
+    }
+    end
 }
 
 /// Returns the number of blocks that an inode owns, including index blocks. A free inode owns none.

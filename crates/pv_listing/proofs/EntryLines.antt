@@ -4,7 +4,7 @@ use Rattle.pv_model.specs.Machine.{Bytes, Entries, Node, directory_node, file_no
 use Rattle.pv_model.specs.Listing.{lines_within}
 use Rattle.pv_streams.specs.Sinks.{and_all}
 use Rattle.pv_listing.specs.Lines.{entries_after}
-use Rattle.pv_listing.proofs.TextRemainders.{LeavesRest, rest_all, rest_after}
+use Rattle.pv_streams.proofs.TextRemainders.{LeavesRest, rest_all, rest_after}
 
 -- a node that is not a directory has no entries
 pub no-entries : (t : Tree) (n : ℕ) → is_directory_at t n ≡ false → entries_at t n ≡ []

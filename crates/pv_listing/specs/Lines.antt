@@ -1,10 +1,8 @@
 -- Parts of a line, and iteration over the names of a directory.
 use Rattle.std.specs.Prelude.{◌≡◌, ℕ, [], ◌∷◌, ◌++◌, codes, filter, Option, None, Some}
-use Rattle.std.specs.Fmt.{decimal}
 use Rattle.pv_model.specs.declared.kind.Kind.{Kind}
 use Rattle.pv_model.specs.declared.kind.Kind.TheVariants.{Directory, File, Executable, Symlink}
-use Rattle.pv_model.specs.Machine.{Bytes, is_past, size_of, Entries, Node}
-use Rattle.pv_model.specs.Listing.{kind_letter}
+use Rattle.pv_model.specs.Machine.{Bytes, is_past, Entries}
 
 -- the letter of a kind of node
 abbrev pub letter_of : Kind → Bytes
@@ -12,11 +10,6 @@ letter_of Directory = codes "d"
 letter_of File = codes "f"
 letter_of Executable = codes "x"
 letter_of Symlink = codes "l"
-
--- the part of a line before its path
-abbrev pub node_front : ℕ → Option Node → Bytes
-node_front n None = []
-node_front n (Some node) = kind_letter node ++ codes " " ++ decimal n ++ codes " " ++ decimal (size_of node) ++ codes " "
 
 -- the name after a slash, if there is one
 abbrev pub last_name : Bytes → Option Bytes

@@ -2,7 +2,7 @@
 //!
 //! `remarks` defines the trait of the text about a node at a path. `listing` traverses a tree with the path of the
 //! current node, which can have any length, and writes the line of each node; `next_child` is a step of the traversal.
-//! `line` has the lines of the listing itself, `path` writes texts and paths, and `verdict` the result line of an audit.
+//! `line` has the lines of the listing itself, `path` writes paths, and `verdict` the result line of an audit.
 //!
 //! Contracts see the lines as `pv_model` defines them.
 #![tactic(auto)]
@@ -13,8 +13,8 @@ mod path;
 mod remarks;
 mod verdict;
 
-pub use listing::{ListStop, next_child, write_lines, write_listing};
-pub use path::{write_bytes, write_path};
+pub use listing::{next_child, write_lines, write_listing};
+pub use path::{ListedPath, write_path};
 pub use pv_trace as trace;
 pub use remarks::Remarks;
 pub use verdict::write_verdict;

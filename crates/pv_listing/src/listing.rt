@@ -2,42 +2,15 @@
 ghost use Rattle.std.specs.Prelude.{◌≡◌, ◌≤◌, drop, take, vec_len, IsTrue, IfOk, OnOk};
 ghost use Rattle.pv_model.specs.Machine.{listing, entries_at, is_directory_at, IsWellFormed};
 ghost use Rattle.pv_model.specs.Listing.{lines_of_all, lines_within};
-ghost use Rattle.pv_streams.specs.Sinks.{WritesOr};
-ghost use Rattle.pv_listing.specs.Failing.{ListingFailsBy};
+ghost use Rattle.pv_streams.specs.Sinks.{FailsBy, WritesOr};
 ghost use Rattle.pv_listing.specs.Lines.{IsNextChild, last_name};
-ghost use Rattle.pv_listing.specs.declared.listing.ListStop.TheVariants.{Memory, Write};
 
 use crate::line::NodeLines;
 use crate::remarks::Remarks;
 use pv_model::limits::ROOT;
-use pv_streams::{Failed, Sink};
+use pv_streams::{Sink, Stop};
 use pv_tree::Tree;
 use std::alloc::{AllocError, Global};
-
-/// Why writing the lines of a tree stopped before the end.
-#[derive(Clone, Copy, Debug, PartialEq, Eq)]
-pub enum ListStop {
-    /// Memory for a path cannot be allocated.
-    Memory,
-    /// A write failed.
-    Write,
-}
-
-impl From<AllocError> for ListStop {
-    ghost from_gives = { λ _ e. e ≡ Memory };
-
-    fn from(_refused: AllocError) -> ListStop {
-        ListStop::Memory
-    }
-}
-
-impl From<Failed> for ListStop {
-    ghost from_gives = { λ _ e. e ≡ Write };
-
-    fn from(_failed: Failed) -> ListStop {
-        ListStop::Write
-    }
-}
 
 /// Replaces the last name of a path by the next name of a directory, in byte order, and returns its node. If there is no
 /// next name, returns `None`, and the path is that of the directory.
@@ -80,9 +53,9 @@ fn write_within<R: Remarks, W: Sink>(
     depth: u16,
     path: &mut Vec<u8>,
     node: u16,
-) -> Result<(), ListStop>
+) -> Result<(), Stop>
     requires { IsWellFormed tree.now.tree }
-    ensures written { WritesOr W.Sink ListingFailsBy (lines_within tree.now.tree (R.line remarks.now) depth path.old.items node) out.old out.new result }
+    ensures written { WritesOr W.Sink FailsBy (lines_within tree.now.tree (R.line remarks.now) depth path.old.items node) out.old out.new result }
     ensures path { OnOk result (path.new.items ≡ path.old.items) }
 {
     if depth == 0 {
@@ -115,8 +88,8 @@ pub fn write_lines<R: Remarks, W: Sink>(
     tree: &Tree,
     remarks: &R,
     out: &mut W,
-) -> Result<(), ListStop>
-    ensures { WritesOr W.Sink ListingFailsBy (lines_of_all tree.now.tree (R.line remarks.now)) out.old out.new result }
+) -> Result<(), Stop>
+    ensures { WritesOr W.Sink FailsBy (lines_of_all tree.now.tree (R.line remarks.now)) out.old out.new result }
 {
     let mut path = Vec::new(alloc);
     let depth = tree.sizes().inodes + 1;
@@ -134,8 +107,8 @@ pub fn write_lines<R: Remarks, W: Sink>(
 /// Returns `Write` if a write fails, and `Memory` if memory for a path cannot be allocated. The sink then has received
 /// a prefix of the listing.
 #[tactic(auto, unfolding(pv_model::specs::Listing::listing))]
-pub fn write_listing<W: Sink>(alloc: Global, tree: &Tree, out: &mut W) -> Result<(), ListStop>
-    ensures { WritesOr W.Sink ListingFailsBy (listing tree.now.tree) out.old out.new result }
+pub fn write_listing<W: Sink>(alloc: Global, tree: &Tree, out: &mut W) -> Result<(), Stop>
+    ensures { WritesOr W.Sink FailsBy (listing tree.now.tree) out.old out.new result }
 {
     write_lines(alloc, tree, &NodeLines { tree }, out)
 }

@@ -7,10 +7,9 @@ ghost use Rattle.pv_model_questions.specs.Briefs.{brief_since, node_path_text, w
 ghost use Rattle.pv_named_files.specs.FirstPaths.{files_given, first_tree, is_any_given, path_texts};
 ghost use Rattle.pv_step_cache.specs.Steps.{texts_in};
 
-use pv_step_cache::state_encoding::answers::{
-    NameWords, NodeBrief, PathOf, Quoted, has_path, text_of,
-};
+use pv_step_cache::state_encoding::answers::{NameWords, NodeBrief, PathOf, has_path};
 use pv_step_cache::tree::Tree;
+use pv_streams::{Quoted, text_of};
 use std::alloc::{AllocError, Global};
 
 /// The first tree, and the texts of the paths of the files that lines are about. If there are none, lines are about all

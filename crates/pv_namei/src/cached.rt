@@ -1,5 +1,5 @@
 //! The name cache.
-ghost use Rattle.std.specs.Prelude.{◌≡◌, ◌⊎◌, ℕ, List, Option, Some, None, [], IsTrue, IfOk, ◌≤◌, length};
+ghost use Rattle.std.specs.Prelude.{◌≡◌, ◌⊎◌, ℕ, List, Option, Some, None, [], IsTrue, false, IfOk, ◌≤◌, length};
 ghost use Rattle.pv_model.specs.declared.limits.TheConstants.{ANSWERS};
 ghost use Rattle.pv_model.specs.Machine.{is_directory_at, find_entry};
 ghost use Rattle.pv_tree.specs.OfLawsTrees.Found.{AreEqualExceptAt};
@@ -57,14 +57,17 @@ impl Pair {
 /// A lookup that caches up to 512 answers of the tree, including absent names. It evicts the answer that was used least
 /// recently.
 ///
-/// A name of more than 255 bytes bypasses the cache. If memory for an answer cannot be allocated, the answer is
-/// returned but not cached.
+/// A name of more than 255 bytes bypasses the cache, and so does each name after `stop`. If memory for an answer cannot
+/// be allocated, the answer is returned but not cached.
 #[derive(Drop)]
 pub struct CachedLookup {
     answers: LruCache<Pair, Option<u16>>,
     // The key of the last lookup, which the next lookup overwrites.
     asked: Pair,
+    // Whether answers are cached.
+    caches: bool,
     ghost capacity: { answers.cap ≡ ANSWERS },
+    ghost idle: { caches ≡ false → answers.entries ≡ [] },
 }
 
 impl CachedLookup {
@@ -81,15 +84,20 @@ impl CachedLookup {
         Ok(CachedLookup {
             answers: LruCache::new(alloc, NonZeroUsize::new(ANSWERS).unwrap())?,
             asked: Pair::empty(),
+            caches: true,
         })
     }
 
-    /// Discards all cached answers.
-    pub fn clear(&mut self)
+    /// Discards all cached answers, and caches no more. This is for a machine that is set to another state after a few
+    /// steps: a cache would cost it more than it saves.
+    pub fn stop(&mut self)
         ensures empty { self.new.answers.entries ≡ [] }
         ensures agrees { (map : ℕ → List ℕ → Option ℕ) → FitsMap self.new.answers map }
     {
-        self.answers.clear();
+        if self.caches {
+            self.answers.clear();
+            self.caches = false;
+        }
     }
 
     /// Returns the cached answer for a directory and a name, or `None` if there is none. The answer is `Some(None)` if
@@ -121,6 +129,9 @@ impl Lookup for CachedLookup {
             ⊎ (self.new.answers ≡ self.old.answers) }
         ensures puts { IsPut self.old.answers directory name.now result self.new.answers }
     {
+        if !self.caches {
+            return tree.find(directory, name);
+        }
         if name.len() > NAME_V2 {
             return tree.find(directory, name);
         }
@@ -140,6 +151,9 @@ impl Lookup for CachedLookup {
         ensures others { (d : ℕ) → (n : List ℕ) → ((d ≡ directory) × (n ≡ name.now) → ⊥)
             → preserved_of self.new.answers d n ≡ preserved_of self.old.answers d n }
     {
+        if !self.caches {
+            return;
+        }
         // The contract of `len` shows that the keys are distinct.
         let _ = self.answers.len();
         if name.len() <= NAME_V2 {

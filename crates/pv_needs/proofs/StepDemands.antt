@@ -1,14 +1,12 @@
 -- The demand of a step, by the fetched instruction and the answer.
-use Rattle.std.proofs.Common.{◌≡◌, ◌∙◌, ◌⊎◌, ⊎_elim, ℕ, Bool, true, false, cond, ◌&&◌, List, [], ◌∷◌, ◌++◌, append-nil, nat_le, option_to_list, Option, None, Some, refl, sym, ap, subst}
+use Rattle.std.proofs.Common.{◌≡◌, ◌∙◌, ⊎_elim, ℕ, Bool, true, false, cond, ◌&&◌, List, [], ◌∷◌, ◌++◌, append-nil, nat_le, option_to_list, Option, None, Some, refl, sym, ap}
 use Rattle.std.specs.List.{cons_option}
 use Rattle.pv_model.specs.declared.call.Call.{Call}
 use Rattle.pv_model.specs.declared.outcome.Outcome.{Outcome}
 use Rattle.pv_model.specs.Machine.{Answered, answer, Asked, Judged, asked, asked_by, is_refused, judged_walks, promises_needed, program_of, calls_for, next, Process, State, process_at, is_unveil, step, Walk, walks_of}
 use Rattle.pv_answers.proofs.InstructionWords.{register-next}
 use Rattle.pv_model.specs.Answers.Needs.{asked_next, asked_of, begins_program}
-use Rattle.pv_procs.specs.declared.processes.Fetched.{Fetched}
-use Rattle.pv_procs.specs.declared.processes.Fetched.TheVariants.{Gone, Register}
-use Rattle.pv_procs.specs.Turns.{IsFetched, RegisterNext}
+use Rattle.pv_procs.specs.Turns.{NoCallNext, RegisterNext}
 use Rattle.pv_needs.specs.declared.process_images.JudgedWalks.{JudgedWalks}
 use Rattle.pv_needs.specs.Asking.{begun_walks, ends_before, ends_of, judged_begun}
 use Rattle.pv_needs.specs.Granted.{demands_of_step}
@@ -51,20 +49,18 @@ walks-asked s pid p call at = by (is_unveil call) ∙ walks-known s pid p call a
 
 module _ (s : State) (pid : ℕ) where
   -- a step of a process that is not live
-  pub asks-gone : process_at s pid ≡ None → asked program_of s pid ≡ None
+  asks-gone : process_at s pid ≡ None → asked program_of s pid ≡ None
   unfolding asked
   asks-gone none = ap (asked_of program_of s pid) none
 
   -- a step on registers
-  pub asks-inside : RegisterNext (process_at s pid) → asked program_of s pid ≡ None
+  asks-inside : RegisterNext (process_at s pid) → asked program_of s pid ≡ None
   unfolding asked
   asks-inside at = let it = register-next (process_at s pid) at in ap (asked_of program_of s pid) it.1 ∙ ap (asked_next program_of s pid it.0) it.3
 
   -- a step without a call
-  pub asks-nothing : (f : Fetched) → (f ≡ Register) ⊎ (f ≡ Gone) → IsFetched f (process_at s pid) → asked program_of s pid ≡ None
-  asks-nothing f which is =
-      ⊎_elim (λ register. asks-inside (subst (λ (x : Fetched). IsFetched x (process_at s pid)) register is))
-      (λ gone. asks-gone (subst (λ (x : Fetched). IsFetched x (process_at s pid)) gone is)) which
+  pub asks-nothing : NoCallNext (process_at s pid) → asked program_of s pid ≡ None
+  asks-nothing none = ⊎_elim asks-gone asks-inside none
 
   -- a step that makes a call
   module _ (p : Process) (call : Call) (at : process_at s pid ≡ Some p) (comes : next p ≡ calls_for call) where

@@ -1,6 +1,7 @@
 pub mod Asking
 pub mod Granted
 pub mod RecordedLines
+pub mod Recording
 pub mod KnownWords
 pub mod ProcessImages
 pub mod Turning

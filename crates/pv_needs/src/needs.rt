@@ -1,26 +1,24 @@
 //! The demands of each program on its sandbox in a run.
-ghost use Rattle.std.specs.Prelude.{◌≡◌, ◌≤◌, ◌&&◌, ◌*◌, ◌^◌, ◌++◌, ℕ, List, length, replicate, IfErr, IfOk, IsErrOf, IsTrue, OnOk};
+ghost use Rattle.std.specs.Prelude.{◌≡◌, ◌≤◌, ◌&&◌, ◌*◌, ◌^◌, length, IfErr, IfOk, IsErrOf, OnOk};
 ghost use Rattle.pv_needs.specs.Asking.{IsMoreBy};
 ghost use Rattle.pv_needs.specs.Granted.{demands_of_step, demands_in, lines_of_demands};
 ghost use Rattle.pv_needs.specs.ProcessImages.{RecordsCalls};
-ghost use Rattle.pv_laws_states.specs.States.{is_call};
-ghost use Rattle.pv_model.specs.Machine.{answer_bytes, Asked as AskedByDefinition, is_refused as is_refused_by_definition, call_of, program_of, process_at, steps_of};
+ghost use Rattle.pv_model.specs.Machine.{answer_bytes, is_refused as is_refused_by_definition, program_of, process_at, steps_of};
 ghost use Rattle.pv_model.specs.Answers.Needs.{needs_lines};
 ghost use Rattle.pv_model.specs.declared.limits.TheConstants.{SCHEDULE_LINES};
 ghost use Rattle.pv_procs.specs.Turns.{CallsNext};
-ghost use Rattle.pv_session.specs.Running.{FailsBy, run_of, stepped, run_of_turn};
-ghost use Rattle.pv_session.specs.declared.session.Stop.TheVariants.{Memory};
-ghost use Rattle.pv_streams.specs.Sinks.{WritesOr};
+ghost use Rattle.pv_session.specs.Running.{run_of, stepped};
+ghost use Rattle.pv_streams.specs.declared.stop.Stop.TheVariants.{Memory};
+ghost use Rattle.pv_streams.specs.Sinks.{FailsBy, WritesOr};
 
 use crate::asking::{begins_program, judged_walks, promises_needed};
 use crate::process_images::{Asked, Recorded};
 use crate::wording::TargetTexts;
 use crate::writing::write_recorded;
 use pv_model::{CallRef, Cause, Outcome};
-use pv_procs::Fetched;
 use pv_script::CallTexts;
-use pv_session::{Session, Stop};
-use pv_streams::Sink;
+use pv_session::{RunObserver, Session, run_with};
+use pv_streams::{Sink, Stop};
 use std::alloc::Global;
 
 // Returns whether a promise or a table refused the call with this outcome.
@@ -53,8 +51,7 @@ fn ask_call(
     pid: u32,
     call: CallRef<'_>,
 ) -> Result<(), Stop>
-    requires next { CallsNext call (process_at session.old pid) }
-    requires callable { IsTrue (is_call (call_of call)) }
+    requires { CallsNext call (process_at session.old pid) }
     ensures after { OnOk result (session.new ≡ (stepped session.old pid).after) }
     ensures recorded { OnOk result (IsMoreBy recorded.old pid (demands_of_step granted program_of session.old pid) recorded.new) }
     ensures memory { IfErr result (λ stop. stop ≡ Memory) }
@@ -94,38 +91,52 @@ fn ask_step(
     ensures recorded { OnOk result (IsMoreBy recorded.old pid (demands_of_step granted program_of session.old pid) recorded.new) }
     ensures memory { IfErr result (λ stop. stop ≡ Memory) }
 {
-    match session.fetch(pid, texts) {
-        Fetched::Call(call) => ask_call(alloc, session, recorded, targets, granted, pid, call),
-        Fetched::Register => {
-            session.register(pid);
-            Ok(())
-        }
-        Fetched::Gone => {
+    match session.next_call(pid, texts) {
+        Some(call) => ask_call(alloc, session, recorded, targets, granted, pid, call),
+        None => {
             session.step(alloc, pid)?;
             Ok(())
         }
     }
 }
 
-// Makes `count` steps of a process, and records their demands.
-fn ask_turn(
-    alloc: Global,
-    session: &mut Session,
-    recorded: &mut Recorded,
-    texts: &mut CallTexts,
-    targets: &mut TargetTexts,
+// The observer that records the demands of each step.
+#[derive(Drop)]
+struct DemandRecorder {
+    recorded: Recorded,
+    // The texts of the last call, and of the targets of its walks.
+    texts: CallTexts,
+    targets: TargetTexts,
+    // Whether only granted calls count.
     granted: bool,
-    pid: u32,
-    count: u32,
-) -> Result<(), Stop>
-    ensures after { OnOk result (session.new ≡ (run_of_turn session.old pid count).final) }
-    ensures recorded { OnOk result ((all : List (ℕ × AskedByDefinition)) → RecordsCalls recorded.old all → RecordsCalls recorded.new (all ++ demands_in granted program_of (replicate count pid) session.old)) }
-    ensures memory { IfErr result (λ stop. stop ≡ Memory) }
-{
-    for _ in 0..count {
-        ask_step(alloc, session, recorded, texts, targets, granted, pid)?;
+}
+
+impl<W> RunObserver<W> for DemandRecorder {
+    ghost use Rattle.pv_needs.specs.Recording.{RecordsStep, StopsRecording};
+
+    ghost makes = { RecordsStep };
+
+    ghost stops = { StopsRecording };
+
+    fn make_steps(
+        &mut self,
+        alloc: Global,
+        session: &mut Session,
+        pid: u32,
+        _most: u32,
+        _out: &mut W,
+    ) -> Result<u32, Stop> {
+        ask_step(
+            alloc,
+            session,
+            &mut self.recorded,
+            &mut self.texts,
+            &mut self.targets,
+            self.granted,
+            pid,
+        )?;
+        Ok(1)
     }
-    Ok(())
 }
 
 // Runs a schedule, and records the demands of its steps.
@@ -140,22 +151,15 @@ fn ask_schedule(
     ensures few { OnOk result (length (steps_of schedule.now) ≤ 2 ^ 32 * length schedule.now) }
     ensures memory { IfErr result (λ stop. stop ≡ Memory) }
 {
-    let mut texts = CallTexts::new();
-    let mut targets = TargetTexts::new(alloc);
-    let mut recorded = Recorded::new(alloc);
-    for turn in schedule {
-        let (pid, count) = *turn;
-        ask_turn(
-            alloc,
-            session,
-            &mut recorded,
-            &mut texts,
-            &mut targets,
-            granted,
-            pid,
-            count,
-        )?;
-    }
+    let recorded = Recorded::new(alloc);
+    let mut recorder = DemandRecorder {
+        recorded,
+        texts: CallTexts::new(),
+        targets: TargetTexts::new(alloc),
+        granted,
+    };
+    run_with(alloc, session, schedule, &mut recorder, &mut ())?;
+    let DemandRecorder { recorded, .. } = recorder;
     Ok(recorded)
 }
 

@@ -3,16 +3,15 @@ ghost use Rattle.std.specs.Prelude.{◌≡◌, ◌≤◌, ◌*◌, ℕ, IfErr, I
 ghost use Rattle.pv_needs.specs.Turning.{IsTurnMade, IsTurnTaken, TurnsWritten, first_between};
 ghost use Rattle.pv_model.specs.Machine.{continues as continues_by_definition, next_turn, turns, program_of};
 ghost use Rattle.pv_model.specs.Answers.Turns.{schedule_text};
-ghost use Rattle.pv_session.specs.Running.{FailsBy, run_of};
+ghost use Rattle.pv_session.specs.Running.{run_of};
 ghost use Rattle.pv_session.specs.Stopping.{NextLoads};
-ghost use Rattle.pv_session.specs.declared.session.Stop.TheVariants.{Memory};
-ghost use Rattle.pv_streams.specs.Sinks.{WritesOr};
+ghost use Rattle.pv_streams.specs.declared.stop.Stop.TheVariants.{Memory};
+ghost use Rattle.pv_streams.specs.Sinks.{FailsBy, WritesOr};
 
-use pv_answers::{Decimal, Fragment, Plain};
 use pv_model::Outcome;
 use pv_model::limits::LAST_PROCESS;
-use pv_session::{Session, Stop};
-use pv_streams::Sink;
+use pv_session::Session;
+use pv_streams::{Decimal, Fragment, Plain, Sink, Stop};
 use std::alloc::Global;
 
 // Returns whether a turn can make a step with this outcome: the process is live, and the step is not a blocked wait(2).

@@ -9,10 +9,10 @@ ghost use Rattle.pv_needs.specs.KnownWords.{IsKnown, directory_in, known_words};
 
 use crate::paths::{around_last, is_path_of};
 use crate::process_images::JudgedWalk;
-use pv_answers::{Decimal, Plain, Quoted, TargetWords, append};
+use pv_answers::TargetWords;
 use pv_model::limits::ROOT;
 use pv_model::{Perms, Target};
-use pv_streams::Gathered;
+use pv_streams::{Decimal, Gathered, Plain, Quoted, append};
 use pv_tree::Tree;
 use std::alloc::{AllocError, Global};
 

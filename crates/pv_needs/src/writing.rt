@@ -5,10 +5,10 @@ ghost use Rattle.pv_model.specs.Machine.{answer_bytes};
 ghost use Rattle.pv_streams.specs.Sinks.{Writes};
 
 use crate::process_images::{ProcessImage, ProcessImages, Recorded, RecordedTarget, Times};
-use pv_answers::{Count, Fragment, Letters, Line, Plain};
+use pv_answers::{Letters, Line};
 use pv_model::Promise;
 use pv_promises::ALL;
-use pv_streams::{Failed, Sink};
+use pv_streams::{Count, Failed, Fragment, Plain, Sink};
 
 // A count in words, with the line of the last call.
 #[derive(Clone, Copy)]

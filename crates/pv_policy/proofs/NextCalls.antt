@@ -1,13 +1,14 @@
--- The next step of a process is an instruction on registers, or a call.
-use Rattle.std.proofs.Common.{◌≡◌, ◌∙◌, ap, sym, Option, None, Some}
+-- The next call of a process.
+use Rattle.std.proofs.Common.{◌≡◌, ◌∙◌, ap, sym, inl, inr, Option, Some}
 use Rattle.pv_model.specs.declared.call.Call.{Call}
 use Rattle.pv_needs.proofs.OfAnswers.InstructionWords.{register-next}
 use Rattle.pv_model.specs.Machine.{calls_for, inside, next, Process}
-use Rattle.pv_procs.specs.Turns.{RegisterNext}
+use Rattle.pv_procs.specs.Turns.{NoCallNext}
 
--- an instruction on registers is not a call
-pub register-not-call : (lives : Option Process) → RegisterNext lives → (me : Process) (call : Call) → lives ≡ Some me → next me ≡ calls_for call → ⊥
-register-not-call lives at me call is comes =
+-- a process without a next call has no next call
+pub no-call : (lives : Option Process) → NoCallNext lives → (me : Process) (call : Call) → lives ≡ Some me → next me ≡ calls_for call → ⊥
+no-call lives (inl gone) me call is comes = cc (gone, is)
+no-call lives (inr at) me call is comes =
     let it = register-next lives at in
     let same : it.0 ≡ me = cc (it.1, is) in
     let both : inside it.2 ≡ calls_for call = sym it.3 ∙ ap next same ∙ comes in
@@ -20,7 +21,3 @@ one-call lives fetched first at comes me call is next-is =
     let same : first ≡ me = cc (at, is) in
     let calls : calls_for fetched ≡ calls_for call = sym comes ∙ ap next same ∙ next-is in
     cc calls
-
--- a process that is not live is not live
-pub gone-not-live : (lives : Option Process) → lives ≡ None → (me : Process) → lives ≡ Some me → ⊥
-gone-not-live lives none me is = cc (none, is)

@@ -11,10 +11,11 @@ ghost use Rattle.pv_unveil.specs.Up.{directory_of_place};
 
 use crate::noted::{AskedWalk, Granted};
 use pv_model::{CallRef, Perms, Target, Walk, Walks};
-use pv_needs::answers::{TargetWords, is_unveil, text_of};
+use pv_needs::answers::{TargetWords, is_unveil};
 use pv_needs::calls_path::ends::end_of;
 use pv_needs::calls_path::unveil::target_of;
 use pv_needs::calls_state::Parts;
+use pv_streams::text_of;
 use pv_tree::{PlaceRef, Tree};
 use pv_unveil::Table;
 use std::alloc::{AllocError, Global};

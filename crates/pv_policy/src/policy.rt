@@ -7,8 +7,7 @@ ghost use Rattle.pv_model.specs.Machine.{answer, Found, witness_text, answer_byt
 ghost use Rattle.pv_policy.specs.Collecting.{calls_at, calls_of, calls_of_process, visited_bytes, walks_counted};
 ghost use Rattle.pv_policy.specs.Usage.{and_calls};
 ghost use Rattle.pv_reduced.specs.Kinds.{is_complete_by, policy_lines_by};
-ghost use Rattle.pv_needs.specs.OfSession.Running.{FailsBy};
-ghost use Rattle.pv_streams.specs.Sinks.{WritesOr};
+ghost use Rattle.pv_streams.specs.Sinks.{FailsBy, WritesOr};
 
 use crate::note::note_call;
 use crate::program_use::ProgramUse;
@@ -16,12 +15,11 @@ use crate::walks::walks_of_call;
 use crate::writing::push_programs;
 use pv_model::StepFault;
 use pv_needs::calls_state::Parts;
-use pv_needs::session::Stop;
 use pv_procs::Fetched;
 use pv_reduced::SearchKind;
 use pv_reduced::explore_crate::{FirstMachine, Progress, SearchedStates, VisitedState, write_by};
 use pv_script::CallTexts;
-use pv_streams::{Gathered, Sink, write_whole};
+use pv_streams::{Gathered, Sink, Stop, write_whole};
 use pv_tree::Tree;
 use std::alloc::{AllocError, Global};
 

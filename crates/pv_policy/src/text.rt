@@ -5,7 +5,8 @@ ghost use Rattle.pv_model.specs.Answers.Policy.{granted_text};
 ghost use Rattle.pv_policy.specs.Usage.{need_bytes, new_permission_bytes};
 
 use pv_model::Perms;
-use pv_needs::answers::{Decimal, Letters, Line, Plain, text_of};
+use pv_needs::answers::{Letters, Line};
+use pv_streams::{Decimal, Plain, text_of};
 use std::alloc::{AllocError, Global};
 
 /// Returns the lines of a call with a need: its line BY, which is given, and the need.

@@ -7,7 +7,6 @@ ghost use Rattle.pv_policy.specs.Collecting.{walks_counted};
 use pv_model::StepFault;
 use pv_needs::is_left_out;
 use pv_needs::session::Session;
-use pv_procs::Fetched;
 use pv_script::CallTexts;
 use std::alloc::Global;
 
@@ -27,15 +26,14 @@ pub fn walks_of_call(
     ensures { IfOk result (λ walks. (me : Process) (call : Call) → process_at session.old pid ≡ Some me → next me ≡ calls_for call → walks ≡ walks_counted granted (answer program_of session.old pid call)) }
 {
     let mut texts = CallTexts::new();
-    match session.fetch(pid, &mut texts) {
-        Fetched::Call(call) => {
+    match session.next_call(pid, &mut texts) {
+        Some(call) => {
             let answer = session.call(alloc, pid, call)?;
             if is_left_out(granted, answer.outcome) {
                 return Ok(None);
             }
             Ok(Some(answer.walks))
         }
-        Fetched::Register => Ok(None),
-        Fetched::Gone => Ok(None),
+        None => Ok(None),
     }
 }

@@ -10,9 +10,9 @@ use crate::program_use::ProgramUse;
 use crate::promises::PromiseUse;
 use crate::targets::{TargetUse, lacked};
 use pv_model::Perms;
-use pv_needs::answers::{Fragment, Letters, Line, Plain, append};
+use pv_needs::answers::{Letters, Line};
 use pv_programs::append_program_line;
-use pv_streams::Gathered;
+use pv_streams::{Fragment, Gathered, Plain, append};
 use pv_tree::Tree;
 use std::alloc::{AllocError, Global};
 

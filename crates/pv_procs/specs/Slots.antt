@@ -77,6 +77,11 @@ pub record AreConsistentSlots (slots : List ProcessSlot) (programs : List Shared
   pub within : list_all (λ (slot : ProcessSlot). nat_lt slot.program PROCESSES) slots ≡ true
   pub users : (k : ℕ) → users_at programs k ≡ count_by (uses k) slots
 
+-- no program from place `most` on has users
+pub record IsIdleFrom (programs : List Shared) (most : ℕ) : Type 0 where
+  pub few : most ≤ PROCESSES
+  pub idle : (k : ℕ) → most ≤ k → users_at programs k ≡ 0
+
 -- there are 32 slots, and the vectors of used and of spare ones have room for all of them
 pub record IsRoomy (used spare capacity spare_capacity : ℕ) : Type 0 where
   pub full : used + spare ≡ PROCESSES

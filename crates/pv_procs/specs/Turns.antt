@@ -1,5 +1,5 @@
 -- The next step of a process.
-use Rattle.std.specs.Prelude.{◌≡◌, ℕ, zero, suc, true, false, Option, None, Some}
+use Rattle.std.specs.Prelude.{◌≡◌, ◌⊎◌, ℕ, zero, suc, true, false, Option, None, Some}
 use Rattle.pv_model.specs.declared.call_ref.CallRef.{CallRef}
 use Rattle.pv_model.specs.Machine.{call_of, inside, calls_for, next, Process}
 use Rattle.pv_script.specs.Context.{Context, is_inside}
@@ -28,6 +28,15 @@ abbrev pub IsFetched : Fetched → Option Process → Type 0
 IsFetched Gone lives = lives ≡ None
 IsFetched Register lives = RegisterNext lives
 IsFetched (Call call) lives = CallsNext call lives
+
+-- the next step of a process is not a call, or the process is not live
+abbrev pub NoCallNext : Option Process → Type 0
+NoCallNext lives = (lives ≡ None) ⊎ RegisterNext lives
+
+-- the next step of a process, if it is a call
+abbrev pub IsNextCall : Option CallRef → Option Process → Type 0
+IsNextCall (Some call) lives = CallsNext call lives
+IsNextCall None lives = NoCallNext lives
 
 -- only one live process changes, by this relation
 pub record Moves (by : Process → Process → Type 0) (pid : ℕ) (old new : ProcessTable) : Type 0 where

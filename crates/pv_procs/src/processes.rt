@@ -9,7 +9,9 @@ ghost use Rattle.pv_model.specs.Machine.{at_next_line, with_front, give, refuse,
 
 use crate::ProcessRecord;
 use crate::ending::settle;
-use crate::shared::{Shared, first_programs, free_program, share_programs, take_up, unreference};
+use crate::shared::{
+    Shared, first_programs, free_program, put_programs, share_programs, take_up, unreference,
+};
 use crate::slot::{
     ProcessSlot, adopter, blank, copy_slots, ended_child_of, has_child, has_ended_child, index_of,
     index_of_live, left_of, live_index, make_child, number_after, spare_slots, use_slots,
@@ -19,7 +21,6 @@ use pv_model::{CallRef, Errno};
 use pv_script::{CallTexts, Program};
 use std::alloc::{AllocError, Global};
 use std::marker::Model;
-use std::mem::swap;
 
 /// The next step of a process.
 #[derive(Clone, Copy)]
@@ -50,6 +51,8 @@ pub struct Processes {
     slots: Vec<ProcessSlot>,
     spare: Vec<ProcessSlot>,
     programs: Vec<Shared>,
+    // No program from this place on has users, so a copy ends here.
+    most: usize,
     // The vector in which `copy_from` prepares programs. It has room for all, and its elements have no meaning.
     prepared: Vec<Shared>,
     last: u32,
@@ -61,12 +64,13 @@ impl Model for Processes {
     ghost Value = { ProcessTable };
 
     ghost use Rattle.std.specs.Prelude.{length, vec_capacity};
-    ghost use Rattle.pv_procs.specs.Slots.{process_table_of, AreConsistentSlots, IsRoomy};
+    ghost use Rattle.pv_procs.specs.Slots.{process_table_of, AreConsistentSlots, IsIdleFrom, IsRoomy};
 
     ghost view = { λ t. process_table_of t.slots.items t.programs.items t.last };
 
     ghost invariant = { λ t. AreConsistentSlots t.slots.items t.programs.items t.last
-        × IsRoomy (length t.slots.items) (length t.spare.items) (vec_capacity t.slots) (vec_capacity t.spare) };
+        × IsRoomy (length t.slots.items) (length t.spare.items) (vec_capacity t.slots) (vec_capacity t.spare)
+        × IsIdleFrom t.programs.items t.most };
 }
 
 impl Processes {
@@ -74,7 +78,7 @@ impl Processes {
     ghost use Rattle.pv_procs.specs.Parts.{record_of};
     ghost use Rattle.pv_procs.specs.ProcessTable.{ended_process, number_after, IsProcessTable, state_with, process_in, table_with_process, updated_table, first_processes, after_inside};
     ghost use Rattle.pv_procs.specs.Reaping.{waited};
-    ghost use Rattle.pv_procs.specs.Turns.{AwaitsCall, IsFetched, PassesIn, Registered};
+    ghost use Rattle.pv_procs.specs.Turns.{AwaitsCall, IsFetched, IsNextCall, PassesIn, Registered};
 
     /// Creates process 1 with its program, before its first step.
     ///
@@ -93,6 +97,7 @@ impl Processes {
             slots,
             spare,
             programs,
+            most: 1,
             prepared: Vec::with_capacity(alloc, PROCESSES)?,
             last: 1,
         })
@@ -107,8 +112,9 @@ impl Processes {
         ensures copied { OnOk result (self.new ≡ other.now) }
         ensures unchanged { OnErr result (self.new ≡ self.old) }
     {
-        share_programs(&mut self.prepared, &other.programs)?;
-        swap(&mut self.programs, &mut self.prepared);
+        share_programs(&mut self.prepared, &other.programs[..other.most])?;
+        put_programs(&mut self.programs, &mut self.prepared, self.most);
+        self.most = other.most;
         use_slots(&mut self.slots, &mut self.spare, other.slots.len());
         copy_slots(&mut self.slots, &other.slots);
         self.last = other.last;
@@ -140,6 +146,13 @@ impl Processes {
             Some(k) => Some(self.slots[k].parent),
             None => None,
         }
+    }
+
+    /// Returns the number of processes, including zombies.
+    pub fn count(&self) -> usize
+        ensures { result ≡ length self.now.processes }
+    {
+        self.slots.len()
     }
 
     /// Returns the least number greater than `last` of a process that is live or a zombie, or `None` if there is none.
@@ -268,6 +281,7 @@ impl Processes {
             unreachable!()
         };
         self.programs[free] = Shared { program, users: 1 };
+        self.most = self.most.max(free + 1);
         slot.program = free;
         slot.record.get_mut().after_exec();
     }
@@ -315,8 +329,20 @@ impl Processes {
         }
     }
 
+    /// Returns the next step of a process without executing it, if it is a call. The texts of the call are copied to
+    /// `texts`. After the last line, the next step is exit.
+    pub fn next_call<'a>(&self, pid: u32, texts: &'a mut CallTexts) -> Option<CallRef<'a>>
+        ensures { IsNextCall result (process_in self.now pid) }
+    {
+        match self.fetch(pid, texts) {
+            Fetched::Call(call) => Some(call),
+            Fetched::Register | Fetched::Gone => None,
+        }
+    }
+
     /// Executes the next step of a process if it is an instruction on registers or a jump. If it is a call, returns it
     /// without executing it, with its texts copied to `texts`. After the last line, the next step is exit.
+    #[inline(always)]
     pub fn step_or_fetch<'a>(&mut self, pid: u32, texts: &'a mut CallTexts) -> Fetched<'a>
         ensures { Registered result pid self.old self.new }
     {

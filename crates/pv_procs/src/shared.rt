@@ -1,10 +1,11 @@
 //! Programs that processes share.
-ghost use Rattle.std.specs.Prelude.{◌≡◌, ◌≢◌, ℕ, ◌+◌, ◌<◌, ◌==◌, [], ◌∷◌, replicate, length, position, slice_get, slice_set, vec_len, IfOk, OnOk};
+ghost use Rattle.std.specs.Prelude.{◌≡◌, ◌≢◌, ℕ, ◌+◌, ◌<◌, ◌≤◌, ◌==◌, [], ◌∷◌, replicate, length, position, slice_get, slice_set, vec_len, IfOk, OnOk};
 ghost use Rattle.pv_procs.specs.Slots.{users_at, shared_program_at};
 
 use pv_model::limits::PROCESSES;
 use pv_script::Program;
 use std::alloc::{AllocError, Global};
+use std::mem::swap;
 
 /// A slot for a program that live processes share, with their number. A program without users stays until another one
 /// replaces it.
@@ -48,6 +49,24 @@ pub(crate) fn share_programs(
         })?;
     }
     Ok(())
+}
+
+/// Puts prepared programs in the first slots. The programs in the other slots before `most` then have no users.
+pub(crate) fn put_programs(programs: &mut [Shared], prepared: &mut [Shared], most: usize)
+    requires within { length prepared.old ≤ length programs.old }
+    requires most { most ≤ length programs.old }
+    requires rest { (k : ℕ) → most ≤ k → users_at programs.old k ≡ 0 }
+    ensures put { (k : ℕ) → k < length prepared.old → slice_get programs.new k ≡ slice_get prepared.old k }
+    ensures rest { (k : ℕ) → length prepared.old ≤ k → users_at programs.new k ≡ 0 }
+    ensures long { length programs.new ≡ length programs.old }
+{
+    let count = prepared.len();
+    for k in 0..count {
+        swap(&mut programs[k], &mut prepared[k]);
+    }
+    for k in count..most {
+        programs[k].users = 0;
+    }
 }
 
 /// Removes a user of the program in slot `k`.

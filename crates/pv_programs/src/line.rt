@@ -5,10 +5,10 @@ ghost use Rattle.pv_model.specs.Answers.ProgramNames.{program_line};
 ghost use Rattle.pv_programs.specs.Naming.{path_words};
 
 use crate::naming::path_of_program;
+use pv_answers::Line;
 use pv_answers::tree::Tree;
-use pv_answers::{Count, Fragment, Line, Plain, Quoted, append};
 use pv_script::Program;
-use pv_streams::{Failed, Gathered, Sink};
+use pv_streams::{Count, Failed, Fragment, Gathered, Plain, Quoted, Sink, append};
 use std::alloc::{AllocError, Global};
 
 // Returns a path as a listing has it: the path of the root is a slash.

@@ -8,13 +8,12 @@ use Rattle.pv_model.specs.Answers.Reach.{reach_of, reach_of_one}
 use Rattle.pv_model.specs.Machine.{AnswerLine, Bytes, Process, Started, State, and_then, answer_bytes, process_at, state_lines, steps_of}
 use Rattle.pv_model_questions.specs.Notes.{has_init}
 use Rattle.pv_policy.specs.OfAnswers.Reaching.{reached_by}
-use Rattle.pv_policy.specs.OfReduced.OfExplore.ProperPrefixes.{WritesProperPrefix}
+use Rattle.pv_streams.specs.ProperPrefixes.{WritesProperPrefix}
 use Rattle.pv_policy.specs.OfReduced.declared.kind.SearchKind.{SearchKind}
-use Rattle.pv_run.specs.OfSession.Running.{FailsBy}
 use Rattle.pv_run.specs.OfSession.Stopping.{StopsOn}
-use Rattle.pv_run.specs.OfSession.declared.session.Stop.{Stop}
-use Rattle.pv_run.specs.OfSession.declared.session.Stop.TheVariants.{Memory as NoStepMemory, Write as Unwritten}
-use Rattle.pv_streams.specs.Sinks.{WritesOr}
+use Rattle.pv_streams.specs.declared.stop.Stop.{Stop}
+use Rattle.pv_streams.specs.declared.stop.Stop.TheVariants.{Memory as NoStepMemory, Write as Unwritten}
+use Rattle.pv_streams.specs.Sinks.{FailsBy, WritesOr}
 use Rattle.pv_questions.specs.Answered.{IsWritten, StopsAnswer, StopsExactly, StopsSearch, WritesPart}
 use Rattle.pv_questions.specs.Answers.{Answer, IsOfState, IsSearch, answer_by, answer_to, last_state, notes_of, notes_of_inputs, of_lines, process_answer}
 use Rattle.pv_questions.specs.Answers.{run_started, search_answer, state_answer}

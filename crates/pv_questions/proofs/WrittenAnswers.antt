@@ -4,16 +4,12 @@ use Rattle.std.specs.Result.{IsErrAnd}
 use Rattle.pv_model.specs.declared.stream.Failed.{Failed}
 use Rattle.pv_model.specs.declared.stream.Sink.{Ghosts as Writing}
 use Rattle.pv_model.specs.Machine.{Bytes, and_then}
-use Rattle.pv_run.specs.OfSession.Running.{FailsBy}
-use Rattle.pv_run.specs.OfSession.declared.session.Stop.{Stop}
-use Rattle.pv_run.specs.OfSession.declared.session.Stop.TheVariants.{Memory as NoStepMemory, Write as Unwritten}
-use Rattle.pv_listing.specs.Failing.{ListingFailsBy}
-use Rattle.pv_listing.specs.declared.listing.ListStop.{ListStop}
-use Rattle.pv_listing.specs.declared.listing.ListStop.TheVariants.{Memory as NoListMemory, Write as NotListed}
-use Rattle.pv_streams.specs.Sinks.{Writes, WritesOr}
+use Rattle.pv_streams.specs.declared.stop.Stop.{Stop}
+use Rattle.pv_streams.specs.declared.stop.Stop.TheVariants.{Memory as NoStepMemory, Write as Unwritten}
+use Rattle.pv_streams.specs.Sinks.{FailsBy, Writes, WritesOr}
 use Rattle.pv_questions.specs.Answered.{IsWritten}
 use Rattle.pv_questions.specs.Answers.{Answer}
-use Rattle.pv_questions.specs.Failures.{IsFailureOf, failure_of_list_stop, failure_of_stop}
+use Rattle.pv_questions.specs.Failures.{IsFailureOf, failure_of_stop}
 use Rattle.pv_questions.specs.declared.answering.End.{End}
 use Rattle.pv_questions.specs.declared.failure.Failure.{Failure}
 use Rattle.pv_questions.specs.declared.failure.Failure.TheVariants.{Read, Memory, Write, Refused, Incomplete, Different}
@@ -82,17 +78,6 @@ module _ {W : Type 0} {sink : Writing W} where
     pub stopped-written : {T : Type 0} {stop : Stop} {r : Result End Failure} → IsErrAnd r (λ e. e ≡ failure_of_stop stop) → WritesOr {T = T} sink FailsBy text old new (Err stop)
         → IsWritten sink (Ok (record { text = text; end = end })) old new r
     stopped-written {stop = stop} {r = r} same writes = as_result (failure_of_stop stop) r same (stopped-by stop writes)
-
-    list_stopped-by : {T : Type 0} (stop : ListStop) → WritesOr {T = T} sink ListingFailsBy text old new (Err stop)
-        → IsWritten sink (Ok (record { text = text; end = end })) old new (Err (failure_of_list_stop stop))
-    list_stopped-by NoListMemory writes =
-        record { outcome = inr (record { text = text; end = end }, refl, writes.prefix); counts = writes.failed; untouched = λ h. absurd h }
-    list_stopped-by NotListed writes =
-        record { outcome = (refl, inr (record { text = text; end = end }, refl, writes.prefix)); counts = writes.failed; untouched = λ h. absurd h }
-
-    pub list_stopped-written : {T : Type 0} {stop : ListStop} {r : Result End Failure} → IsErrAnd r (λ e. e ≡ failure_of_list_stop stop)
-        → WritesOr {T = T} sink ListingFailsBy text old new (Err stop) → IsWritten sink (Ok (record { text = text; end = end })) old new r
-    list_stopped-written {stop = stop} {r = r} same writes = as_result (failure_of_list_stop stop) r same (list_stopped-by stop writes)
 
     pub failed-written : {T : Type 0} {error : Failed} {r : Result End Failure} → IsErrAnd r (λ e. e ≡ Write Output) → Writes {T = T} sink text old new (Err error)
         → IsWritten sink (Ok (record { text = text; end = end })) old new r

@@ -2,7 +2,7 @@
 use Rattle.std.specs.Prelude.{◌≡◌, ◌⊎◌, ⊤, ℕ, Option, Result, Ok, Err, IfErr}
 use Rattle.pv_model.specs.declared.stream.Sink.{Ghosts as Writing}
 use Rattle.pv_model.specs.Machine.{Bytes, Started, State, Rose, steps_of}
-use Rattle.pv_policy.specs.OfReduced.OfExplore.ProperPrefixes.{WritesProperPrefix}
+use Rattle.pv_streams.specs.ProperPrefixes.{WritesProperPrefix}
 use Rattle.pv_run.specs.OfSession.Stopping.{StopsAtExecve}
 use Rattle.pv_streams.specs.Sinks.{WritesPrefix, and_all}
 use Rattle.pv_questions.specs.Answers.{Answer, EndedText, answer_to, run_started}

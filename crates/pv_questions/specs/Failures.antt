@@ -1,7 +1,6 @@
 -- The one failure of a command: what each error becomes, its exit status, and what is already reported.
 use Rattle.std.specs.Prelude.{◌≡◌, ⊤, ℕ, Bool, true, false, Result, Err}
-use Rattle.pv_listing.specs.declared.listing.ListStop.{ListStop}
-use Rattle.pv_listing.specs.declared.listing.ListStop.TheVariants.{Memory as NoListMemory, Write as NotListed}
+use Rattle.pv_streams.specs.declared.stop.Stop.{Stop}
 use Rattle.pv_model.specs.declared.fault.ImageFault.{ImageFault}
 use Rattle.pv_model.specs.declared.fault.ImageFault.TheVariants as image
 use Rattle.pv_model.specs.declared.fault.ManifestFault.{ManifestFault}
@@ -12,8 +11,7 @@ use Rattle.pv_model.specs.declared.kernel_fault.BootFault.{BootFault}
 use Rattle.pv_model.specs.declared.kernel_fault.BootFault.TheVariants.{Init as BootInit, Memory as NoBootMemory}
 use Rattle.pv_model.specs.declared.run_fault.RunFault.{RunFault}
 use Rattle.pv_model.specs.declared.run_fault.RunFault.TheVariants as run
-use Rattle.pv_run.specs.OfSession.declared.session.Stop.{Stop}
-use Rattle.pv_run.specs.OfSession.declared.session.Stop.TheVariants.{Memory as NoStepMemory, Write as Unwritten}
+use Rattle.pv_streams.specs.declared.stop.Stop.TheVariants.{Memory as NoStepMemory, Write as Unwritten}
 use Rattle.pv_questions.specs.declared.failure.Failure.{Failure}
 use Rattle.pv_questions.specs.declared.failure.Failure.TheVariants.{Read, Memory, Write, Refused, Incomplete, Different}
 use Rattle.pv_questions.specs.declared.failure.Origin.TheVariants.{File as InFile}
@@ -23,10 +21,6 @@ use Rattle.pv_questions.specs.declared.failure.Target.TheVariants.{Output, File 
 abbrev pub failure_of_stop : Stop → Failure
 failure_of_stop NoStepMemory = Memory
 failure_of_stop Unwritten = Write Output
-
-abbrev pub failure_of_list_stop : ListStop → Failure
-failure_of_list_stop NoListMemory = Memory
-failure_of_list_stop NotListed = Write Output
 
 abbrev pub failure_of_image : ImageFault → Failure
 failure_of_image image.Memory = Memory

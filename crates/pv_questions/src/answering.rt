@@ -11,9 +11,8 @@ ghost use Rattle.pv_questions.specs.Files.{cat_of};
 ghost use Rattle.pv_questions.specs.Reasons.{audit_reasons, reasons_at};
 ghost use Rattle.pv_questions.specs.declared.failure.Failure.TheVariants.{Memory};
 ghost use Rattle.pv_questions.specs.declared.input.Turns.TheVariants.{Own};
-ghost use Rattle.pv_run.specs.OfSession.Running.{FailsBy};
-ghost use Rattle.pv_run.specs.OfSession.declared.session.Stop.TheVariants.{Memory as NoStepMemory};
-ghost use Rattle.pv_streams.specs.Sinks.{WritesOr};
+ghost use Rattle.pv_streams.specs.declared.stop.Stop.TheVariants.{Memory as NoStepMemory};
+ghost use Rattle.pv_streams.specs.Sinks.{FailsBy, WritesOr};
 
 use crate::failure::{Failure, Refusal, Target};
 use crate::file::{file_at, write_file};
@@ -32,9 +31,9 @@ use pv_policy::answers::{write_reach, write_reach_of, write_state};
 use pv_policy::needs::{write_demands, write_turns};
 use pv_policy::reduced::SearchKind;
 use pv_policy::write_policy;
-use pv_run::session_crate::{Session, Stop, run_schedule};
+use pv_run::session_crate::{Session, run_schedule};
 use pv_run::{write_report, write_verdict};
-use pv_streams::Sink;
+use pv_streams::{Sink, Stop};
 use pv_tree::Tree;
 use std::alloc::Global;
 
@@ -130,8 +129,8 @@ fn write_steps<W: Sink>(
     ensures { IsWritten W.Sink (answer_to (Question.Explain extra.errors extra.allowed) inputs) out.old out.new result }
 {
     let Run { mut session, turns } = started(alloc, inputs, false)?;
-    let mut explainer = Explainer::new(alloc)?;
-    explain_schedule(alloc, &mut session, &mut explainer, &turns, extra, out)?;
+    let explainer = Explainer::new(alloc)?;
+    explain_schedule(alloc, &mut session, explainer, &turns, extra, out)?;
     Ok(End::Complete)
 }
 
@@ -228,7 +227,7 @@ fn write_reasons_at<W: Sink>(session: &Session, node: u16, out: &mut W) -> Resul
 fn write_reasons_of<W: Sink>(session: &Session, path: &[u8], out: &mut W) -> Result<End, Failure>
     ensures { IsWritten W.Sink (of_audit (audit_reasons session.now (Some path.now))) out.old out.new result }
 {
-    match audited_node(session.tree(), path) {
+    match audited_node(session.parts().tree(), path) {
         Ok(node) => write_reasons_at(session, node, out),
         Err(fault) => Err(Failure::Refused(Refusal::NotAudited(fault))),
     }

@@ -1,15 +1,13 @@
 //! The one reason why a command fails, its message and its exit status.
 ghost use Rattle.std.specs.Prelude.{◌≡◌};
-ghost use Rattle.pv_questions.specs.Failures.{is_reported_by_command, failure_of_boot, failure_of_image, failure_of_list_stop, failure_of_manifest, failure_of_run, failure_of_schedule, failure_of_stop, failure_status};
+ghost use Rattle.pv_questions.specs.Failures.{is_reported_by_command, failure_of_boot, failure_of_image, failure_of_manifest, failure_of_run, failure_of_schedule, failure_of_stop, failure_status};
 ghost use Rattle.pv_questions.specs.declared.failure.Failure.TheVariants.{Memory, Write};
 ghost use Rattle.pv_questions.specs.declared.failure.Target.TheVariants.{Output};
 
-use pv_listing::ListStop;
 use pv_model::{
     AuditFault, BootFault, ImageFault, ManifestFault, RunFault, ScheduleFault, StepFault,
 };
-use pv_run::session_crate::Stop;
-use pv_streams::Failed;
+use pv_streams::{Failed, Stop};
 use std::alloc::AllocError;
 use std::fmt;
 
@@ -135,17 +133,6 @@ impl From<Stop> for Failure {
         match stop {
             Stop::Memory => Failure::Memory,
             Stop::Write => Failure::Write(Target::Output),
-        }
-    }
-}
-
-impl From<ListStop> for Failure {
-    ghost from_gives = { λ stop e. e ≡ failure_of_list_stop stop };
-
-    fn from(stop: ListStop) -> Failure {
-        match stop {
-            ListStop::Memory => Failure::Memory,
-            ListStop::Write => Failure::Write(Target::Output),
         }
     }
 }

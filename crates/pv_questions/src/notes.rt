@@ -104,7 +104,7 @@ fn is_shown(every: bool, pid: u32, found: Result<Verdict, AuditFault>) -> bool
 fn is_shown_in_report(session: &Session, every: bool, pid: u32) -> bool
     ensures { result ≡ any_below (λ n. shows_lock_reason every pid (audit_of session.now (Some n))) (session.now.tree.inodes + 1) }
 {
-    for node in 0..session.tree().sizes().inodes + 1 {
+    for node in 0..session.parts().tree().sizes().inodes + 1 {
         if is_shown(every, pid, session.audit_node(node)) {
             return true;
         }

@@ -1,13 +1,12 @@
 //! Verdicts with every reason.
 ghost use Rattle.std.specs.Prelude.{◌≡◌, ◌∷◌, [], Some, option_map};
 ghost use Rattle.pv_run.specs.OfAudit.Reasons.{present_reasons};
-ghost use Rattle.pv_listing.specs.Failing.{ListingFailsBy};
 ghost use Rattle.pv_model.specs.Machine.{audit_node, process_at, root, resolve as resolved};
 ghost use Rattle.pv_model.specs.declared.follow.Follow.TheVariants.{Last};
 ghost use Rattle.pv_questions.specs.Reasons.{all_reasons, file_lines, node_audited, reason_lines, reasons_by, reasons_report, verdict_at, with_reasons};
-ghost use Rattle.pv_streams.specs.Sinks.{Writes, WritesOr};
+ghost use Rattle.pv_streams.specs.Sinks.{FailsBy, Writes, WritesOr};
 
-use pv_listing::{ListStop, Remarks, write_lines};
+use pv_listing::{Remarks, write_lines};
 use pv_model::limits::ROOT;
 use pv_model::{AuditFault, Errno, Follow, Leak, Verdict, Why};
 use pv_namei::{PlainLookup, resolve};
@@ -15,7 +14,7 @@ use pv_policy::calls_state::Parts;
 use pv_run::audit::leaks;
 use pv_run::session_crate::Session;
 use pv_run::{write_found, write_verdict};
-use pv_streams::{Failed, Sink};
+use pv_streams::{Failed, Sink, Stop};
 use pv_tree::{PlaceRef, Tree};
 use std::alloc::Global;
 
@@ -143,15 +142,14 @@ impl<'a> Remarks for ReasonLines<'a> {
 ///
 /// - `Write`, if a write failed. The sink received a prefix of the lines.
 /// - `Memory`, if there is no memory for a path. The sink received a prefix of the lines.
-#[tactic(auto, unfolding(crate::specs::Reasons::reasons_report))]
 pub(crate) fn write_reasons_report<W: Sink>(
     alloc: Global,
     session: &Session,
     out: &mut W,
-) -> Result<(), ListStop>
-    ensures { WritesOr W.Sink ListingFailsBy (reasons_report session.now) out.old out.new result }
+) -> Result<(), Stop>
+    ensures { WritesOr W.Sink FailsBy (reasons_report session.now) out.old out.new result }
 {
-    write_lines(alloc, session.tree(), &ReasonLines { session }, out)
+    write_lines(alloc, session.parts().tree(), &ReasonLines { session }, out)
 }
 
 /// Returns the node at a path. The path is walked from the root; links are followed, and no unveil table applies.

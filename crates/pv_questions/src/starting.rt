@@ -124,7 +124,7 @@ pub(crate) fn after(
     ensures refused { IfErr result (IsFailureOf (run_started inputs)) }
 {
     let Run { mut session, turns } = started(alloc, inputs, lists_all(question))?;
-    let is_loaded = has_init(session.tree());
+    let is_loaded = has_init(session.parts().tree());
     pass_schedule(alloc, &mut session, &turns)?;
     *notes = notes_of(alloc, question, is_loaded, &session)?;
     Ok(session)

@@ -10,7 +10,7 @@ use Rattle.pv_explore.specs.Observing.{no_text, trace_text}
 use Rattle.pv_explore.specs.Plan.{tree_key}
 use Rattle.pv_explore.specs.Visiting.{found_at, visits_of}
 use Rattle.pv_explore.proofs.PlannedSearch.{written}
-use Rattle.pv_explore.proofs.ProperPrefixes.{lines-long}
+use Rattle.pv_streams.proofs.ProperPrefixes.{lines-long}
 use Rattle.pv_explore.proofs.ReportedBytes.{HaveEmpty, explored, text_observed, written-first}
 use Rattle.pv_explore.proofs.VisitedList.{states-at}
 use Rattle.pv_laws_classes.specs.Reduced.{reduced_found, reduced_moves, reduced_moves_of, reduced_reported}

@@ -3,17 +3,15 @@ ghost use Rattle.std.specs.Prelude.{◌≡◌, ◌≤◌, ◌∷◌, [], IfOk};
 ghost use Rattle.pv_laws_classes.specs.Reduced.{is_reduced_complete};
 ghost use Rattle.pv_laws_classes.specs.ReducedAnswers.{classes_line, reduced_lines};
 ghost use Rattle.pv_model.specs.Machine.{endings_line, answer_bytes, answer_line_bytes, program_of};
-ghost use Rattle.pv_explore.specs.OfSession.Running.{FailsBy};
-ghost use Rattle.pv_explore.specs.ProperPrefixes.{StopsInside};
-ghost use Rattle.pv_streams.specs.Sinks.{Writes, WritesOr};
+ghost use Rattle.pv_streams.specs.ProperPrefixes.{StopsInside};
+ghost use Rattle.pv_streams.specs.Sinks.{FailsBy, Writes, WritesOr};
 
 use crate::searched::search_reduced;
-use pv_explore::session::Stop;
 use pv_explore::{
     Count, FirstMachine, Progress, Searched, TraceLines, completeness, write_endings,
 };
-use pv_state_encoding::answers::{Fragment, Line, Plain};
-use pv_streams::{Failed, Sink};
+use pv_state_encoding::answers::Line;
+use pv_streams::{Failed, Fragment, Plain, Sink, Stop};
 use std::alloc::Global;
 
 /// Writes the last line of a reduced search, DONE: the number of visited states, and whether no state was left out.

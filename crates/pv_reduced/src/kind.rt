@@ -2,19 +2,17 @@
 ghost use Rattle.std.specs.Prelude.{◌≡◌, ◌≤◌, IfOk};
 ghost use Rattle.pv_model.specs.Machine.{answer_bytes, answer_line_bytes};
 ghost use Rattle.pv_reduced.specs.Kinds.{IsSearchedBy, count_line, explore_lines_by, is_complete_by, observed_by, states_by};
-ghost use Rattle.pv_explore.specs.OfSession.Running.{FailsBy};
-ghost use Rattle.pv_explore.specs.ProperPrefixes.{StopsInside};
-ghost use Rattle.pv_streams.specs.Sinks.{Writes, WritesOr};
+ghost use Rattle.pv_streams.specs.ProperPrefixes.{StopsInside};
+ghost use Rattle.pv_streams.specs.Sinks.{FailsBy, Writes, WritesOr};
 
 use crate::explore::{write_classes, write_reduced};
 use crate::searched::{reduced_states, search_reduced};
-use pv_explore::session::Stop;
 use pv_explore::{
     FirstMachine, Observer, Progress, Searched, SearchedStates, search_observed, write_explore,
     write_states,
 };
 use pv_model::StepFault;
-use pv_streams::{Failed, Sink};
+use pv_streams::{Failed, Sink, Stop};
 use std::alloc::Global;
 
 /// A search of all schedules.

@@ -7,13 +7,11 @@ ghost use Rattle.pv_explore.specs.Rows.{parts_in};
 ghost use Rattle.pv_explore.specs.Witnesses.{longer};
 ghost use Rattle.pv_laws_classes.specs.Reduced.{bound_by, may_step};
 ghost use Rattle.pv_model.specs.Machine.{program_of, State};
-ghost use Rattle.pv_explore.specs.OfSession.Running.{FailsBy};
-ghost use Rattle.pv_streams.specs.Sinks.{WritesOr};
+ghost use Rattle.pv_streams.specs.Sinks.{FailsBy, WritesOr};
 
 use crate::live_tables::LiveTables;
 use crate::part_lists::{Addition, PartLists};
 use crate::parts::reduced_parts;
-use pv_explore::session::Stop;
 use pv_explore::step_cache::tables::Keys;
 use pv_explore::{
     Checkpoints, FirstMachine, ObservedStep, Observer, Position, Progress, Searched, Witnesses,
@@ -23,7 +21,7 @@ use pv_model::StepFault;
 use pv_script::CallTexts;
 use pv_state_encoding::calls_state::Parts;
 use pv_state_encoding::procs::Fetched;
-use pv_streams::Sink;
+use pv_streams::{Sink, Stop};
 use std::alloc::{AllocError, Global};
 
 /// The data of a search.

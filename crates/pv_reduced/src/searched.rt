@@ -3,14 +3,12 @@ ghost use Rattle.std.specs.Prelude.{◌≡◌, ◌≤◌, IfOk, OnOk};
 ghost use Rattle.pv_reduced.specs.Lines.{IsReducedSearched, reduced_observed_bytes, reduced_states};
 ghost use Rattle.pv_reduced.specs.Plan.{reduced_first_visited};
 ghost use Rattle.pv_reduced.specs.Searches.{reduced_all_reported, reduced_all_visited, reduced_visited_of};
-ghost use Rattle.pv_explore.specs.OfSession.Running.{FailsBy};
-ghost use Rattle.pv_streams.specs.Sinks.{WritesOr};
+ghost use Rattle.pv_streams.specs.Sinks.{FailsBy, WritesOr};
 
 use crate::search::ReducedSearch;
-use pv_explore::session::Stop;
 use pv_explore::{FirstMachine, Observer, Progress, Searched, SearchedStates, Unheard, Unobserved};
 use pv_model::StepFault;
-use pv_streams::Sink;
+use pv_streams::{Sink, Stop};
 use std::alloc::Global;
 
 // Searches from the first state, and ends the progress report.

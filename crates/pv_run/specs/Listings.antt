@@ -7,8 +7,8 @@ use Rattle.pv_model.specs.declared.store_fault.ListFault.TheVariants.{Read, Imag
 use Rattle.pv_model.specs.declared.stream.Sink.{Ghosts as Writing}
 use Rattle.pv_model.specs.declared.stream.Source.{Ghosts as Reading}
 use Rattle.pv_model.specs.Machine.{Bytes, listing, mounted, Rose, Tree}
-use Rattle.pv_listing.specs.declared.listing.ListStop.{ListStop}
-use Rattle.pv_listing.specs.declared.listing.ListStop.TheVariants.{Memory as NoMemory, Write as NotWritten}
+use Rattle.pv_streams.specs.declared.stop.Stop.{Stop}
+use Rattle.pv_streams.specs.declared.stop.Stop.TheVariants.{Memory as NoMemory, Write as NotWritten}
 use Rattle.pv_streams.specs.Sinks.{and_all, WritesPrefix}
 use Rattle.pv_streams.specs.Sources.{FailsToGive}
 
@@ -49,7 +49,7 @@ BufferedOnlyIfUnlisted Write waiting = ⊤
 BufferedOnlyIfUnlisted fault waiting = waiting ≡ 0
 
 -- a text was written and flushed: the complete text, or a prefix of it if there is no memory or a write failed
-pub record WritesFlushed {W : Type 0} (sink : Writing W) (text : Bytes) (old new : W) (result : Result (Unit {0}) ListStop) : Type 0 where
+pub record WritesFlushed {W : Type 0} (sink : Writing W) (text : Bytes) (old new : W) (result : Result (Unit {0}) Stop) : Type 0 where
   pub whole : OnOk result (sink.written new ≡ and_all (sink.written old) text)
   pub empty : OnOk result (sink.buffered new ≡ 0)
   pub prefix : OnErr result (WritesPrefix text (sink.written old) (sink.written new))

@@ -87,7 +87,7 @@ pub fn run_image<W: Sink, O: Sink>(
 {
     let mut ready = start_image(alloc, bytes, schedule, true)?;
     let summary = make_turns(alloc, &mut ready, trace)?;
-    write_image(alloc, ready.session.tree(), image)?;
+    write_image(alloc, ready.session.parts().tree(), image)?;
     Ok(summary)
 }
 

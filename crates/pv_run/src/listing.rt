@@ -3,15 +3,15 @@ ghost use Rattle.pv_model.specs.Machine.{listing};
 ghost use Rattle.pv_run.specs.Listings.{ListsGiven, ListsImage, WritesFlushed};
 
 use pv_image_mount::mount;
-use pv_listing::{ListStop, write_listing};
+use pv_listing::write_listing;
 use pv_model::{ListFault, RunFault};
-use pv_streams::{Sink, Source, read_whole};
+use pv_streams::{Sink, Source, Stop, read_whole};
 use pv_tree::Tree;
 use std::alloc::Global;
 
 // Writes the listing of a tree, and flushes it.
 #[tactic(auto, using(pv_streams::proofs::SinkWrites::begins_whole))]
-fn write_all<W: Sink>(alloc: Global, tree: &Tree, out: &mut W) -> Result<(), ListStop>
+fn write_all<W: Sink>(alloc: Global, tree: &Tree, out: &mut W) -> Result<(), Stop>
     ensures { WritesFlushed W.Sink (listing tree.now.tree) out.old out.new result }
 {
     match write_listing(alloc, tree, out) {
@@ -19,11 +19,11 @@ fn write_all<W: Sink>(alloc: Global, tree: &Tree, out: &mut W) -> Result<(), Lis
             out.flush()?;
             Ok(())
         }
-        Err(ListStop::Memory) => {
+        Err(Stop::Memory) => {
             out.flush()?;
-            Err(ListStop::Memory)
+            Err(Stop::Memory)
         }
-        Err(ListStop::Write) => Err(ListStop::Write),
+        Err(Stop::Write) => Err(Stop::Write),
     }
 }
 
@@ -35,8 +35,8 @@ fn list_bytes<W: Sink>(alloc: Global, bytes: Vec<u8>, out: &mut W) -> Result<(),
     store.order_entries();
     match write_all(alloc, store.tree(), out) {
         Ok(()) => Ok(()),
-        Err(ListStop::Memory) => Err(ListFault::Memory),
-        Err(ListStop::Write) => Err(ListFault::Write),
+        Err(Stop::Memory) => Err(ListFault::Memory),
+        Err(Stop::Write) => Err(ListFault::Write),
     }
 }
 

@@ -1,14 +1,13 @@
 //! Reports on all files.
 ghost use Rattle.std.specs.Prelude.{◌≡◌, Some, Ok};
-ghost use Rattle.pv_listing.specs.Failing.{ListingFailsBy};
 ghost use Rattle.pv_model.specs.Machine.{report, audit_node};
 ghost use Rattle.pv_model.specs.Listing.{found_line};
-ghost use Rattle.pv_streams.specs.Sinks.{Writes, WritesOr};
+ghost use Rattle.pv_streams.specs.Sinks.{FailsBy, Writes, WritesOr};
 
-use pv_listing::{ListStop, Remarks, write_lines, write_path, write_verdict};
+use pv_listing::{Remarks, write_lines, write_path, write_verdict};
 use pv_model::Verdict;
 use pv_session::Session;
-use pv_streams::{Failed, Sink, write_whole};
+use pv_streams::{Failed, Sink, Stop, write_whole};
 use std::alloc::Global;
 
 /// Writes the line of a file at a path in a report: the path as a quoted text, a space, and the verdict.
@@ -50,9 +49,8 @@ impl<'a> Remarks for FoundLines<'a> {
 ///
 /// - `Write`, if a write failed. The sink received a prefix of the report.
 /// - `Memory`, if there is no memory for a path. The sink received a prefix of the report.
-#[tactic(auto, unfolding(pv_model::specs::Listing::report))]
-pub fn write_report<W: Sink>(alloc: Global, session: &Session, out: &mut W) -> Result<(), ListStop>
-    ensures { WritesOr W.Sink ListingFailsBy (report session.now) out.old out.new result }
+pub fn write_report<W: Sink>(alloc: Global, session: &Session, out: &mut W) -> Result<(), Stop>
+    ensures { WritesOr W.Sink FailsBy (report session.now) out.old out.new result }
 {
-    write_lines(alloc, session.tree(), &FoundLines { session }, out)
+    write_lines(alloc, session.parts().tree(), &FoundLines { session }, out)
 }

@@ -7,8 +7,8 @@ ghost use Rattle.pv_streams.specs.Sinks.{WritesOr};
 
 use pv_model::RunFault;
 use pv_script::Schedule;
-use pv_session::{Session, Stop, run_schedule, step_count};
-use pv_streams::{Failed, Sink};
+use pv_session::{Session, run_schedule, step_count};
+use pv_streams::{Failed, Sink, Stop};
 use pv_tree::Store;
 use std::alloc::Global;
 

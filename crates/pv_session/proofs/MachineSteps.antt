@@ -1,9 +1,10 @@
 -- A step of the machine, by the fetched instruction and the answer.
-use Rattle.std.proofs.Common.{◌≡◌, ◌∙◌, ℕ, ℤ, List, [], ap, sym, refl, Option, None, Some, Result, Ok, Err}
-use Rattle.std.specs.Prelude.{IfOk, OnOk}
+use Rattle.std.proofs.Common.{◌≡◌, ◌∙◌, ℕ, ℤ, List, [], ap, sym, refl, Option, None, Some}
 use Rattle.pv_calls.specs.OfCallsState.Changes.{StepsInside}
-use Rattle.pv_calls.specs.Kernel.{Running}
-use Rattle.pv_model.specs.declared.kernel_fault.StepFault.{StepFault}
+use Rattle.pv_calls.specs.OfCallsState.Counts.{processes_of}
+use Rattle.pv_calls.specs.OfProcs.ProcessTable.{ProcessTable, process_in}
+use Rattle.pv_calls.specs.OfCallsPlain.declared.answer.Answer.{Answer}
+use Rattle.pv_calls.specs.OfCallsPlain.Performed.{answered}
 use Rattle.pv_model.specs.declared.call.Call.{Call}
 use Rattle.pv_model.specs.declared.call.Call.TheVariants.{Write}
 use Rattle.pv_model.specs.declared.outcome.Outcome.{Outcome}
@@ -67,6 +68,10 @@ step-called s pid me call a at is answered =
 
 -- ---- the next instruction
 
+-- the process of a state, as the process table that its parts lend has it
+pub lent-process : (s lent : State) (table : ProcessTable) (pid : ℕ) → lent ≡ s → table ≡ processes_of lent → process_in table pid ≡ process_at s pid
+lent-process s lent table pid same is = ap (λ (x : ProcessTable). process_in x pid) is ∙ ap (λ (x : State). process_at x pid) same
+
 -- an instruction inside a process was carried out
 module _ (s : State) (pid : ℕ) (new : State) (made : StepsInside s pid new) where
   pub inside-is : stepped s pid ≡ record { after = new; outcome = Value 0; lines = [] }
@@ -84,28 +89,23 @@ module _ (s : State) (pid : ℕ) (new : State) (made : StepsInside s pid new) wh
 abbrev pub Asks : State → ℕ → Call → Type 0
 Asks s pid call = (me : Process) × (process_at s pid ≡ Some me) × (next me ≡ calls_for call)
 
-module _ (s : State) (pid : ℕ) (call : Call) (new : Running) where
+module _ (s : State) (pid : ℕ) (call : Call) (new : State) where
   -- an answered call, as a step
-  pub called-is : (outcome : Outcome) → Asks s pid call → answer program_of s pid call ≡ record { after = new.state; outcome = outcome; walks = new.walks }
-      → stepped s pid ≡ record { after = new.state; outcome = outcome; lines = lines_by pid (buffer_of (process_at new.state pid)) call outcome new.walks }
-  called-is outcome fetched answered = step-called s pid fetched.0 call (record { after = new.state; outcome = outcome; walks = new.walks }) fetched.1 fetched.2 answered
+  pub called-is : (a : Answer) → Asks s pid call → answer program_of s pid call ≡ answered new a
+      → stepped s pid ≡ record { after = new; outcome = a.outcome; lines = lines_by pid (buffer_of (process_at new pid)) call a.outcome a.walks }
+  called-is a fetched is = step-called s pid fetched.0 call (answered new a) fetched.1 fetched.2 is
 
-  -- the lines of the call, by the kernel's state after it
-  pub called-lines : (outcome : Outcome) → Asks s pid call → answer program_of s pid call ≡ record { after = new.state; outcome = outcome; walks = new.walks }
-      → (front : Bytes) (walks : ℕ) → front ≡ buffer_of (process_at new.state pid) → walks ≡ new.walks → lines_by pid front call outcome walks ≡ (stepped s pid).lines
-  called-lines outcome fetched answered front walks buffer begun =
-      ap (λ bytes. lines_by pid bytes call outcome walks) buffer ∙ ap (lines_by pid (buffer_of (process_at new.state pid)) call outcome) begun
-      ∙ sym (ap (λ (x : Stepped). x.lines) (called-is outcome fetched answered))
+  pub called-after : (a : Answer) → Asks s pid call → answer program_of s pid call ≡ answered new a → new ≡ (stepped s pid).after
+  called-after a fetched is = sym (ap (λ (x : Stepped). x.after) (called-is a fetched is))
 
-  pub called-after : (r : Result Outcome StepFault) → Asks s pid call → IfOk r (λ outcome. answer program_of s pid call ≡ record { after = new.state; outcome = outcome; walks = new.walks })
-      → OnOk r (new.state ≡ (stepped s pid).after)
-  called-after (Ok outcome) fetched answered = sym (ap (λ (x : Stepped). x.after) (called-is outcome fetched answered))
-  called-after (Err e) fetched answered = tt
+  pub called-outcome : (a : Answer) → Asks s pid call → answer program_of s pid call ≡ answered new a → a.outcome ≡ (stepped s pid).outcome
+  called-outcome a fetched is = sym (ap (λ (x : Stepped). x.outcome) (called-is a fetched is))
 
-  pub called-outcome : (r : Result Outcome StepFault) → Asks s pid call → IfOk r (λ outcome. answer program_of s pid call ≡ record { after = new.state; outcome = outcome; walks = new.walks })
-      → IfOk r (λ outcome. outcome ≡ (stepped s pid).outcome)
-  called-outcome (Ok outcome) fetched answered = sym (ap (λ (x : Stepped). x.outcome) (called-is outcome fetched answered))
-  called-outcome (Err e) fetched answered = tt
+  -- the lines of the call, by the buffer after it
+  pub called-lines : (a : Answer) → Asks s pid call → answer program_of s pid call ≡ answered new a
+      → (front : Bytes) → front ≡ buffer_of (process_at new pid) → lines_by pid front call a.outcome a.walks ≡ (stepped s pid).lines
+  called-lines a fetched is front buffer =
+      ap (λ bytes. lines_by pid bytes call a.outcome a.walks) buffer ∙ sym (ap (λ (x : Stepped). x.lines) (called-is a fetched is))
 
 pub gone-lines : (s t : State) (pid : ℕ) → s ≡ t → process_at s pid ≡ None → (stepped t pid).lines ≡ gone_lines pid
 gone-lines s t pid same none = ap (λ x. (stepped x pid).lines) (sym same) ∙ ap (λ (x : Stepped). x.lines) (step-gone s pid none)

@@ -1,8 +1,6 @@
 -- The state after a step and a run of the machine, and the lines that they write.
-use Rattle.std.specs.Prelude.{◌≡◌, ℕ, List, take, replicate, Option}
-use Rattle.pv_model.specs.Machine.{Bytes, program_of, State, Run, Schedule, Stepped, run, step, steps_of, Line, trace_bytes, Rose}
-use Rattle.pv_session.specs.declared.session.Stop.{Stop}
-use Rattle.pv_session.specs.declared.session.Stop.TheVariants.{Memory, Write}
+use Rattle.std.specs.Prelude.{◌≡◌, ℕ, List, replicate, Option}
+use Rattle.pv_model.specs.Machine.{Bytes, program_of, State, Run, Schedule, Stepped, run, step, steps_of, Line, trace_bytes}
 use Rattle.pv_streams.specs.Sinks.{and_all, WritesPrefix}
 
 -- a step of the machine, whose programs are parsed from files
@@ -12,10 +10,6 @@ stepped s pid = step program_of s pid
 -- `count` steps of a process
 abbrev pub run_of_turn : State → ℕ → ℕ → Run
 run_of_turn s pid count = run program_of (replicate count pid) s
-
--- a run over the first `count` turns of a schedule
-abbrev pub run_of_first : State → ℕ → Schedule → Run
-run_of_first s count schedule = run program_of (steps_of (take count schedule)) s
 
 -- a run over a schedule
 abbrev pub run_of : State → Schedule → Run
@@ -28,8 +22,3 @@ WrittenLines lines before after = after ≡ and_all before (trace_bytes lines)
 -- a prefix of the text of the lines is written
 abbrev pub BeginsLines : List Line → Option Bytes → Option Bytes → Type 0
 BeginsLines lines before after = WritesPrefix (trace_bytes lines) before after
-
--- a failed write was counted if a line could not be written, and none was counted if memory was refused
-abbrev pub FailsBy : Stop → ℕ → ℕ → Type 0
-FailsBy Memory before after = after ≡ before
-FailsBy Write before after = Rose before after

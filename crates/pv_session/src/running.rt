@@ -1,45 +1,70 @@
 //! Runs of schedules, with or without a trace.
-ghost use Rattle.std.specs.Prelude.{◌≡◌, ◌*◌, ◌≤◌, length, replicate, IfOk, IfErr, OnOk, OnErr};
+ghost use Rattle.std.specs.Prelude.{◌≡◌, ◌≤◌, ◌*◌, ◌^◌, length, IfOk, IfErr, OnOk, OnErr};
 ghost use Rattle.pv_model.specs.declared.limits.TheConstants.{SCHEDULE_LINES};
 ghost use Rattle.pv_model.specs.Machine.{steps_of, trace_bytes};
 ghost use Rattle.pv_session.specs.Stopping.{StopsOn, StopsUnread};
-ghost use Rattle.pv_session.specs.Running.{FailsBy, run_of_turn, run_of};
-ghost use Rattle.pv_streams.specs.Sinks.{WritesOr};
+ghost use Rattle.pv_session.specs.Running.{run_of};
+ghost use Rattle.pv_streams.specs.Sinks.{FailsBy, WritesOr};
 
-use crate::session::{Session, Stop};
+use crate::observing::{RunObserver, run_with};
+use crate::session::Session;
 use pv_model::StepFault;
-use pv_streams::Sink;
+use pv_streams::{Sink, Stop};
 use std::alloc::Global;
 
-// Makes `count` steps of a process, writes the lines of each step before it makes the next, and returns the number of
-// lines. Consecutive steps on registers are made at once.
-fn run_turn<W: Sink>(
-    alloc: Global,
-    session: &mut Session,
-    pid: u32,
-    count: u32,
-    trace: &mut W,
-) -> Result<u64, Stop>
-    ensures after { OnOk result (session.new ≡ (run_of_turn session.old pid count).final) }
-    ensures written { WritesOr W.Sink FailsBy
-        (trace_bytes (run_of_turn session.old pid count).lines) trace.old trace.new result }
-    ensures lines { IfOk result (λ n. n ≡ length (run_of_turn session.old pid count).lines) }
-    ensures few { IfOk result (λ n. n ≤ 7 * count) }
-    ensures stopped { IfErr result
-        (λ stop. StopsOn stop (replicate count pid) session.old session.new
-        (W.written trace.old) (W.written trace.new)) }
-{
-    let mut lines = 0;
-    let mut made = 0;
-    while made < count {
-        let written = session.trace_step(alloc, pid, trace)?;
-        made += 1;
-        if written == 0 {
-            made += session.pass(pid, count - made);
+// The observer that writes the lines of each step, and counts them. Consecutive steps on registers are made at once.
+#[derive(Clone, Copy)]
+struct Tracer {
+    // The number of lines, at most 2^64 - 1.
+    lines: u64,
+}
+
+impl<W: Sink> RunObserver<W> for Tracer {
+    ghost use Rattle.pv_session.specs.Tracing.{StopsTrace, TracesStep};
+
+    ghost makes = { TracesStep W.Sink };
+
+    ghost stops = { StopsTrace W.Sink };
+
+    fn make_steps(
+        &mut self,
+        alloc: Global,
+        session: &mut Session,
+        pid: u32,
+        most: u32,
+        out: &mut W,
+    ) -> Result<u32, Stop> {
+        let lines = session.trace_step(alloc, pid, out)?;
+        self.lines = self.lines.saturating_add(u64::from(lines));
+        if lines > 0 {
+            return Ok(1);
         }
-        lines += u64::from(written);
+        Ok(1 + session.pass(pid, most - 1))
     }
-    Ok(lines)
+}
+
+// The observer that observes nothing. Consecutive steps on registers are made at once.
+#[derive(Clone, Copy)]
+struct Unobserved;
+
+impl<W> RunObserver<W> for Unobserved {
+    ghost use Rattle.pv_session.specs.Tracing.{PassesStep, StopsPass};
+
+    ghost makes = { PassesStep };
+
+    ghost stops = { λ _. StopsPass };
+
+    fn make_steps(
+        &mut self,
+        alloc: Global,
+        session: &mut Session,
+        pid: u32,
+        most: u32,
+        _out: &mut W,
+    ) -> Result<u32, Stop> {
+        session.step(alloc, pid)?;
+        Ok(1 + session.pass(pid, most - 1))
+    }
 }
 
 /// Runs a schedule, writes the lines of each step before it makes the next, and returns the number of lines.
@@ -64,25 +89,9 @@ pub fn run_schedule<W: Sink>(
         (λ stop. StopsOn stop (steps_of schedule.now) session.old session.new
         (W.written trace.old) (W.written trace.new)) }
 {
-    let mut lines = 0;
-    for turn in schedule {
-        lines += run_turn(alloc, session, turn.0, turn.1, trace)?;
-    }
-    Ok(lines)
-}
-
-// Makes `count` steps of a process without writing lines. Consecutive steps on registers are made at once.
-fn pass_turn(alloc: Global, session: &mut Session, pid: u32, count: u32) -> Result<(), StepFault>
-    ensures after { OnOk result (session.new ≡ (run_of_turn session.old pid count).final) }
-    ensures stopped { OnErr result (StopsUnread (replicate count pid) session.old session.new) }
-{
-    let mut made = 0;
-    while made < count {
-        session.step(alloc, pid)?;
-        made += 1;
-        made += session.pass(pid, count - made);
-    }
-    Ok(())
+    let mut tracer = Tracer { lines: 0 };
+    run_with(alloc, session, schedule, &mut tracer, trace)?;
+    Ok(tracer.lines)
 }
 
 /// Runs a schedule without writing lines.
@@ -99,16 +108,17 @@ pub fn pass_schedule(
     ensures after { OnOk result (session.new ≡ (run_of session.old schedule.now).final) }
     ensures stopped { OnErr result (StopsUnread (steps_of schedule.now) session.old session.new) }
 {
-    for turn in schedule {
-        pass_turn(alloc, session, turn.0, turn.1)?;
+    match run_with(alloc, session, schedule, &mut Unobserved, &mut ()) {
+        Ok(()) => Ok(()),
+        Err(_) => Err(StepFault::NoMemory),
     }
-    Ok(())
 }
 
 /// Returns the number of steps of a schedule.
 pub fn step_count(schedule: &[(u32, u32)]) -> u64
     requires { length schedule.now ≤ SCHEDULE_LINES }
-    ensures { result ≡ length (steps_of schedule.now) }
+    ensures value { result ≡ length (steps_of schedule.now) }
+    ensures few { result ≤ 2 ^ 32 * length schedule.now }
 {
     let mut steps = 0;
     for turn in schedule {

@@ -1,66 +1,44 @@
 //! The machine, step by step.
-ghost use Rattle.std.specs.Prelude.{◌≡◌, ◌⊎◌, ◌<◌, ◌≤◌, ◌∷◌, IfOk, IfErr, IsTrue, OnOk, OnErr, Ok, Err, Some, [], length};
-ghost use Rattle.pv_laws_states.specs.States.{IsFirstTree, IsValid, is_call};
-ghost use Rattle.pv_model.specs.Machine.{call_of, program_of, audit_node as audit_of, booted, process_at, buffer_of, trace_bytes, answer};
-ghost use Rattle.pv_model.specs.declared.limits.TheConstants.{BUFFER};
+ghost use Rattle.std.specs.Prelude.{◌≡◌, ◌⊎◌, ◌<◌, ◌≤◌, ◌∷◌, IfOk, IfErr, OnOk, OnErr, Ok, Err, Some, [], length};
+ghost use Rattle.pv_laws_states.specs.States.{IsFirstTree, IsValid};
+ghost use Rattle.pv_model.specs.Machine.{call_of, program_of, audit_node as audit_of, booted, find_entry, process_at, trace_bytes, answer};
 ghost use Rattle.pv_model.specs.Sealed.{audit as audit_by_definition};
 ghost use Rattle.pv_model.specs.Touch.{IsJustified};
-ghost use Rattle.pv_calls.specs.Kernel.{IsCallable};
+ghost use Rattle.pv_calls.specs.OfCallsPath.OfNamei.Cached.{FitsMap};
 ghost use Rattle.pv_calls.specs.OfCallsPlain.Performed.{answered};
 ghost use Rattle.pv_calls.specs.OfCallsState.Changes.{StepsInside};
-ghost use Rattle.pv_calls.specs.OfProcs.Turns.{AwaitsCall, CallsNext, IsFetched, RegisterNext};
+ghost use Rattle.pv_calls.specs.OfProcs.Turns.{AwaitsCall, CallsNext, IsNextCall, RegisterNext};
 ghost use Rattle.pv_calls.specs.OfTree.Sizes.{HaveSameSizes};
 ghost use Rattle.pv_session.specs.Audits.{KeepsSecret, KeepsSecretAt};
 ghost use Rattle.pv_session.specs.Restraints.{ChildBeginsWithSameRights, GainsNothing, LeavesOthers};
-ghost use Rattle.pv_session.specs.declared.session.Stop.TheVariants.{Memory, Write};
 ghost use Rattle.pv_session.specs.Stopping.{NextLoads, StopsOn};
-ghost use Rattle.pv_session.specs.Running.{FailsBy, stepped, run_of_turn};
-ghost use Rattle.pv_streams.specs.Sinks.{WritesOr};
+ghost use Rattle.pv_session.specs.Running.{stepped, run_of_turn};
+ghost use Rattle.pv_streams.specs.Sinks.{FailsBy, WritesOr};
 
-use pv_calls::Kernel;
 use pv_calls::audit::{audit, audit_node};
+use pv_calls::boot::boot;
+use pv_calls::calls::make_call;
+use pv_calls::calls_path::system::System;
 use pv_calls::calls_plain::answer::Answer;
 use pv_calls::calls_state::Parts;
 use pv_calls::namei::CachedLookup;
 use pv_calls::procs::Fetched;
 use pv_calls::script::CallTexts;
-use pv_calls::tree::{Store, Tree};
+use pv_calls::tree::Store;
 use pv_model::{AuditFault, BootFault, CallRef, Outcome, StepFault, Verdict};
-use pv_streams::{Failed, Sink};
+use pv_streams::{Sink, Stop};
 use pv_trace::{LineBuffer, write_call_lines, write_gone_line};
 use std::alloc::{AllocError, Global};
 use std::marker::Model;
 
-/// The reason why a run stops before its end.
-#[derive(Clone, Copy)]
-pub enum Stop {
-    /// There is no memory for a step. The step was not made.
-    Memory,
-    /// A line could not be written.
-    Write,
-}
-
-impl From<StepFault> for Stop {
-    ghost from_gives = { λ _ e. e ≡ Memory };
-
-    fn from(_fault: StepFault) -> Stop {
-        Stop::Memory
-    }
-}
-
-impl From<Failed> for Stop {
-    ghost from_gives = { λ _ e. e ≡ Write };
-
-    fn from(_failed: Failed) -> Stop {
-        Stop::Write
-    }
-}
-
 /// A machine on a tree. `step` advances its state.
+///
+/// Between two steps the state satisfies the invariant of all runs (`IsValid`), and the name cache agrees with the
+/// tree.
 #[derive(Drop)]
 pub struct Session {
     // Boxed, like the line buffer below, so that a session is cheap to move.
-    kernel: Box<Kernel<CachedLookup>>,
+    system: Box<System<CachedLookup>>,
     // The texts of the last call, overwritten by the next.
     texts: CallTexts,
     // The buffer in which trace lines are built.
@@ -72,32 +50,42 @@ impl Model for Session {
 
     ghost Value = { State };
 
-    ghost view = { λ s. s.kernel.value.state };
+    ghost use Rattle.pv_calls.specs.OfCallsPath.OfNamei.Cached.{FitsMap};
+    ghost use Rattle.pv_laws_states.specs.States.{IsValid};
+    ghost use Rattle.pv_model.specs.Tree.{find_entry};
+
+    ghost view = { λ s. s.system.value.parts };
+
+    ghost invariant = { λ s. IsValid s.system.value.parts
+        × FitsMap s.system.value.lookup.answers (find_entry s.system.value.parts.tree) };
 }
 
 // Makes the next call of a live process, writes its lines, and returns their number.
 fn trace_call<W: Sink>(
     alloc: Global,
-    kernel: &mut Kernel<CachedLookup>,
+    system: &mut System<CachedLookup>,
     line_buffer: &mut LineBuffer,
     pid: u32,
     call: CallRef<'_>,
     trace: &mut W,
 ) -> Result<u8, Stop>
-    requires next { CallsNext call (process_at kernel.old.state pid) }
-    requires callable { IsTrue (is_call (call_of call)) }
-    ensures after { OnOk result (kernel.new.state ≡ (stepped kernel.old.state pid).after) }
+    requires whole { IsValid system.old.parts }
+    requires agrees { FitsMap system.old.lookup.answers (find_entry system.old.parts.tree) }
+    requires next { CallsNext call (process_at system.old.parts pid) }
+    ensures whole { IsValid system.new.parts }
+    ensures agrees { FitsMap system.new.lookup.answers (find_entry system.new.parts.tree) }
+    ensures after { OnOk result (system.new.parts ≡ (stepped system.old.parts pid).after) }
     ensures written { WritesOr W.Sink FailsBy
-        (trace_bytes (stepped kernel.old.state pid).lines) trace.old trace.new result }
-    ensures lines { IfOk result (λ n. n ≡ length (stepped kernel.old.state pid).lines) }
+        (trace_bytes (stepped system.old.parts pid).lines) trace.old trace.new result }
+    ensures lines { IfOk result (λ n. n ≡ length (stepped system.old.parts pid).lines) }
     ensures few { IfOk result (λ n. n ≤ 7) }
     ensures stopped { IfErr result
-        (λ stop. StopsOn stop (pid ∷ []) kernel.old.state kernel.new.state
+        (λ stop. StopsOn stop (pid ∷ []) system.old.parts system.new.parts
         (W.written trace.old) (W.written trace.new)) }
 {
-    let outcome = kernel.call(alloc, pid, call)?;
-    let front = kernel.buffer(pid);
-    let walks = kernel.walks();
+    let answer = make_call(alloc, system, pid, call)?;
+    let front = system.parts.buffer(pid);
+    let Answer { outcome, walks } = answer;
     Ok(write_call_lines(trace, line_buffer, pid, front, call, outcome, walks)?)
 }
 
@@ -116,9 +104,10 @@ impl Session {
             (λ fault. (fault ≡ BootFault.Memory) ⊎ (booted store ≡ Err fault)) }
     {
         let line_buffer = Box::new(alloc, LineBuffer::new())?;
-        match Kernel::boot(alloc, store) {
-            Ok(kernel) => Ok(Session {
-                kernel: Box::new(alloc, kernel)?,
+        let lookup = CachedLookup::new(alloc)?;
+        match boot(alloc, store, lookup) {
+            Ok(system) => Ok(Session {
+                system: Box::new(alloc, system)?,
                 texts: CallTexts::new(),
                 line_buffer,
             }),
@@ -136,14 +125,10 @@ impl Session {
         ensures copied { OnOk result (self.new ≡ other.now) }
         ensures unchanged { OnErr result (self.new ≡ self.old) }
     {
-        self.kernel.copy_from(&other.kernel)
-    }
-
-    // Does nothing. Its contract states that the state satisfies the invariant of all runs.
-    fn invariant(&self)
-        ensures { IsValid self.now }
-    {
-        let _ = self.kernel.parts();
+        let system = &mut *self.system;
+        system.parts.copy_from(&other.system.parts)?;
+        system.lookup.stop();
+        Ok(())
     }
 
     /// Makes one step of a process: an instruction on registers, whose outcome is 0, or a call. If the process is not
@@ -172,12 +157,11 @@ impl Session {
         ensures others { OnOk result (LeavesOthers self.old pid self.new) }
         ensures child { IfOk result (λ outcome. ChildBeginsWithSameRights self.old pid outcome self.new) }
     {
-        self.invariant();
-        let kernel = &mut *self.kernel;
-        match kernel.step_or_fetch(pid, &mut self.texts) {
+        let system = &mut *self.system;
+        match system.parts.step_or_fetch(pid, &mut self.texts) {
             Fetched::Gone => Ok(Outcome::Gone),
             Fetched::Register => Ok(Outcome::Value(0)),
-            Fetched::Call(call) => kernel.call(alloc, pid, call),
+            Fetched::Call(call) => Ok(make_call(alloc, system, pid, call)?.outcome),
         }
     }
 
@@ -189,61 +173,40 @@ impl Session {
         ensures no_lines { (run_of_turn self.old pid result).lines ≡ [] }
         ensures whole { result < most → AwaitsCall (process_at self.new pid) }
     {
-        self.kernel.pass(pid, most)
+        self.system.parts.pass(pid, most)
     }
 
-    /// Returns the 4,096 bytes of a process's buffer, or no bytes if the process is not live. The bytes of an outcome
-    /// are at the front of the buffer.
-    pub fn buffer(&self, pid: u32) -> &[u8]
-        ensures value { result.now ≡ buffer_of (process_at self.now pid) }
-        ensures size { length result.now ≤ BUFFER }
+    /// Returns the next instruction of a process if it is a call, whose texts are kept in `texts`, and `None` if it is
+    /// not a call or the process is not live. Past the last line the call is `exit 0`. The call is not made.
+    pub fn next_call<'a>(&self, pid: u32, texts: &'a mut CallTexts) -> Option<CallRef<'a>>
+        ensures { IsNextCall result (process_at self.now pid) }
     {
-        self.kernel.buffer(pid)
-    }
-
-    /// Returns the next instruction of a process: none if the process is not live, an instruction on registers or a
-    /// jump, or a call, whose texts are kept in `texts`. Past the last line the call is `exit 0`. The instruction is
-    /// not carried out.
-    pub fn fetch<'a>(&self, pid: u32, texts: &'a mut CallTexts) -> Fetched<'a>
-        ensures next { IsFetched result (process_at self.now pid) }
-        ensures callable { IsCallable result }
-    {
-        self.kernel.fetch(pid, texts)
+        self.parts().processes().next_call(pid, texts)
     }
 
     /// Carries out the next instruction of a process, which must be an instruction on registers or a jump, as reported
-    /// by `fetch`.
+    /// by `Processes::fetch`.
     pub fn register(&mut self, pid: u32)
         requires { RegisterNext (process_at self.old pid) }
         ensures { StepsInside self.old pid self.new }
     {
-        self.kernel.register(pid);
+        self.system.parts.pass(pid, 1);
     }
 
-    /// Makes the next call of a process, as reported by `fetch`, and returns its outcome and the number of walks that
-    /// it began. The bytes of the outcome are at the front of the process's buffer.
+    /// Makes the next call of a process, as reported by `Processes::fetch`, and returns its outcome and the number of
+    /// walks that it began. The bytes of the outcome are at the front of the process's buffer.
     ///
     /// # Errors
     ///
     /// `NoMemory`, as for `step`. The state is then unchanged.
     pub fn call(&mut self, alloc: Global, pid: u32, call: CallRef<'_>) -> Result<Answer, StepFault>
-        requires next { CallsNext call (process_at self.old pid) }
-        requires callable { IsTrue (is_call (call_of call)) }
+        requires { CallsNext call (process_at self.old pid) }
         ensures answered { IfOk result
             (λ a. answer program_of self.old pid (call_of call.entry) ≡ answered self.new a) }
         ensures unchanged { OnErr result (self.new ≡ self.old) }
         ensures memory { OnErr result (NextLoads self.old pid) }
     {
-        let outcome = self.kernel.call(alloc, pid, call)?;
-        let walks = self.kernel.walks();
-        Ok(Answer { outcome, walks })
-    }
-
-    /// Returns the tree.
-    pub fn tree(&self) -> &Tree
-        ensures { result.now.tree ≡ self.now.tree }
-    {
-        self.kernel.tree()
+        make_call(alloc, &mut *self.system, pid, call)
     }
 
     /// Returns the state. Between two steps it satisfies the invariant of all runs.
@@ -251,7 +214,7 @@ impl Session {
         ensures value { result.now ≡ self.now }
         ensures whole { IsValid self.now }
     {
-        self.kernel.parts()
+        &self.system.parts
     }
 
     /// Audits the file at a path. The path is walked from the root; links are followed, and no unveil table applies.
@@ -270,7 +233,7 @@ impl Session {
         ensures found { result ≡ audit_by_definition self.now path.now }
         ensures secret { KeepsSecret self.now path.now result }
     {
-        audit(self.kernel.parts(), path)
+        audit(self.parts(), path)
     }
 
     /// Audits the file of a node, as `audit` does for a path. Does not allocate.
@@ -283,7 +246,7 @@ impl Session {
         ensures found { result ≡ audit_of self.now (Some node) }
         ensures secret { KeepsSecretAt self.now node result }
     {
-        audit_node(self.kernel.parts(), node)
+        audit_node(self.parts(), node)
     }
 
     /// Makes a step of a process, writes its lines, at most seven, and returns their number.
@@ -307,8 +270,8 @@ impl Session {
         ensures stopped { IfErr result (λ stop. StopsOn stop (pid ∷ []) self.old self.new
             (W.written trace.old) (W.written trace.new)) }
     {
-        let kernel = &mut *self.kernel;
-        match kernel.step_or_fetch(pid, &mut self.texts) {
+        let system = &mut *self.system;
+        match system.parts.step_or_fetch(pid, &mut self.texts) {
             Fetched::Gone => {
                 write_gone_line(trace, &mut *self.line_buffer, pid)?;
                 Ok(1)
@@ -316,7 +279,7 @@ impl Session {
             Fetched::Register => Ok(0),
             Fetched::Call(call) => trace_call(
                 alloc,
-                kernel,
+                system,
                 &mut *self.line_buffer,
                 pid,
                 call,

@@ -14,7 +14,8 @@ use crate::programs::{
 };
 use crate::words::has_no_word;
 use itoa::Buffer;
-use pv_model::{hex_digit, is_plain};
+use pv_model::is_plain;
+use pv_streams::escape;
 use pv_text::lines::split_line;
 use std::alloc::{AllocError, Global};
 
@@ -31,7 +32,7 @@ fn push_quoted_byte(byte: u8, out: &mut Vec<u8>) -> Result<(), AllocError>
         out.push(byte)?;
         return Ok(());
     }
-    out.extend_from_slice(&[b'\\', b'x', hex_digit(byte / 16), hex_digit(byte % 16)])
+    out.extend_from_slice(&escape(byte))
 }
 
 // Appends a text in quotation marks.

@@ -14,7 +14,7 @@ use Rattle.pv_model.specs.Machine.{AnswerLine, answer_bytes, answer_line_bytes, 
 use Rattle.pv_model.specs.Tree.{above_or_none}
 use Rattle.pv_model.specs.declared.stream.Sink.{Ghosts as Writing}
 use Rattle.pv_streams.specs.Sinks.{Writes}
-use Rattle.pv_answers.proofs.WriterContracts.{writes_as, writes_both, writes_longer, writes_none, writes_ok}
+use Rattle.pv_streams.proofs.WriterContracts.{writes_as, writes_both, writes_longer, writes_none, writes_ok}
 use Rattle.pv_answers.specs.OfUnveil.Up.{up}
 use Rattle.pv_answers.proofs.OfUnveil.ClimbSteps.{up-directory}
 use Rattle.pv_step_lines.specs.declared.levels.Basis.{Basis}

@@ -4,7 +4,6 @@
 --   definitions)
 -- - PledgeIncreases (pledge), EntryOrigins (origins in words), RemarkLines, MovedLines and StatusBytes (parts of
 --   lines), CallLines (the bytes of a call's lines), AncestorLines (the lines of levels, one at a time)
--- - StoppedWriters (writers that a lack of memory or a failed write ends)
 pub mod PledgeIncreases
 pub mod CallLines
 pub mod AncestorLines
@@ -16,7 +15,6 @@ pub mod RemarkLines
 pub mod ReturnedSizes
 pub mod EntryOrigins
 pub mod StatusBytes
-pub mod StoppedWriters
 pub mod UnveilTargets
 pub use Rattle.pv_answers.proofs as OfAnswers
 pub use Rattle.pv_session.proofs.OfLawsRuns

@@ -67,7 +67,7 @@ pub fn write_call<W: Sink>(
     let Answer { outcome, walks } = made.answer;
     let before = &made.before;
     let parts = session.parts();
-    let moved = reported_bytes(session.buffer(pid), call, outcome);
+    let moved = reported_bytes(parts.buffer(pid), call, outcome);
     write_first_lines(out, line_buffer, pid, call, walks)?;
     write_promise_part(
         out,
@@ -88,7 +88,7 @@ pub fn write_call<W: Sink>(
 /// # Errors
 ///
 /// `Failed`, if a write failed. The sink received a prefix of the lines.
-#[tactic(auto, using(pv_answers::proofs::WriterContracts::writes_none))]
+#[tactic(auto, using(pv_streams::proofs::WriterContracts::writes_none))]
 pub fn write_made<W: Sink>(
     out: &mut W,
     line_buffer: &mut LineBuffer,

@@ -9,9 +9,9 @@ ghost use Rattle.pv_answers.specs.OfUnveil.Up.{directory_of_place};
 use crate::origin::Origin;
 use pv_answers::tree::Tree;
 use pv_answers::unveil::{Table, above};
-use pv_answers::{Decimal, Fragment, Letters, Line, NameWords, NodeWords, PathOf, Plain, has_path};
+use pv_answers::{Letters, Line, NameWords, NodeWords, PathOf, has_path};
 use pv_model::{Perms, Place};
-use pv_streams::{Failed, Sink, write_whole};
+use pv_streams::{Decimal, Failed, Fragment, Plain, Sink, write_whole};
 
 /// The context in which the places of a process are checked.
 #[derive(Clone, Copy)]

@@ -1,8 +1,7 @@
 //! Steps, with the part of the state before them that their explanations need.
-ghost use Rattle.std.specs.Prelude.{◌≡◌, IfOk, IsTrue, OnErr};
+ghost use Rattle.std.specs.Prelude.{◌≡◌, IfOk, OnErr};
 ghost use Rattle.pv_step_lines.specs.Made.{IsFit, IsFitCall, IsMade, IsMadeCall, IsMadeInside, line_before_step};
-ghost use Rattle.pv_laws_states.specs.States.{is_call};
-ghost use Rattle.pv_model.specs.Machine.{call_of, process_at};
+ghost use Rattle.pv_model.specs.Machine.{process_at};
 ghost use Rattle.pv_answers.specs.OfProcs.Turns.{CallsNext, RegisterNext};
 ghost use Rattle.pv_session.specs.Stopping.{NextLoads};
 
@@ -71,8 +70,7 @@ pub fn make_call<'a>(
     pid: u32,
     call: CallRef<'a>,
 ) -> Result<MadeCall<'a>, StepFault>
-    requires next { CallsNext call (process_at session.old pid) }
-    requires callable { IsTrue (is_call (call_of call)) }
+    requires { CallsNext call (process_at session.old pid) }
     ensures made { IfOk result (λ made. IsMadeCall session.old pid made session.new) }
     ensures fit { IfOk result (λ made. IsFitCall pid made session.new) }
     ensures unchanged { OnErr result (session.new ≡ session.old) }
@@ -103,7 +101,7 @@ pub fn make_step<'a>(
     ensures unchanged { OnErr result (session.new ≡ session.old) }
     ensures memory { OnErr result (NextLoads session.old pid) }
 {
-    match session.fetch(pid, texts) {
+    match session.parts().processes().fetch(pid, texts) {
         Fetched::Gone => Ok(MadeStep::Gone),
         Fetched::Register => Ok(MadeStep::Register(make_register(session, pid))),
         Fetched::Call(call) => Ok(MadeStep::Call(make_call(alloc, session, pid, call)?)),

@@ -9,9 +9,9 @@ ghost use Rattle.pv_streams.specs.Sinks.{Writes};
 ghost use Rattle.pv_trace.specs.Reported.{moved_words_of};
 
 use pv_answers::calls_state::Parts;
-use pv_answers::{Decimal, Fragment, Line as AnswerLine, NodeWords, Plain, Quoted};
+use pv_answers::{Line as AnswerLine, NodeWords};
 use pv_model::CallRef;
-use pv_streams::{Failed, Sink, write_whole};
+use pv_streams::{Decimal, Failed, Fragment, Plain, Quoted, Sink, write_whole};
 use pv_trace::{Direction, Line, LineBuffer, Word, write_line_on};
 
 // Returns the number in two bytes, the lowest first.

@@ -14,10 +14,10 @@ ghost use Rattle.pv_trace.specs.Words.{promise_verdict_of, unveil_verdict_of};
 ghost use Rattle.pv_answers.specs.OfUnveil.Up.{directory_of_place};
 
 use crate::levels::{Basis, EntryText, OriginText, write_levels};
-use pv_answers::{Fragment, Letters, Line as AnswerLine, Plain, Pledged};
+use pv_answers::{Letters, Line as AnswerLine, Pledged};
 use pv_model::{CallRef, Mode, OpenFlags, Perms, Place, Promise, Promises, Text};
 use pv_promises::{Pledge, read_promises};
-use pv_streams::{Failed, Sink};
+use pv_streams::{Failed, Fragment, Plain, Sink};
 use pv_trace::{
     Line, LineBuffer, PromiseVerdict, UnveilVerdict, Word, write_call_name, write_line_on,
 };

@@ -1,2 +1,4 @@
+pub mod Fragments
+pub mod ProperPrefixes
 pub mod Sinks
 pub mod Sources

@@ -3,6 +3,8 @@ use Rattle.std.specs.Prelude.{◌≡◌, ℕ, ◌++◌, Option, option_map, Resu
 use Rattle.pv_model.specs.declared.stream.Sink.{Ghosts as Writing}
 use Rattle.pv_model.specs.Machine.{Bytes, Rose}
 use Rattle.pv_model.specs.Stream.{and_front}
+use Rattle.pv_streams.specs.declared.stop.Stop.{Stop}
+use Rattle.pv_streams.specs.declared.stop.Stop.TheVariants.{Memory, Write}
 
 -- the output with a whole text appended
 abbrev pub and_all : Option Bytes → Bytes → Option Bytes
@@ -26,3 +28,8 @@ pub record WritesOr {W T E : Type 0} (sink : Writing W) (fails : E → ℕ → �
   pub prefix : OnErr result (WritesPrefix text (sink.written old) (sink.written new))
   pub failed : IfErr result (λ error. fails error (sink.failures old) (sink.failures new))
   pub quiet : OnOk result (sink.failures new ≡ sink.failures old)
+
+-- a failed write was counted if a write failed, and none was counted if there was no memory
+abbrev pub FailsBy : Stop → ℕ → ℕ → Type 0
+FailsBy Memory before after = after ≡ before
+FailsBy Write before after = Rose before after

@@ -6,9 +6,9 @@ use crate::bytes::front;
 use crate::sinks::{Narrow, sink_of};
 use crate::trees::Step::{Link, Make, Write};
 use crate::trees::{Step, make, tree_of};
-use pv_listing::{ListStop, Remarks, write_lines, write_listing, write_path};
+use pv_listing::{Remarks, write_lines, write_listing, write_path};
 use pv_model::{Kind, Version};
-use pv_streams::{Failed, Sink, write_whole};
+use pv_streams::{Failed, Sink, Stop, write_whole};
 use pv_tree::{Store, Tree};
 use std::alloc::{AllocError, Global};
 use std::process::Abort;
@@ -20,7 +20,7 @@ fn listed<R: AllocGlobal>(
     tree: &Tree,
     room: usize,
     width: usize,
-) -> (Narrow, Result<(), ListStop>) {
+) -> (Narrow, Result<(), Stop>) {
     let mut out = sink_of(rt.alloc(), room, width);
     let answer = write_listing(rt.alloc(), tree, &mut out);
     (out, answer)
@@ -92,7 +92,7 @@ fn expect_prefix<R: Abort + AllocGlobal>(
     listing: &[u8],
 ) {
     let (out, answer) = listed(rt, tree, room, width);
-    expect_same(rt, answer, Err(ListStop::Write));
+    expect_same(rt, answer, Err(Stop::Write));
     expect_equal(rt, out.bytes.as_slice(), front(listing, room));
     expect_same(rt, out.failures, 1);
 }
@@ -129,7 +129,7 @@ fn expect_dots<R: Abort + AllocGlobal>(
     rt: &R,
     tree: &Tree,
     room: usize,
-    answer: Result<(), ListStop>,
+    answer: Result<(), Stop>,
     wanted: &[u8],
 ) {
     let mut out = sink_of(rt.alloc(), room, 1_000);
@@ -141,7 +141,7 @@ fn expect_dots<R: Abort + AllocGlobal>(
 fn each_name_is_written_as_the_remarks_say(rt: HostRuntime) -> Result<(), AllocError> {
     let tree = tree_of(&rt, rt.alloc(), 30, SOME)?;
     expect_dots(&rt, &tree, 1_000, Ok(()), b"........");
-    expect_dots(&rt, &tree, 3, Err(ListStop::Write), b"...");
+    expect_dots(&rt, &tree, 3, Err(Stop::Write), b"...");
     Ok(())
 }
 
@@ -305,8 +305,8 @@ fn ready_sink<R: AllocGlobal>(rt: &R) -> Result<Narrow, AllocError> {
 
 // Checks that the output of a listing that can fail to allocate memory is a prefix of the whole listing, and is all of
 // it if the result is `Ok`.
-fn expect_part(rt: &impl Abort, listed: Result<(), ListStop>, first: &Narrow, whole: &Narrow) {
-    expect(rt, listed != Err(ListStop::Write));
+fn expect_part(rt: &impl Abort, listed: Result<(), Stop>, first: &Narrow, whole: &Narrow) {
+    expect(rt, listed != Err(Stop::Write));
     expect_same(rt, first.failures, 0);
     expect(rt, whole.bytes.starts_with(first.bytes.as_slice()));
     let is_short = first.bytes.len() < whole.bytes.len();

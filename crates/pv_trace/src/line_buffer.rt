@@ -4,14 +4,13 @@
 ghost use Rattle.std.specs.Prelude.{◌≡◌, ◌++◌, ◌+◌, ◌*◌, ◌<◌, ◌≤◌, replicate, ◌∷◌, length, codes, decimal, flat_map, option_copied};
 ghost use Rattle.std.specs.Fmt.{signed_decimal};
 ghost use Rattle.pv_model.specs.declared.limits.TheConstants.{TEXT};
-ghost use Rattle.pv_model.specs.Machine.{quote, quote_byte, hex_byte};
+ghost use Rattle.pv_model.specs.Machine.{quote, quote_byte};
 ghost use Rattle.pv_model.specs.Trace.{quote_or_null, hex, pad_left};
 ghost use Rattle.pv_trace.specs.Words.{permissions_bytes};
 
-use crate::fixed_buffer::FixedBuffer;
-use crate::plain::plain_count;
 use itoa::Buffer;
 use pv_model::{Perms, Text, hex_digit};
+use pv_streams::{FixedBuffer, escape, plain_count};
 
 /// An upper bound of the length of a line. A CALL or a GIO line can be almost this long.
 pub const LINE_BYTES: usize = 9_216;
@@ -211,18 +210,6 @@ pub(crate) fn put_hex(out: &mut LineBuffer, bytes: &[u8])
     put_hex_part(out, left);
 }
 
-// Appends the escape of a byte.
-fn put_escaped(out: &mut LineBuffer, byte: u8)
-    requires { length out.old.items + 4 ≤ LINE_BUFFER }
-    ensures text { out.new.items ≡ out.old.items ++ (codes "\\x" ++ hex_byte byte) }
-    ensures growth { length out.new.items ≤ length out.old.items + 4 }
-{
-    put(
-        out,
-        &[b'\\', b'x', hex_digit(byte / 16), hex_digit(byte % 16)],
-    );
-}
-
 // Appends the bytes of a text in their shortest form. Bytes that need no escape are appended in runs.
 fn put_quoted_bytes(out: &mut LineBuffer, bytes: &[u8])
     requires { length out.old.items + 4 * length bytes.now ≤ LINE_BUFFER }
@@ -236,7 +223,7 @@ fn put_quoted_bytes(out: &mut LineBuffer, bytes: &[u8])
         let Some((first, following)) = following.split_first() else {
             return;
         };
-        put_escaped(out, *first);
+        put(out, &escape(*first));
         rest = following;
     }
 }

@@ -1,12 +1,12 @@
--- Copying the stored data of a tree: beyond its inodes the data of two trees are the same.
-use Rattle.std.proofs.Common.{◌≡◌, ℕ, ◌+◌, ◌<◌, ◌≤◌, List, [], ◌∷◌, ◌++◌, length, take, drop, refl, sym, ap, subst, ◌∙◌, inl, inr, arith}
+-- Copying the stored data of a tree: beyond their nodes the data of two trees are the same.
+use Rattle.std.proofs.Common.{◌≡◌, ℕ, None, true, is_some, ◌+◌, ◌<◌, ◌≤◌, List, [], ◌∷◌, ◌++◌, length, take, drop, refl, sym, ap, subst, ◌∙◌, inl, inr, arith}
 use Rattle.std.specs.Prelude.{slice_index}
 use Rattle.std.proofs.Math.ListN.{get_or-append}
-use Rattle.std.proofs.lemmas.Bool.{cases_eq}
+use Rattle.std.proofs.lemmas.Bool.{cases_eq, cases_lt}
 use Rattle.std.proofs.lemmas.Grind.{same_number_lists}
 use Rattle.std.proofs.lemmas.List.{get_or-drop, get_or-take, length-append, length-drop, length-take-le, take-append-drop}
-use Rattle.pv_model.specs.Machine.{Bytes, Tree, names_of, IsWellFormed}
-use Rattle.pv_laws_trees.proofs.TreeChanges.{some-below, directory-below}
+use Rattle.pv_model.specs.Machine.{Bytes, Tree, names_of, node_at, IsWellFormed}
+use Rattle.pv_laws_trees.proofs.TreeChanges.{some-below, directory_is_some}
 use Rattle.pv_laws_trees.proofs.ListMembers.{In, in-entry}
 use Rattle.pv_laws_trees.proofs.Trees.{ordered}
 use Rattle.pv_tree.specs.Present.{HasTreeCounts, IsTied}
@@ -25,42 +25,49 @@ copied-front xs ys count n below within =
     let inside : n < length (take count xs) = omega (arith, length-take-le count xs within) in
     get_or-append (take count xs) ys 0 n inside ∙ get_or-take count xs n 0 below
 
--- a number beyond the inodes has no names
-unnamed-beyond : (t : Tree) → IsWellFormed t → (n : ℕ) → length t.nodes ≤ n → length (names_of t n) ≡ 0
-unnamed-beyond t w n beyond = by (names_of t n) refl
+-- each node is below a number
+abbrev pub AreBelow : Tree → ℕ → Type 0
+AreBelow t count = (n : ℕ) → is_some (node_at t n) ≡ true → n < count
+
+-- no node exceeds a bound, so each is below a number that is not too small
+pub are-below : (t : Tree) (bound count : ℕ) → ((k : ℕ) → bound < k → node_at t k ≡ None) → ((n : ℕ) → n ≤ bound → n < length t.nodes → n < count) → AreBelow t count
+are-below t bound count none enough n used = elim (cases_lt bound n) [
+  | inl past ↦ let free = ap is_some (none n past) in cc
+  | inr within ↦ enough n within (some-below t n used)
+]
+
+-- a number beyond the nodes has no names
+unnamed-beyond : (t : Tree) (count : ℕ) → IsWellFormed t → AreBelow t count → (n : ℕ) → count ≤ n → length (names_of t n) ≡ 0
+unnamed-beyond t count w below n beyond = by (names_of t n) refl
   where
     by : (xs : List (ℕ × Bytes)) → names_of t n ≡ xs → length (names_of t n) ≡ 0
     by [] is = ap (λ (ys : List (ℕ × Bytes)). length ys) is
     by (x ∷ xs) is =
         let named = in-entry t (ordered t w.each_node) n x (subst (In (ℕ × Bytes) x) (sym is) (inl refl)) in
-        let below = some-below t n (w.entries_are_nodes x.0 x.1 n named) in
+        let less = below n (w.entries_are_nodes x.0 x.1 n named) in
         absurd (omega arith)
 
 -- and no references
-unheld : (t : Tree) (parents names holds : List ℕ) → HasTreeCounts t parents names holds → (n : ℕ) → length t.nodes ≤ n → slice_index holds n ≡ 0
-unheld t parents names holds c n beyond = elim (cases_eq (slice_index holds n) 0) [
+unheld : (t : Tree) (count : ℕ) (parents names holds : List ℕ) → HasTreeCounts t parents names holds → AreBelow t count → (n : ℕ) → count ≤ n → slice_index holds n ≡ 0
+unheld t count parents names holds c below n beyond = elim (cases_eq (slice_index holds n) 0) [
   | inl none ↦ none
-  | inr some ↦ let below = some-below t n (c.held_are_nodes n (omega arith)) in absurd (omega arith)
+  | inr some ↦ let less = below n (c.held_are_nodes n (omega arith)) in absurd (omega arith)
 ]
 
--- the stored data of two trees of the same size
-module _ (s t : Tree) (s_parents s_names s_holds parents names holds : List ℕ) (sc : HasTreeCounts s s_parents s_names s_holds) (tied : IsTied t parents names holds) (long : length s.nodes ≡ length t.nodes) where
-  few_numbers : length t.nodes ≤ 4097
-  few_numbers = omega (arith, tied.counted.well_formed.numbers, tied.counted.few)
-
-  copied-names : take (length t.nodes) names ++ drop (length t.nodes) s_names ≡ names
+-- the stored data of two trees whose nodes are below a number
+module _ (s t : Tree) (count : ℕ) (s_parents s_names s_holds parents names holds : List ℕ) (few : count ≤ 4097) (sc : HasTreeCounts s s_parents s_names s_holds) (tied : IsTied t parents names holds) (s_below : AreBelow s count) (t_below : AreBelow t count) where
+  copied-names : take count names ++ drop count s_names ≡ names
   copied-names =
-      copied-all names s_names (length t.nodes) (sc.places_of_names ∙ sym tied.counted.places_of_names)
-      (λ n beyond. sc.names_counted n ∙ unnamed-beyond s sc.well_formed n (omega arith) ∙ sym (tied.counted.names_counted n ∙ unnamed-beyond t tied.counted.well_formed n beyond))
+      copied-all names s_names count (sc.places_of_names ∙ sym tied.counted.places_of_names)
+      (λ n beyond. sc.names_counted n ∙ unnamed-beyond s count sc.well_formed s_below n beyond ∙ sym (tied.counted.names_counted n ∙ unnamed-beyond t count tied.counted.well_formed t_below n beyond))
 
-  pub copied-holds : take (length t.nodes) holds ++ drop (length t.nodes) s_holds ≡ holds
+  pub copied-holds : take count holds ++ drop count s_holds ≡ holds
   copied-holds =
-      copied-all holds s_holds (length t.nodes) (sc.places_of_holds ∙ sym tied.counted.places_of_holds)
-      (λ n beyond. unheld s s_parents s_names s_holds sc n (omega arith) ∙ sym (unheld t parents names holds tied.counted n beyond))
+      copied-all holds s_holds count (sc.places_of_holds ∙ sym tied.counted.places_of_holds)
+      (λ n beyond. unheld s count s_parents s_names s_holds sc s_below n beyond ∙ sym (unheld t count parents names holds tied.counted t_below n beyond))
 
-  pub copied-tied : IsTied t (take (length t.nodes) parents ++ drop (length t.nodes) s_parents) (take (length t.nodes) names ++ drop (length t.nodes) s_names) (take (length t.nodes) holds ++ drop (length t.nodes) s_holds)
+  pub copied-tied : IsTied t (take count parents ++ drop count s_parents) (take count names ++ drop count s_names) (take count holds ++ drop count s_holds)
   copied-tied =
-      let count = length t.nodes in
       let c = tied.counted in
       rw (copied-names, copied-holds) (record {
         counted = record {
@@ -73,14 +80,14 @@ module _ (s t : Tree) (s_parents s_names s_holds parents names holds : List ℕ)
           places_of_parents = omega (
             arith,
             length-append (take count parents) (drop count s_parents),
-            length-take-le count parents (omega (arith, few_numbers, c.places_of_parents)),
+            length-take-le count parents (omega (arith, few, c.places_of_parents)),
             length-drop count s_parents,
             sc.places_of_parents,
-            few_numbers,
+            few,
           );
           places_of_names = c.places_of_names;
           places_of_holds = c.places_of_holds;
-          parents_stored = λ n is. copied-front parents (drop count s_parents) count n (directory-below t n is) (omega (arith, few_numbers, c.places_of_parents)) ∙ c.parents_stored n is;
+          parents_stored = λ n is. copied-front parents (drop count s_parents) count n (t_below n (directory_is_some (node_at t n) is)) (omega (arith, few, c.places_of_parents)) ∙ c.parents_stored n is;
           names_counted = c.names_counted;
         };
         is_collected = tied.is_collected;

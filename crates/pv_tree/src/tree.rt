@@ -1,5 +1,5 @@
 //! A tree on the blocks of an image, with reference counts.
-ghost use Rattle.std.specs.Prelude.{◌≡◌, ◌+◌, ◌-◌, ◌*◌, ◌<◌, ◌≤◌, ◌↔◌, min, replicate, slice_set, vec_len, ◌==◌, All, false, [], ◌++◌, length, take, drop, IfOk, IfSome, IsTrue, Some, IsSome, option_map};
+ghost use Rattle.std.specs.Prelude.{◌≡◌, ℕ, ◌+◌, ◌-◌, ◌*◌, ◌<◌, ◌≤◌, ◌↔◌, min, replicate, slice_set, vec_len, ◌==◌, All, None, true, false, [], ◌++◌, length, take, drop, IfOk, IfSome, IsTrue, Some, IsSome, option_map};
 ghost use Rattle.std.specs.Option.{option_copied};
 ghost use Rattle.pv_model.specs.Machine.{next_name, size_of, inode_blocks, greatest_length, node_at, entries_at, is_directory_at, find_entry, names_of, parent, contains_directory};
 ghost use Rattle.pv_model.specs.Tree.{ancestors_within};
@@ -121,12 +121,13 @@ impl Tree {
     }
 
     /// Makes this tree equal to another one, with the same reference counts, in an image of the same sizes. Copies only
-    /// the data of numbers that the image has.
+    /// the data of numbers up to the greatest in use.
     pub fn copy_from(&mut self, other: &Tree)
         requires { HaveSameSizes self.old.tree other.now.tree }
         ensures { self.new ≡ other.now }
     {
-        let count = usize::from(other.directories.inodes()) + 1;
+        let most = self.directories.bound().max(other.directories.bound());
+        let count = usize::from(most.min(other.directories.inodes())) + 1;
         self.directories.copy_from(&other.directories);
         self.parents[..count].copy_from_slice(&other.parents[..count]);
         self.names[..count].copy_from_slice(&other.names[..count]);
@@ -152,6 +153,22 @@ impl Tree {
             inodes: self.directories.inodes(),
             version: self.directories.version(),
         }
+    }
+
+    /// Returns a number that no node exceeds.
+    pub fn bound(&self) -> u16
+        ensures { (k : ℕ) → result < k → node_at self.now.tree k ≡ None }
+    {
+        self.directories.bound()
+    }
+
+    /// Returns true only if a node is the same in two trees.
+    pub fn is_same(&self, other: &Tree, node: u16) -> bool
+        requires used { IsSome (node_at self.now.tree node) }
+        requires also_used { IsSome (node_at other.now.tree node) }
+        ensures { result ≡ true → node_at self.now.tree node ≡ node_at other.now.tree node }
+    {
+        self.directories.is_same(&other.directories, node)
     }
 
     /// Returns whether `node` is the number of a node.
@@ -273,6 +290,16 @@ impl Tree {
         ensures node { IfSome result (λ e. find_entry self.now.tree directory e.0 ≡ Some e.1) }
     {
         self.directories.next_entry(directory, last, before)
+    }
+
+    /// Returns the least name of a directory, in byte order, that follows `last`, in place, with the number of its node.
+    /// Returns `None` if no name follows, or if an entry crosses a block boundary. Each call compares all names.
+    pub fn lent_after(&self, directory: u16, last: Option<&[u8]>) -> Option<(&[u8], u16)>
+        requires { IsTrue (is_directory_at self.now.tree directory) }
+        ensures name { IfSome result (λ e. next_name (option_copied last.entry) (entries_at self.now.tree directory) ≡ Some e.0.now) }
+        ensures node { IfSome result (λ e. find_entry self.now.tree directory e.0.now ≡ Some e.1) }
+    {
+        self.directories.lent_after(directory, last)
     }
 
     /// Returns the least name of a directory, in byte order, that names `node` and follows `last`. If there is no

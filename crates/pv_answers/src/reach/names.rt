@@ -6,13 +6,12 @@ ghost use Rattle.pv_model.specs.Machine.{listed_path, quote, quote_byte, is_dire
 ghost use Rattle.pv_streams.specs.Sinks.{Writes};
 ghost use Rattle.pv_calls_state.specs.OfUnveil.Up.{directory_of_place};
 
-use crate::fragments::{Fragment, Plain};
 use crate::lines::Letters;
 use crate::nodes::Step;
 use crate::reach::reacher::{AndDescriptors, Governor, Reacher, governing, permitted, write_may};
 use pv_calls_state::tree::PlaceRef;
 use pv_model::limits::ROOT;
-use pv_streams::{Failed, Sink, write_whole};
+use pv_streams::{Failed, Fragment, Plain, Sink, write_whole};
 
 /// A path of a tree, as a linked list of names from its end. Each link is in the stack frame of the traversal, so no
 /// bytes are copied.

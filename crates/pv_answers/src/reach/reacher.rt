@@ -6,8 +6,7 @@ ghost use Rattle.pv_model.specs.Promises.{holds};
 ghost use Rattle.pv_streams.specs.Sinks.{Writes};
 ghost use Rattle.pv_calls_state.specs.OfUnveil.Up.{directory_of_place};
 
-use crate::fragments::{Fragment, Plain};
-use crate::lines::{Decimal, Line, ModeLetters};
+use crate::lines::{Line, ModeLetters};
 use pv_calls_state::Parts;
 use pv_calls_state::files::{Descriptors, OpenFiles};
 use pv_calls_state::procs::ProcessRecord;
@@ -16,7 +15,7 @@ use pv_calls_state::tree::PlaceRef;
 use pv_calls_state::unveil::Table;
 use pv_model::limits::DESCRIPTORS;
 use pv_model::{Mode, Perms, Promise};
-use pv_streams::{Failed, Sink, write_whole};
+use pv_streams::{Decimal, Failed, Fragment, Plain, Sink, write_whole};
 
 /// A live process of a state.
 #[derive(Clone, Copy)]

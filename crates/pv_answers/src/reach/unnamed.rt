@@ -5,14 +5,13 @@ ghost use Rattle.pv_answers.specs.Reaching.{absent_line, absent_lines, directory
 ghost use Rattle.pv_model.specs.Machine.{node_path, entries_of_table, is_removed};
 ghost use Rattle.pv_streams.specs.Sinks.{Writes};
 
-use crate::fragments::{Fragment, Plain};
-use crate::lines::{Decimal, Letters};
+use crate::lines::Letters;
 use crate::nodes::{NameWords, NodeWords, has_path};
 use crate::reach::reacher::{AndDescriptor, Governor, Reacher, opened, permitted, write_may};
 use pv_calls_state::tree::Tree;
 use pv_model::Target;
 use pv_model::limits::DESCRIPTORS;
-use pv_streams::{Failed, Sink};
+use pv_streams::{Decimal, Failed, Fragment, Plain, Sink};
 
 // Returns whether a directory is in no entry.
 fn is_removed(tree: &Tree, directory: u16) -> bool

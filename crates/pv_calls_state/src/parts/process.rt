@@ -25,6 +25,7 @@ fn read_part(tree: &Tree, node: u16, at: u32, count: usize, buffer: &mut [u8]) -
 impl Parts {
     /// Takes the next instruction of a process. An instruction on registers or a jump is carried out. A call is
     /// returned, with its texts kept in `texts`; past the last line the call is `exit 0`.
+    #[inline(always)]
     pub fn step_or_fetch<'a>(&mut self, pid: u32, texts: &'a mut CallTexts) -> Fetched<'a>
         ensures { IsRegistered result pid self.old self.new }
     {

@@ -11,6 +11,9 @@ use pv_model::Version;
 use pv_model::limits::BLOCK;
 use std::alloc::{AllocError, Global};
 
+// The number of nodes to come for which an index has room.
+const SPARE: u16 = 64;
+
 impl Directories {
     /// Creates the tree of the image in `bytes`, which has this version and number of inodes. The vector becomes the
     /// store of blocks, so nothing is copied, and the slots stay where they are.
@@ -29,8 +32,10 @@ impl Directories {
     {
         let table = inodes as usize * version.layout().inode_length;
         let block_count = (bytes.len() / BLOCK - table.div_ceil(BLOCK) - 1) as u16;
-        let mut index = Box::new(alloc, Index::empty(inodes))?;
         let inodes = Inodes::of_image(bytes, inodes, version);
+        // An index of the nodes that there are, with room for some more, is quick to copy.
+        let expected = inodes.bound().saturating_add(SPARE).min(inodes.inodes());
+        let mut index = Box::new(alloc, Index::empty(expected))?;
         add_all(&inodes, &mut index);
         Ok(Directories {
             inodes,

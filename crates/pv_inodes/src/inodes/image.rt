@@ -5,7 +5,7 @@ ghost use Rattle.pv_model.specs.Machine.{inode_blocks};
 ghost use Rattle.pv_inodes.specs.Images.{AreInodes, files_in};
 
 use super::Inodes;
-use crate::table::{owned_by, owned_count};
+use crate::table::{end_of_used, owned_by, owned_count};
 use pv_blocks::{BlockSet, Blocks};
 use pv_model::Version;
 use pv_model::limits::{BLOCK, INODES};
@@ -30,11 +30,13 @@ impl Inodes {
                 blocks.reserve(block);
             }
         }
+        let most = end_of_used(&blocks, version, inodes);
         Inodes {
             blocks,
             inodes,
             version,
             least: 0,
+            most,
         }
     }
 }

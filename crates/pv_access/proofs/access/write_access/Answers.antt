@@ -1,5 +1,5 @@
 use Rattle.pv_named_files.specs.FirstPaths.{path_texts}
-use Rattle.pv_reduced.proofs.OfExplore.ProperPrefixes.{inside_nothing}
+use Rattle.pv_streams.proofs.ProperPrefixes.{inside_nothing}
 use Rattle.pv_access.proofs.AccessBytes.{access-long}
 use Rattle.pv_access.proofs.access.write_access.Goals as goal
 

@@ -1,7 +1,7 @@
 use Rattle.pv_named_files.specs.FirstPaths.{files_given, first_tree}
-use Rattle.pv_reduced.proofs.OfAnswers.WriterContracts.{or_as, or_longer}
-use Rattle.pv_reduced.proofs.OfExplore.ProperPrefixes.{inside_first, inside_then}
-use Rattle.pv_reduced.proofs.OfStepLines.StoppedWriters.{still_ok, stopped, then_stops}
+use Rattle.pv_streams.proofs.WriterContracts.{or_as, or_longer}
+use Rattle.pv_streams.proofs.ProperPrefixes.{inside_first, inside_then}
+use Rattle.pv_streams.proofs.StoppedWriters.{still_ok, stopped, then_stops}
 use Rattle.pv_access.proofs.AccessBytes.{access-bytes, complete-found, end-long, end_lines, last-bytes}
 use Rattle.pv_model.specs.Machine.{answer_bytes}
 use Rattle.pv_access.proofs.access.write_accesses.Goals as goal

@@ -1,9 +1,9 @@
 use Rattle.std.proofs.Common.{◌≡◌, ◌∷◌, ◌++◌, [], List, append-nil, sym}
 use Rattle.std.proofs.lemmas.Grind.{flat_map-append}
-use Rattle.pv_reduced.proofs.OfAnswers.WriterContracts.{or_as, or_longer, or_ok, writes_as}
-use Rattle.pv_reduced.proofs.OfExplore.ProperPrefixes.{inside_first, lines-long}
-use Rattle.pv_reduced.proofs.OfExplore.StoppedAnswers.{not_memory}
-use Rattle.pv_reduced.proofs.OfStepLines.StoppedWriters.{stopped, then_writes, unwritten}
+use Rattle.pv_streams.proofs.WriterContracts.{or_as, or_longer, or_ok, writes_as}
+use Rattle.pv_streams.proofs.ProperPrefixes.{inside_first, lines-long}
+use Rattle.pv_streams.proofs.StoppedAnswers.{not_memory}
+use Rattle.pv_streams.proofs.StoppedWriters.{stopped, then_writes, unwritten}
 use Rattle.pv_named_files.specs.FirstPaths.{files_given, first_tree}
 use Rattle.pv_access.specs.Unread.{unread_lines}
 use Rattle.pv_model.specs.Machine.{AnswerLine, answer_bytes, answer_line_bytes}

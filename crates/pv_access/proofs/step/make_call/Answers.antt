@@ -12,7 +12,7 @@ use Rattle.pv_access.proofs.step.make_call.Goals as goal
 
 pub returns-clause-after : goal.returns-clause-after
 returns-clause-after c =
-    let comes = c.requires.next in
+    let comes = c.requires in
     let a : Answered = record { after = c.call.new.self; outcome = c.in_ok-answer.answer.outcome; walks = c.in_ok-answer.answer.walks } in
     sym (ap (λ (x : Stepped). x.after) (step-called c.args.session.now c.args.pid comes.0 (call_of c.args.call) a comes.1 comes.2 c.in_ok-answer.ensures.answered))
 
@@ -23,7 +23,7 @@ returns-clause-texts c =
     let s = c.args.session.now in
     let pid = c.args.pid in
     let call = call_of c.args.call in
-    let comes = c.requires.next in
+    let comes = c.requires in
     let me = comes.0 in
     let a : Answered = record { after = c.call.new.self; outcome = c.in_ok-answer.answer.outcome; walks = c.in_ok-answer.answer.walks } in
     let same = c.parts-parts.ensures.value in

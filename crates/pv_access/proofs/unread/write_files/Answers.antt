@@ -1,6 +1,6 @@
 use Rattle.std.proofs.Common.{◌∙◌, ℕ, List, ap, map, rules}
 use Rattle.std.proofs.lemmas.List.{drop_more}
-use Rattle.pv_listing.proofs.TextRemainders.{rest_after, rest_begins}
+use Rattle.pv_streams.proofs.TextRemainders.{rest_after, rest_begins}
 use Rattle.pv_model.specs.Machine.{answer_bytes}
 use Rattle.pv_streams.proofs.OutputTexts.{on_err}
 use Rattle.pv_access.specs.Unread.{unread_file_line}

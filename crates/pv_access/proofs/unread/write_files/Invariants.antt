@@ -1,5 +1,5 @@
 use Rattle.std.proofs.Common.{◌≡◌, drop, map}
-use Rattle.pv_listing.proofs.TextRemainders.{LeavesRest}
+use Rattle.pv_streams.proofs.TextRemainders.{LeavesRest}
 use Rattle.pv_model.specs.Machine.{answer_bytes}
 use Rattle.pv_access.specs.Unread.{unread_file_line}
 use Rattle.pv_access.proofs.unread.write_files.Given as goal

@@ -1,7 +1,7 @@
 use Rattle.std.proofs.Common.{sym}
 use Rattle.pv_model.specs.Machine.{process_at}
 use Rattle.pv_answers.proofs.InstructionWords.{gone-words, register-words}
-use Rattle.pv_answers.proofs.WriterContracts.{writes_as, writes_none}
+use Rattle.pv_streams.proofs.WriterContracts.{writes_as, writes_none}
 use Rattle.pv_answers.proofs.calls.write_next.Goals as goal
 
 pub returns-in-Gone : goal.returns-in-Gone

@@ -2,7 +2,7 @@ use Rattle.pv_model.specs.Machine.{text_line}
 use Rattle.std.proofs.Common.{rules}
 use Rattle.std.specs.Option.{option_copied}
 use Rattle.pv_answers.proofs.DescriptorLines.{line-is}
-use Rattle.pv_answers.proofs.EqualOutputs.{prefix_as}
+use Rattle.pv_streams.proofs.EqualOutputs.{prefix_as}
 use Rattle.pv_answers.proofs.holding.write_descriptor.Goals as goal
 
 pub returns : goal.returns

@@ -1,5 +1,5 @@
 use Rattle.std.proofs.Common.{◌≡◌, drop}
-use Rattle.pv_listing.proofs.TextRemainders.{LeavesRest}
+use Rattle.pv_streams.proofs.TextRemainders.{LeavesRest}
 use Rattle.pv_model.specs.Machine.{answer_bytes}
 use Rattle.pv_answers.specs.Holdings.{descriptor_lines}
 use Rattle.pv_answers.proofs.HeldLines.{descriptor_lines_from}

@@ -1,5 +1,5 @@
 use Rattle.std.proofs.Common.{◌∙◌, arith, rules}
-use Rattle.pv_listing.proofs.TextRemainders.{rest_after, rest_begins}
+use Rattle.pv_streams.proofs.TextRemainders.{rest_after, rest_begins}
 use Rattle.pv_model.specs.Machine.{entries_of_table}
 use Rattle.pv_streams.proofs.OutputTexts.{on_err}
 use Rattle.pv_answers.proofs.HeldLines.{entry-next}

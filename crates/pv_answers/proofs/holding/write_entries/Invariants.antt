@@ -1,5 +1,5 @@
 use Rattle.std.proofs.Common.{◌≡◌, drop}
-use Rattle.pv_listing.proofs.TextRemainders.{LeavesRest}
+use Rattle.pv_streams.proofs.TextRemainders.{LeavesRest}
 use Rattle.pv_model.specs.Machine.{answer_bytes, entries_of_table}
 use Rattle.pv_answers.specs.Holdings.{entry_lines}
 use Rattle.pv_answers.proofs.HeldLines.{entry_lines_from}

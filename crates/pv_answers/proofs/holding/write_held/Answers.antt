@@ -1,7 +1,7 @@
 use Rattle.std.specs.FinMap.Entries.{find}
 use Rattle.std.specs.Ordering.{nat_cmp}
 use Rattle.pv_answers.proofs.HeldLines.{held-are}
-use Rattle.pv_answers.proofs.WriterContracts.{writes_as, writes_both, writes_failed, writes_longer}
+use Rattle.pv_streams.proofs.WriterContracts.{writes_as, writes_both, writes_failed, writes_longer}
 use Rattle.pv_answers.proofs.holding.write_held.Goals as goal
 
 pub returns-in_err-write_restraints : goal.returns-in_err-write_restraints

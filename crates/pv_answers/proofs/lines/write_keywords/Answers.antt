@@ -1,6 +1,6 @@
 use Rattle.std.proofs.Common.{◌∙◌, arith, refl, sym, subst, rules}
 use Rattle.std.proofs.lemmas.Grind.{common_steps}
-use Rattle.pv_listing.proofs.TextRemainders.{LeavesRest, rest_all, rest_after, rest_begins}
+use Rattle.pv_streams.proofs.TextRemainders.{LeavesRest, rest_all, rest_after, rest_begins}
 use Rattle.pv_model.specs.Machine.{spaced, all_promises}
 use Rattle.pv_streams.proofs.OutputTexts.{on_err}
 use Rattle.pv_answers.specs.Texts.{keywords_in}

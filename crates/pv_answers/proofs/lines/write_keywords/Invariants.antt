@@ -1,5 +1,5 @@
 use Rattle.std.proofs.Common.{◌≡◌, drop}
-use Rattle.pv_listing.proofs.TextRemainders.{LeavesRest}
+use Rattle.pv_streams.proofs.TextRemainders.{LeavesRest}
 use Rattle.pv_model.specs.Machine.{spaced, all_promises}
 use Rattle.pv_answers.specs.Texts.{keywords_in, words_after}
 use Rattle.pv_answers.proofs.lines.write_keywords.Given as goal

@@ -3,7 +3,7 @@ use Rattle.std.specs.FinMap.Entries.{find}
 use Rattle.std.specs.Option.{unwrap_or}
 use Rattle.std.specs.Ordering.{nat_cmp}
 use Rattle.pv_answers.proofs.LocationLines.{live-words-are}
-use Rattle.pv_answers.proofs.WriterContracts.{writes_as}
+use Rattle.pv_streams.proofs.WriterContracts.{writes_as}
 use Rattle.pv_answers.proofs.location.write_live.Goals as goal
 
 pub returns : goal.returns

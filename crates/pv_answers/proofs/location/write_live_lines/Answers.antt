@@ -2,7 +2,7 @@ use Rattle.std.specs.FinMap.Entries.{find}
 use Rattle.std.specs.Ordering.{nat_cmp}
 use Rattle.pv_model.specs.Machine.{text_line}
 use Rattle.pv_answers.proofs.LocationLines.{live-lines-are}
-use Rattle.pv_answers.proofs.WriterContracts.{writes_as, writes_both, writes_failed, writes_longer}
+use Rattle.pv_streams.proofs.WriterContracts.{writes_as, writes_both, writes_failed, writes_longer}
 use Rattle.pv_answers.proofs.location.write_live_lines.Goals as goal
 
 pub returns-in_err-write_front : goal.returns-in_err-write_front

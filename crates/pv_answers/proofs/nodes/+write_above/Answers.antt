@@ -1,6 +1,6 @@
 use Rattle.std.proofs.Common.{sym, arith}
 use Rattle.pv_answers.proofs.NodePaths.{path-above, root-bytes, step-is}
-use Rattle.pv_answers.proofs.WriterContracts.{writes_as, writes_both, writes_failed, writes_longer, writes_none}
+use Rattle.pv_streams.proofs.WriterContracts.{writes_as, writes_both, writes_failed, writes_longer, writes_none}
 use Rattle.pv_answers.proofs.nodes.+write_above.Goals as goal
 
 pub returns-then-directory-eq-ROOT : goal.returns-then-directory-eq-ROOT

@@ -1,6 +1,6 @@
 use Rattle.std.proofs.Common.{◌+◌, ap, sym}
 use Rattle.pv_answers.proofs.NodePaths.{file-named, file-step, node-count}
-use Rattle.pv_answers.proofs.WriterContracts.{writes_as, writes_both, writes_failed, writes_longer}
+use Rattle.pv_streams.proofs.WriterContracts.{writes_as, writes_both, writes_failed, writes_longer}
 use Rattle.pv_answers.proofs.nodes.write_file_steps.Goals as goal
 
 pub unreachable-requires : goal.unreachable-requires

@@ -1,6 +1,6 @@
 use Rattle.std.proofs.Common.{sym}
 use Rattle.pv_answers.proofs.NodePaths.{root-text, text-is}
-use Rattle.pv_answers.proofs.WriterContracts.{writes_as}
+use Rattle.pv_streams.proofs.WriterContracts.{writes_as}
 use Rattle.pv_answers.proofs.nodes.write_path_of.Goals as goal
 
 pub returns-then-node-eq-ROOT : goal.returns-then-node-eq-ROOT

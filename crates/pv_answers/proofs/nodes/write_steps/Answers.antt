@@ -2,7 +2,7 @@ use Rattle.std.proofs.Common.{◌≡◌, ◌+◌, Option, IsSome, ap, sym, subst
 use Rattle.pv_model.specs.Machine.{Bytes}
 use Rattle.pv_answers.specs.Texts.{path_bytes}
 use Rattle.pv_answers.proofs.NodePaths.{node-count, within-path}
-use Rattle.pv_answers.proofs.WriterContracts.{writes_as}
+use Rattle.pv_streams.proofs.WriterContracts.{writes_as}
 use Rattle.pv_answers.proofs.nodes.write_steps.Goals as goal
 
 pub write_above-requires-clause-path : goal.write_above-requires-clause-path

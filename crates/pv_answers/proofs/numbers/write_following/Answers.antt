@@ -1,4 +1,4 @@
-use Rattle.pv_answers.proofs.WriterContracts.{writes_both, writes_failed, writes_longer}
+use Rattle.pv_streams.proofs.WriterContracts.{writes_both, writes_failed, writes_longer}
 use Rattle.pv_answers.proofs.numbers.write_following.Goals as goal
 
 pub returns-in_err-write_whole : goal.returns-in_err-write_whole

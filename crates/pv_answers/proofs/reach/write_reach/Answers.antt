@@ -1,7 +1,7 @@
 use Rattle.std.proofs.Common.{◌∙◌, ap, refl, sym, subst, rules}
 use Rattle.pv_model.specs.Machine.{answer_bytes, reach_lines, Bytes}
 use Rattle.pv_streams.proofs.OutputTexts.{on_err}
-use Rattle.pv_listing.proofs.TextRemainders.{LeavesRest, rest_all, rest_after, rest_begins, written_text}
+use Rattle.pv_streams.proofs.TextRemainders.{LeavesRest, rest_all, rest_after, rest_begins, written_text}
 use Rattle.pv_calls_state.specs.OfProcs.ProcessTable.{ProcessTable, number_after}
 use Rattle.pv_answers.proofs.ProcessSequence.{all-after, fewer-after, next-record, none-after}
 use Rattle.pv_answers.proofs.PermissionLines.{rows, rows-all, rows-next}

@@ -1,6 +1,6 @@
 use Rattle.std.proofs.Common.{◌≡◌, length}
 use Rattle.pv_model.specs.Machine.{answer_bytes, reach_lines}
-use Rattle.pv_listing.proofs.TextRemainders.{LeavesRest}
+use Rattle.pv_streams.proofs.TextRemainders.{LeavesRest}
 use Rattle.pv_answers.proofs.ProcessSequence.{records_after}
 use Rattle.pv_answers.proofs.PermissionLines.{rows}
 use Rattle.pv_answers.proofs.reach.write_reach.Given as goal

@@ -1,7 +1,7 @@
 use Rattle.std.proofs.Common.{sym}
 use Rattle.pv_answers.proofs.ProcessSequence.{next-record, fewer-after}
 use Rattle.pv_answers.proofs.ProcessLines.{locations-all, locations-next, locations-end}
-use Rattle.pv_answers.proofs.WriterContracts.{but_after, but_end, but_failed, but_from, writes_failed}
+use Rattle.pv_streams.proofs.WriterContracts.{but_after, but_end, but_failed, but_from, writes_failed}
 use Rattle.pv_answers.proofs.state.write_locations.Goals as goal
 
 pub loop-pid-init : goal.loop-pid-init

@@ -2,7 +2,7 @@ use Rattle.std.proofs.Common.{length}
 use Rattle.pv_model.specs.Machine.{answer_bytes, locations}
 use Rattle.pv_answers.proofs.ProcessSequence.{records_after}
 use Rattle.pv_answers.proofs.ProcessLines.{locations_of}
-use Rattle.pv_answers.proofs.WriterContracts.{WritesBut}
+use Rattle.pv_streams.proofs.WriterContracts.{WritesBut}
 use Rattle.pv_answers.proofs.state.write_locations.Given as goal
 
 abbrev pub invariant-loop-pid : goal.invariant-loop-pid

@@ -1,4 +1,4 @@
-use Rattle.pv_answers.proofs.WriterContracts.{writes_both, writes_failed, writes_longer}
+use Rattle.pv_streams.proofs.WriterContracts.{writes_both, writes_failed, writes_longer}
 use Rattle.pv_answers.proofs.state.write_process.Goals as goal
 
 pub returns-in_err-write_location : goal.returns-in_err-write_location

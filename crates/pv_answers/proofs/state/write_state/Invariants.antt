@@ -2,7 +2,7 @@ use Rattle.std.proofs.Common.{length}
 use Rattle.pv_model.specs.Machine.{answer_bytes, state_lines}
 use Rattle.pv_answers.proofs.ProcessSequence.{records_after}
 use Rattle.pv_answers.proofs.ProcessLines.{lines_of_all}
-use Rattle.pv_answers.proofs.WriterContracts.{WritesBut}
+use Rattle.pv_streams.proofs.WriterContracts.{WritesBut}
 use Rattle.pv_answers.proofs.state.write_state.Given as goal
 
 abbrev pub invariant-loop-pid : goal.invariant-loop-pid

@@ -1,10 +1,10 @@
 use Rattle.std.proofs.Common.{◌≡◌, ◌∙◌, ap, refl, subst, IfOk}
 use Rattle.std.proofs.lemmas.Result.{err_from_is_err_and}
-use Rattle.pv_explore.proofs.OfAnswers.WriterContracts.{or_as}
+use Rattle.pv_streams.proofs.WriterContracts.{or_as}
 use Rattle.pv_compare.specs.Answering.{compared_by, result_text}
 use Rattle.pv_compare.specs.declared.compare.Compared.{Compared}
 use Rattle.pv_compare.proofs.ComparisonText.{compared-is, result-is, search-is}
-use Rattle.pv_explore.proofs.StoppedAnswers.{never_memory, unwritten}
+use Rattle.pv_streams.proofs.StoppedAnswers.{never_memory, unwritten}
 use Rattle.pv_compare.proofs.compare.write_compare.Goals as goal
 
 pub search_all-requires : goal.search_all-requires

@@ -1,5 +1,5 @@
 use Rattle.std.proofs.Common.{sym}
-use Rattle.pv_step_lines.proofs.OfAnswers.WriterContracts.{writes_as, writes_both, writes_failed, writes_longer}
+use Rattle.pv_streams.proofs.WriterContracts.{writes_as, writes_both, writes_failed, writes_longer}
 use Rattle.pv_explain.specs.Added.{allowed_line_of}
 use Rattle.pv_explain.proofs.AllowedLines.{lines-append}
 use Rattle.pv_explain.proofs.allowed_text.write_allowed.Goals as goal

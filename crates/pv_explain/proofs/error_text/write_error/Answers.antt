@@ -1,6 +1,6 @@
 use Rattle.std.proofs.Common.{◌∙◌, ap, sym}
 use Rattle.pv_model.specs.Machine.{answer_bytes, call_of, process_at}
-use Rattle.pv_step_lines.proofs.OfAnswers.WriterContracts.{writes_as, writes_none}
+use Rattle.pv_streams.proofs.WriterContracts.{writes_as, writes_none}
 use Rattle.pv_explain.proofs.ErrorLines.{no-lines}
 use Rattle.pv_explain.proofs.error_text.write_error.Goals as goal
 

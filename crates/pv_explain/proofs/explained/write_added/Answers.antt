@@ -4,7 +4,7 @@ use Rattle.std.proofs.lemmas.List.{append-nil}
 use Rattle.pv_model.specs.Answers.Explain.{set_text}
 use Rattle.pv_model.specs.Machine.{AnswerLine, answer_bytes, answer_line_bytes, program_of, Tree}
 use Rattle.pv_model_questions.specs.ExplainMore.{allowed_line}
-use Rattle.pv_step_lines.proofs.OfAnswers.WriterContracts.{writes_as, writes_both, writes_failed, writes_longer, writes_ok}
+use Rattle.pv_streams.proofs.WriterContracts.{writes_as, writes_both, writes_failed, writes_longer, writes_ok}
 use Rattle.pv_step_lines.specs.Origin.{settings_in}
 use Rattle.pv_explain.specs.Added.{allowed_made, first_allowed, allowed_pair_in, reasons_made}
 use Rattle.pv_explain.proofs.explained.write_added.Goals as goal

@@ -1,7 +1,7 @@
 use Rattle.std.proofs.Common.{◌∙◌, ◌++◌, List, ap, sym}
 use Rattle.std.proofs.lemmas.Grind.{flat_map-append}
 use Rattle.pv_model.specs.Machine.{AnswerLine, answer_bytes, answer_line_bytes, State}
-use Rattle.pv_step_lines.proofs.OfAnswers.WriterContracts.{writes_as, writes_both, writes_failed, writes_longer}
+use Rattle.pv_streams.proofs.WriterContracts.{writes_as, writes_both, writes_failed, writes_longer}
 use Rattle.pv_step_lines.specs.Origin.{settings_in}
 use Rattle.pv_step_lines.specs.Made.{call_made_lines}
 use Rattle.pv_explain.specs.Added.{added_made}

@@ -2,7 +2,7 @@ use Rattle.std.proofs.Common.{List, sym}
 use Rattle.std.proofs.lemmas.Grind.{flat_map-append}
 use Rattle.pv_model.specs.Machine.{AnswerLine, answer_line_bytes, call_of, process_at}
 use Rattle.pv_model_questions.specs.ExplainMore.{execve_after}
-use Rattle.pv_step_lines.proofs.OfAnswers.WriterContracts.{writes_as, writes_both, writes_failed, writes_longer}
+use Rattle.pv_streams.proofs.WriterContracts.{writes_as, writes_both, writes_failed, writes_longer}
 use Rattle.pv_explain.specs.Added.{restraints_in}
 use Rattle.pv_explain.specs.Made.{error_after}
 use Rattle.pv_explain.proofs.explained.write_reasons.Goals as goal

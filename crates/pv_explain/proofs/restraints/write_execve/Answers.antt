@@ -1,7 +1,7 @@
 use Rattle.std.proofs.Common.{◌∙◌, [], Bool, cond, ap, sym}
 use Rattle.pv_model.specs.Machine.{answer_bytes, process_at}
 use Rattle.pv_model_questions.specs.ExplainMore.{execve_line}
-use Rattle.pv_step_lines.proofs.OfAnswers.WriterContracts.{writes_as, writes_none}
+use Rattle.pv_streams.proofs.WriterContracts.{writes_as, writes_none}
 use Rattle.pv_explain.specs.Added.{restraints_in}
 use Rattle.pv_explain.proofs.restraints.write_execve.Goals as goal
 

@@ -5,7 +5,7 @@ use Rattle.pv_model.specs.Machine.{answer_bytes, answer_line, answer_line_bytes,
 use Rattle.pv_model_questions.specs.ExplainMore.{Restraints, execve_line, execve_text}
 use Rattle.pv_procs.specs.Parts.{record_of}
 use Rattle.pv_procs.specs.declared.record.ProcessRecord.{ProcessRecord}
-use Rattle.pv_step_lines.proofs.OfAnswers.WriterContracts.{writes_as}
+use Rattle.pv_streams.proofs.WriterContracts.{writes_as}
 use Rattle.pv_explain.specs.Added.{restraints_in}
 use Rattle.pv_explain.proofs.restraints.write_started.Goals as goal
 

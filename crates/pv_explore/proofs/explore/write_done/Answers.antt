@@ -1,5 +1,5 @@
 use Rattle.std.proofs.Common.{append-nil, sym}
-use Rattle.pv_step_lines.proofs.OfAnswers.WriterContracts.{writes_as, writes_both, writes_failed, writes_longer}
+use Rattle.pv_streams.proofs.WriterContracts.{writes_as, writes_both, writes_failed, writes_longer}
 use Rattle.pv_explore.proofs.explore.write_done.Goals as goal
 
 pub returns-in_err-write_states : goal.returns-in_err-write_states

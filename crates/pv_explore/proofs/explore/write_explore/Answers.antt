@@ -1,7 +1,7 @@
-use Rattle.pv_step_lines.proofs.OfAnswers.WriterContracts.{or_as, or_longer, or_ok, writes_as}
-use Rattle.pv_step_lines.proofs.StoppedWriters.{stopped, then_writes, unwritten}
-use Rattle.pv_explore.proofs.ProperPrefixes.{inside_first}
-use Rattle.pv_explore.proofs.StoppedAnswers.{not_memory}
+use Rattle.pv_streams.proofs.WriterContracts.{or_as, or_longer, or_ok, writes_as}
+use Rattle.pv_streams.proofs.StoppedWriters.{stopped, then_writes, unwritten}
+use Rattle.pv_streams.proofs.ProperPrefixes.{inside_first}
+use Rattle.pv_streams.proofs.StoppedAnswers.{not_memory}
 use Rattle.pv_explore.proofs.ReportedBytes.{explore-bytes, last-bytes, last-long, last_lines}
 use Rattle.pv_model.specs.Machine.{answer_bytes}
 use Rattle.pv_explore.proofs.explore.write_explore.Goals as goal

@@ -1,9 +1,9 @@
 use Rattle.std.proofs.Common.{◌≡◌, ◌∷◌, ◌++◌, [], List, length, append-nil, sym}
 use Rattle.std.proofs.lemmas.Grind.{flat_map-append}
-use Rattle.pv_step_lines.proofs.OfAnswers.WriterContracts.{or_as, or_longer, or_ok, writes_as}
-use Rattle.pv_step_lines.proofs.StoppedWriters.{stopped, then_writes, unwritten}
-use Rattle.pv_explore.proofs.ProperPrefixes.{inside_first, lines-long}
-use Rattle.pv_explore.proofs.StoppedAnswers.{not_memory}
+use Rattle.pv_streams.proofs.WriterContracts.{or_as, or_longer, or_ok, writes_as}
+use Rattle.pv_streams.proofs.StoppedWriters.{stopped, then_writes, unwritten}
+use Rattle.pv_streams.proofs.ProperPrefixes.{inside_first, lines-long}
+use Rattle.pv_streams.proofs.StoppedAnswers.{not_memory}
 use Rattle.pv_explore.specs.Searches.{visited_of}
 use Rattle.pv_explore.specs.Vertices.{vertices_from}
 use Rattle.pv_model.specs.Answers.Explore.{states_line}

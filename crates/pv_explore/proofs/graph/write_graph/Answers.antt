@@ -1,9 +1,9 @@
-use Rattle.pv_step_lines.proofs.OfAnswers.WriterContracts.{or_as}
-use Rattle.pv_step_lines.proofs.StoppedWriters.{no_memory, still_ok, stopped}
+use Rattle.pv_streams.proofs.WriterContracts.{or_as}
+use Rattle.pv_streams.proofs.StoppedWriters.{no_memory, still_ok, stopped}
 use Rattle.pv_explore.specs.Observing.{no_text}
 use Rattle.pv_explore.specs.Searches.{visited_of}
 use Rattle.pv_explore.proofs.GraphLines.{graph-bytes, graph-complete, graph-long, graph-many}
-use Rattle.pv_explore.proofs.ProperPrefixes.{inside_nothing, inside_stopped}
+use Rattle.pv_streams.proofs.ProperPrefixes.{inside_nothing, inside_stopped}
 use Rattle.pv_explore.proofs.graph.write_graph.Goals as goal
 
 pub returns-in_err-search-clause-written : goal.returns-in_err-search-clause-written

@@ -1,5 +1,5 @@
 use Rattle.std.proofs.Common.{refl}
-use Rattle.pv_step_lines.proofs.OfAnswers.WriterContracts.{but_after, but_end, but_failed, but_from, writes_failed}
+use Rattle.pv_streams.proofs.WriterContracts.{but_after, but_end, but_failed, but_from, writes_failed}
 use Rattle.pv_explore.proofs.GraphLines.{listed-next, listed-none}
 use Rattle.pv_model.specs.Machine.{lines_of}
 use Rattle.pv_explore.proofs.graph.write_listed.Goals as goal

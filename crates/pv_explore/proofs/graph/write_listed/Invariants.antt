@@ -1,5 +1,5 @@
 use Rattle.std.proofs.Common.{length}
-use Rattle.pv_step_lines.proofs.OfAnswers.WriterContracts.{WritesBut}
+use Rattle.pv_streams.proofs.WriterContracts.{WritesBut}
 use Rattle.pv_explore.specs.Vertices.{listed_bytes}
 use Rattle.pv_model.specs.Machine.{lines_of}
 use Rattle.pv_explore.proofs.graph.write_listed.Given as goal

@@ -1,7 +1,7 @@
 use Rattle.std.proofs.Common.{◌∙◌, ap, map, refl}
 use Rattle.std.proofs.lemmas.List.{drop_all}
-use Rattle.pv_step_lines.proofs.OfAnswers.WriterContracts.{but_from, or_as}
-use Rattle.pv_step_lines.proofs.StoppedWriters.{but_ends, but_no_memory, but_stopped, but_then, no_memory}
+use Rattle.pv_streams.proofs.WriterContracts.{but_from, or_as}
+use Rattle.pv_streams.proofs.StoppedWriters.{but_ends, but_no_memory, but_stopped, but_then, no_memory}
 use Rattle.pv_explore.proofs.GraphLines.{graph-step, steps_left_at}
 use Rattle.pv_explore.specs.Plan.{state_at}
 use Rattle.pv_model.specs.Machine.{program_of, live_processes, State}

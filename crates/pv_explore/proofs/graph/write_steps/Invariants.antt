@@ -1,5 +1,5 @@
 use Rattle.std.proofs.Common.{◌≡◌, drop}
-use Rattle.pv_step_lines.proofs.OfAnswers.WriterContracts.{WritesBut}
+use Rattle.pv_streams.proofs.WriterContracts.{WritesBut}
 use Rattle.pv_explore.specs.Vertices.{steps_at}
 use Rattle.pv_model.specs.Machine.{answer_bytes}
 use Rattle.pv_explore.proofs.graph.write_steps.Given as goal

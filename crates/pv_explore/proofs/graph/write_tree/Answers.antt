@@ -1,6 +1,6 @@
 use Rattle.std.proofs.Common.{◌≡◌, ◌∙◌, [], true, ap, arith, refl}
-use Rattle.pv_step_lines.proofs.OfAnswers.WriterContracts.{or_ok, writes_as, writes_both, writes_longer}
-use Rattle.pv_step_lines.proofs.StoppedWriters.{no_memory, unwritten}
+use Rattle.pv_streams.proofs.WriterContracts.{or_ok, writes_as, writes_both, writes_longer}
+use Rattle.pv_streams.proofs.StoppedWriters.{no_memory, unwritten}
 use Rattle.pv_explore.specs.Vertices.{listed_bytes}
 use Rattle.pv_explore.proofs.RebuiltMachines.{gathered}
 use Rattle.pv_explore.proofs.GraphLines.{tree-reported}

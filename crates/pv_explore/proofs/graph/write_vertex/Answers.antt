@@ -1,6 +1,6 @@
 use Rattle.std.proofs.Common.{◌∙◌, ap}
-use Rattle.pv_step_lines.proofs.OfAnswers.WriterContracts.{or_as, or_both, or_longer, writes_as, writes_both, writes_longer}
-use Rattle.pv_step_lines.proofs.StoppedWriters.{no_memory, stopped, then_stops, unwritten}
+use Rattle.pv_streams.proofs.WriterContracts.{or_as, or_both, or_longer, writes_as, writes_both, writes_longer}
+use Rattle.pv_streams.proofs.StoppedWriters.{no_memory, stopped, then_stops, unwritten}
 use Rattle.pv_explore.specs.Plan.{live_at}
 use Rattle.pv_explore.proofs.GraphLines.{steps_left_at, vertex-bytes}
 use Rattle.pv_model.specs.Machine.{program_of, State}

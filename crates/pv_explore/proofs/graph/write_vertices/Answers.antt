@@ -1,6 +1,6 @@
 use Rattle.std.proofs.Common.{◌≤◌, ◌∙◌, Some, ap, arith, length, refl, sym}
-use Rattle.pv_step_lines.proofs.OfAnswers.WriterContracts.{but_from}
-use Rattle.pv_step_lines.proofs.StoppedWriters.{but_ends, but_no_memory, but_stopped, but_then, no_memory}
+use Rattle.pv_streams.proofs.WriterContracts.{but_from}
+use Rattle.pv_streams.proofs.StoppedWriters.{but_ends, but_no_memory, but_stopped, but_then, no_memory}
 use Rattle.pv_explore.specs.Searches.{visited_of}
 use Rattle.pv_explore.specs.Witnesses.{witness_of}
 use Rattle.pv_explore.proofs.GraphLines.{vertices-next, vertices-none, vertices-past}

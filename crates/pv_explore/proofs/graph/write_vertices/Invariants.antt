@@ -1,5 +1,5 @@
 use Rattle.std.proofs.Common.{◌≡◌}
-use Rattle.pv_step_lines.proofs.OfAnswers.WriterContracts.{WritesBut}
+use Rattle.pv_streams.proofs.WriterContracts.{WritesBut}
 use Rattle.pv_explore.specs.Searches.{visited_of}
 use Rattle.pv_explore.proofs.GraphLines.{vertices_left}
 use Rattle.pv_explore.proofs.graph.write_vertices.Given as goal

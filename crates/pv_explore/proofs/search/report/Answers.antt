@@ -1,7 +1,7 @@
 use Rattle.std.proofs.Common.{◌∙◌, ap, get_or, refl, ℕ}
 use Rattle.std.specs.Global.{Vec}
-use Rattle.pv_step_lines.proofs.OfAnswers.WriterContracts.{but_from, or_as}
-use Rattle.pv_step_lines.proofs.StoppedWriters.{but_ends, but_stopped, but_then}
+use Rattle.pv_streams.proofs.WriterContracts.{but_from, or_as}
+use Rattle.pv_streams.proofs.StoppedWriters.{but_ends, but_stopped, but_then}
 use Rattle.pv_explore.specs.Plan.{added_to, new_bytes}
 use Rattle.pv_explore.specs.Witnesses.{longer}
 use Rattle.pv_explore.proofs.SearchSteps.{after-next, texts-end, texts-next}

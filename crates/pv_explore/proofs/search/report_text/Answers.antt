@@ -1,6 +1,6 @@
 use Rattle.std.proofs.Common.{◌∙◌, sym}
-use Rattle.pv_step_lines.proofs.OfAnswers.WriterContracts.{or_as}
-use Rattle.pv_step_lines.proofs.StoppedWriters.{no_memory_after, nothing_written, still_ok, stopped}
+use Rattle.pv_streams.proofs.WriterContracts.{or_as}
+use Rattle.pv_streams.proofs.StoppedWriters.{no_memory_after, nothing_written, still_ok, stopped}
 use Rattle.pv_explore.specs.Witnesses.{longer}
 use Rattle.pv_explore.proofs.SearchSteps.{added-known, reported-known, reported-new}
 use Rattle.pv_explore.proofs.search.report_text.Goals as goal

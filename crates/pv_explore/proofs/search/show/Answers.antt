@@ -1,6 +1,6 @@
 use Rattle.std.proofs.Common.{◌≡◌, ◌∙◌, ap, List, ℕ, rules, true}
-use Rattle.pv_step_lines.proofs.OfAnswers.WriterContracts.{or_ok, writes_as}
-use Rattle.pv_step_lines.proofs.StoppedWriters.{no_memory, unwritten}
+use Rattle.pv_streams.proofs.WriterContracts.{or_ok, writes_as}
+use Rattle.pv_streams.proofs.StoppedWriters.{no_memory, unwritten}
 use Rattle.pv_explore.specs.Observing.{is_shown}
 use Rattle.pv_explore.specs.Plan.{move_bytes}
 use Rattle.pv_explore.specs.Witnesses.{longer}

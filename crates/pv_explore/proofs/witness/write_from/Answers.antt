@@ -1,6 +1,6 @@
 use Rattle.std.proofs.Common.{arith, refl, sym}
-use Rattle.pv_step_lines.proofs.OfAnswers.WriterContracts.{but_after, but_failed, but_from, writes_as, writes_failed}
-use Rattle.pv_step_lines.proofs.StoppedWriters.{but_as, but_last}
+use Rattle.pv_streams.proofs.WriterContracts.{but_after, but_failed, but_from, writes_as, writes_failed}
+use Rattle.pv_streams.proofs.StoppedWriters.{but_as, but_last}
 use Rattle.pv_explore.proofs.WitnessTurns.{text-end, text-other, text-same}
 use Rattle.pv_explore.proofs.witness.write_from.Goals as goal
 

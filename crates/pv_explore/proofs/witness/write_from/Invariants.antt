@@ -1,5 +1,5 @@
 use Rattle.std.proofs.Common.{◌+◌, ◌≤◌, ◌∷◌, drop}
-use Rattle.pv_step_lines.proofs.OfAnswers.WriterContracts.{WritesBut}
+use Rattle.pv_streams.proofs.WriterContracts.{WritesBut}
 use Rattle.pv_model.specs.Machine.{witness_text}
 use Rattle.pv_explore.proofs.WitnessTurns.{witness_from}
 use Rattle.pv_explore.proofs.witness.write_from.Given as goal

@@ -1,7 +1,7 @@
 use Rattle.std.proofs.Common.{◌∙◌}
 use Rattle.std.proofs.lemmas.Result.{err_from_is_err_and}
-use Rattle.pv_programs.proofs.OfAnswers.WriterContracts.{or_as, or_ok}
-use Rattle.pv_reduced.proofs.OfExplore.StoppedAnswers.{not_memory, unfinished, unwritten}
+use Rattle.pv_streams.proofs.WriterContracts.{or_as, or_ok}
+use Rattle.pv_streams.proofs.StoppedAnswers.{not_memory, unfinished, unwritten}
 use Rattle.pv_named_files.specs.FirstPaths.{path_texts}
 use Rattle.pv_exposure.proofs.SearchText.{search-text}
 use Rattle.pv_exposure.proofs.exposure.write_exposure.Goals as goal

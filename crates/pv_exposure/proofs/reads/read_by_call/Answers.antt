@@ -12,7 +12,7 @@ returns-then-has_read c =
     let s = c.args.session.now in
     let pid = c.args.pid in
     let call = call_of c.args.call in
-    let comes = c.requires.next in
+    let comes = c.requires in
     let me = comes.0 in
     let a : Answered = record { after = c.call.new.self; outcome = c.in_ok-answer.answer.outcome; walks = c.in_ok-answer.answer.walks } in
     let step_is = step-called s pid me call a comes.1 comes.2 c.in_ok-answer.ensures.answered in
@@ -27,7 +27,7 @@ returns-else-has_read c =
     let s = c.args.session.now in
     let pid = c.args.pid in
     let call = call_of c.args.call in
-    let comes = c.requires.next in
+    let comes = c.requires in
     let me = comes.0 in
     let a : Answered = record { after = c.call.new.self; outcome = c.in_ok-answer.answer.outcome; walks = c.in_ok-answer.answer.walks } in
     let step_is = step-called s pid me call a comes.1 comes.2 c.in_ok-answer.ensures.answered in

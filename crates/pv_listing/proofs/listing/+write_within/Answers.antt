@@ -5,7 +5,7 @@ use Rattle.pv_streams.proofs.OutputTexts.{begins_first, on_err}
 use Rattle.pv_listing.specs.Lines.{entries_after, last_name, IsNextChild}
 use Rattle.pv_listing.proofs.DirectoryNames.{past-none, last-is, front-is, length-path}
 use Rattle.pv_listing.proofs.EntryLines.{no-entries, lines-are, node_left, entry_first}
-use Rattle.pv_listing.proofs.TextRemainders.{rest_after, rest_begins, written_text, written_begins}
+use Rattle.pv_streams.proofs.TextRemainders.{rest_after, rest_begins, written_text, written_begins}
 use Rattle.pv_listing.proofs.listing.+write_within.Goals as goal
 
 pub returns-in_err-write-clause-written : goal.returns-in_err-write-clause-written

@@ -3,7 +3,7 @@ use Rattle.pv_model.specs.Listing.{lines_within}
 use Rattle.pv_model.specs.Machine.{entries_at}
 use Rattle.pv_listing.specs.Lines.{entries_after, last_name}
 use Rattle.pv_listing.proofs.EntryLines.{entry_lines}
-use Rattle.pv_listing.proofs.TextRemainders.{LeavesRest}
+use Rattle.pv_streams.proofs.TextRemainders.{LeavesRest}
 use Rattle.pv_listing.proofs.listing.+write_within.Given as goal
 
 abbrev pub decreases-write_within : goal.decreases-write_within

@@ -10,7 +10,7 @@ use Rattle.pv_needs.proofs.needs.ask_call.Goals as goal
 
 pub returns-in-Ok-keep-clause-after : goal.returns-in-Ok-keep-clause-after
 returns-in-Ok-keep-clause-after c =
-    let comes = c.requires.next in
+    let comes = c.requires in
     let a : Answered = record { after = c.call.new.self; outcome = c.in_ok-answer.answer.outcome; walks = c.in_ok-answer.answer.walks } in
     sym (ap (λ (x : Stepped). x.after) (step-called c.args.session.now c.args.pid comes.0 (call_of c.args.call) a comes.1 comes.2 c.in_ok-answer.ensures.answered))
 
@@ -19,7 +19,7 @@ returns-in-Ok-keep-clause-recorded c =
     let s = c.args.session.now in
     let pid = c.args.pid in
     let call = call_of c.args.call in
-    let comes = c.requires.next in
+    let comes = c.requires in
     let me = comes.0 in
     let same = c.parts-parts.ensures.value in
     let at = ap (λ (x : State). process_at x pid) same ∙ comes.1 in
@@ -39,7 +39,7 @@ pub returns-then-is_left_out : goal.returns-then-is_left_out
 returns-then-is_left_out c =
     let s = c.args.session.now in
     let pid = c.args.pid in
-    let comes = c.requires.next in
+    let comes = c.requires in
     let a : Answered = record { after = c.call.new.self; outcome = c.in_ok-answer.answer.outcome; walks = c.in_ok-answer.answer.walks } in
     let made = step-called s pid comes.0 (call_of c.args.call) a comes.1 comes.2 c.in_ok-answer.ensures.answered in
     record {

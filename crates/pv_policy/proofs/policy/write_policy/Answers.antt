@@ -1,7 +1,7 @@
 use Rattle.std.proofs.Common.{◌∙◌}
 use Rattle.std.proofs.lemmas.Result.{err_from_is_err_and}
-use Rattle.pv_needs.proofs.OfAnswers.WriterContracts.{or_as, or_ok}
-use Rattle.pv_reduced.proofs.OfExplore.StoppedAnswers.{not_memory, unfinished, unwritten}
+use Rattle.pv_streams.proofs.WriterContracts.{or_as, or_ok}
+use Rattle.pv_streams.proofs.StoppedAnswers.{not_memory, unfinished, unwritten}
 use Rattle.pv_policy.proofs.CollectedCalls.{search-bytes}
 use Rattle.pv_policy.proofs.policy.write_policy.Goals as goal
 

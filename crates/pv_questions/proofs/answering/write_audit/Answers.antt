@@ -2,7 +2,7 @@ use Rattle.std.proofs.Common.{◌∙◌, ap, refl, sym}
 use Rattle.pv_model.specs.Machine.{Bytes}
 use Rattle.pv_model.specs.Sealed.{audit}
 use Rattle.pv_questions.specs.Answers.{audit_answer, of_verdict}
-use Rattle.pv_questions.proofs.WrittenAnswers.{answer-as, list_stopped-written, whole-written}
+use Rattle.pv_questions.proofs.WrittenAnswers.{answer-as, stopped-written, whole-written}
 use Rattle.pv_questions.proofs.answering.write_audit.Goals as goal
 
 pub returns-in-Some : goal.returns-in-Some
@@ -12,7 +12,7 @@ returns-in-Some g c =
 
 pub returns-in_err-write_report-in-None : goal.returns-in_err-write_report-in-None
 returns-in_err-write_report-in-None g c =
-    answer-as (sym (ap (audit_answer c.args.session.now) c.in-None.is)) (list_stopped-written c.from_residual.ensures.1 c.in_err-write_report-in-None.ensures)
+    answer-as (sym (ap (audit_answer c.args.session.now) c.in-None.is)) (stopped-written c.from_residual.ensures.1 c.in_err-write_report-in-None.ensures)
 
 pub returns-in_ok-write_report-in-None : goal.returns-in_ok-write_report-in-None
 returns-in_ok-write_report-in-None g c = answer-as (sym (ap (audit_answer c.args.session.now) c.in-None.is)) (whole-written refl c.in_ok-write_report-in-None.ensures)

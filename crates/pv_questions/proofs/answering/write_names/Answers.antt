@@ -3,7 +3,7 @@ use Rattle.pv_model.specs.Machine.{Tree, listing}
 use Rattle.pv_questions.specs.Answers.{of_text}
 use Rattle.pv_questions.specs.Trees.{input_tree}
 use Rattle.pv_questions.proofs.CheckKinds.{tree-kind}
-use Rattle.pv_questions.proofs.WrittenAnswers.{answer-as, checked-written, list_stopped-written, next-written, whole-written}
+use Rattle.pv_questions.proofs.WrittenAnswers.{answer-as, checked-written, stopped-written, next-written, whole-written}
 use Rattle.pv_questions.proofs.answering.write_names.Goals as goal
 
 pub returns-in_err-store : goal.returns-in_err-store
@@ -14,7 +14,7 @@ returns-in_err-store g c =
 pub returns-in_err-write_listing : goal.returns-in_err-write_listing
 returns-in_err-write_listing g c =
     next-written (input_tree c.args.input.format c.args.input.bytes.items) (λ t. of_text (listing t)) _ c.in_ok-store.ensures.held
-    (answer-as (ap (λ (t : Tree). of_text (listing t)) c.tree.ensures.tree) (list_stopped-written c.from_residual-in_err-write_listing.ensures.1 c.in_err-write_listing.ensures))
+    (answer-as (ap (λ (t : Tree). of_text (listing t)) c.tree.ensures.tree) (stopped-written c.from_residual-in_err-write_listing.ensures.1 c.in_err-write_listing.ensures))
 
 pub returns : goal.returns
 returns g c =

@@ -1,6 +1,6 @@
 use Rattle.std.proofs.Common.{◌∙◌, ap, option_map, refl, sym, subst, rules}
 use Rattle.pv_policy.proofs.OfAnswers.ProcessSequence.{all-after, fewer-after, next-record, none-after}
-use Rattle.pv_listing.proofs.TextRemainders.{LeavesRest, rest_all, rest_after, rest_begins, written_text}
+use Rattle.pv_streams.proofs.TextRemainders.{LeavesRest, rest_all, rest_after, rest_begins, written_text}
 use Rattle.pv_model.specs.Machine.{Bytes}
 use Rattle.pv_policy.specs.OfProcs.ProcessTable.{ProcessTable, number_after}
 use Rattle.pv_streams.proofs.OutputTexts.{on_err}

@@ -1,6 +1,6 @@
 use Rattle.std.proofs.Common.{◌≡◌, length, option_map}
 use Rattle.pv_policy.proofs.OfAnswers.ProcessSequence.{records_after}
-use Rattle.pv_listing.proofs.TextRemainders.{LeavesRest}
+use Rattle.pv_streams.proofs.TextRemainders.{LeavesRest}
 use Rattle.pv_questions.specs.Reasons.{all_reasons}
 use Rattle.pv_questions.proofs.ReasonRows.{rows}
 use Rattle.pv_questions.proofs.reasons.write_all_reasons.Given as goal

@@ -1,7 +1,7 @@
 use Rattle.std.proofs.Common.{◌∙◌, ◌+◌, List, None, Option, ap, drop, get_or, option_map, rules}
 use Rattle.std.proofs.lemmas.List.{drop_more}
 use Rattle.pv_run.specs.OfAudit.Reasons.{present_reasons}
-use Rattle.pv_listing.proofs.TextRemainders.{rest_after, rest_begins}
+use Rattle.pv_streams.proofs.TextRemainders.{rest_after, rest_begins}
 use Rattle.pv_model.specs.declared.verdict.Why.{Why}
 use Rattle.pv_streams.proofs.OutputTexts.{on_err}
 use Rattle.pv_questions.specs.Reasons.{reason_lines}

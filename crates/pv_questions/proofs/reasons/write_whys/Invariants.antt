@@ -1,6 +1,6 @@
 use Rattle.std.proofs.Common.{◌≡◌, drop, option_map}
 use Rattle.pv_run.specs.OfAudit.Reasons.{present_reasons}
-use Rattle.pv_listing.proofs.TextRemainders.{LeavesRest}
+use Rattle.pv_streams.proofs.TextRemainders.{LeavesRest}
 use Rattle.pv_questions.specs.Reasons.{reason_lines}
 use Rattle.pv_questions.proofs.reasons.write_whys.Given as goal
 

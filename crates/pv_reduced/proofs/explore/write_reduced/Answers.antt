@@ -1,10 +1,10 @@
-use Rattle.pv_state_encoding.proofs.OfAnswers.WriterContracts.{or_as, or_longer, or_ok, writes_as}
+use Rattle.pv_streams.proofs.WriterContracts.{or_as, or_longer, or_ok, writes_as}
 use Rattle.pv_explore.specs.Observing.{trace_text}
 use Rattle.pv_reduced.proofs.ReportedBytes.{explore-bytes, last-bytes, last-long, last_lines}
 use Rattle.pv_model.specs.Machine.{answer_bytes}
-use Rattle.pv_explore.proofs.ProperPrefixes.{inside_first}
-use Rattle.pv_explore.proofs.StoppedAnswers.{not_memory}
-use Rattle.pv_explore.proofs.OfStepLines.StoppedWriters.{stopped, then_writes, unwritten}
+use Rattle.pv_streams.proofs.ProperPrefixes.{inside_first}
+use Rattle.pv_streams.proofs.StoppedAnswers.{not_memory}
+use Rattle.pv_streams.proofs.StoppedWriters.{stopped, then_writes, unwritten}
 use Rattle.pv_reduced.proofs.explore.write_reduced.Goals as goal
 
 pub returns-in_err-searched-clause-written : goal.returns-in_err-searched-clause-written

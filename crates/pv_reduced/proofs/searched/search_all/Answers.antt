@@ -1,5 +1,5 @@
 use Rattle.std.proofs.Common.{ap, refl, subst, sym}
-use Rattle.pv_state_encoding.proofs.OfAnswers.WriterContracts.{or_as}
+use Rattle.pv_streams.proofs.WriterContracts.{or_as}
 use Rattle.pv_model.specs.Machine.{program_of}
 use Rattle.pv_reduced.specs.Plan.{ReducedVisited, reduced_reported_from}
 use Rattle.pv_reduced.specs.Searches.{HaveWitnesses}

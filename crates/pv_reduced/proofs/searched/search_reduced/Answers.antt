@@ -1,6 +1,6 @@
 use Rattle.std.proofs.Common.{refl}
-use Rattle.pv_state_encoding.proofs.OfAnswers.WriterContracts.{or_as}
-use Rattle.pv_explore.proofs.OfStepLines.StoppedWriters.{no_memory, still_ok, stopped}
+use Rattle.pv_streams.proofs.WriterContracts.{or_as}
+use Rattle.pv_streams.proofs.StoppedWriters.{no_memory, still_ok, stopped}
 use Rattle.pv_reduced.specs.Searches.{reduced_visited_of}
 use Rattle.pv_reduced.proofs.ReportedBytes.{is-searched, reported-bytes}
 use Rattle.pv_reduced.proofs.searched.search_reduced.Goals as goal

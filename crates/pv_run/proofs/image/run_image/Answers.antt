@@ -1,6 +1,6 @@
-use Rattle.std.proofs.Common.{rules}
+use Rattle.std.proofs.Common.{rules, ap, ◌∙◌}
 use Rattle.std.proofs.lemmas.Result.{err_from_is_err_and}
-use Rattle.pv_model.specs.Machine.{image_started}
+use Rattle.pv_model.specs.Machine.{State, image_started}
 use Rattle.pv_run.proofs.StoppedOutput.{image_written, neither_written, no_image_written, none_buffered}
 use Rattle.pv_run.proofs.ImageRuns.{has_run_on, stops_on, unwritten}
 use Rattle.pv_run.proofs.image.run_image.Goals as goal
@@ -32,7 +32,7 @@ returns-in_err-write_image g c =
     let ib = g.O.Sink.written c.args.image.now in
     let ia = g.O.Sink.written c.write_image.new.image in
     let refused = unwritten (image_started c.args.bytes.items c.args.schedule.now) c.in_ok-ready.ready.session c.in_ok-ready.ready.schedule c.in_ok-ready.ensures.asked
-    c.in_ok-ready.ensures.machine tb ta ib ia c.tree.result.now.tree c.make_turns.new.ready.session c.tree.ensures c.in_ok-summary.ensures.after
+    c.in_ok-ready.ensures.machine tb ta ib ia c.tree.result.now.tree c.make_turns.new.ready.session (c.tree.ensures ∙ ap (λ (s : State). s.tree) c.parts.ensures.value) c.in_ok-summary.ensures.after
     c.in_ok-summary.summary c.in_ok-summary.ensures.ran c.in_ok-summary.ensures.written.whole c.in_err-write_image.field-0.0 p.0 p.2
     c.in_err-write_image.ensures.kind c.in_err-write_image.ensures.cut c.in_err-write_image.ensures.memory in
     let written = image_written tb ta ib ia c.in_err-write_image.field-0.0 p.0 p.2 c.in_err-write_image.ensures.kind c.in_err-write_image.ensures.memory in
@@ -42,6 +42,6 @@ pub returns : goal.returns
 returns g c =
     let ran = has_run_on c.args.bytes.items c.args.schedule.now c.in_ok-ready.ready.session c.in_ok-ready.ready.schedule c.in_ok-ready.ensures.asked
     (g.W.Sink.written c.args.trace.now) (g.W.Sink.written c.make_turns.new.trace) (g.O.Sink.written c.args.image.now) (g.O.Sink.written c.write_image.new.image)
-    c.tree.result.now.tree c.make_turns.new.ready.session c.tree.ensures c.in_ok-summary.ensures.after c.in_ok-summary.summary c.in_ok-summary.ensures.ran
+    c.tree.result.now.tree c.make_turns.new.ready.session (c.tree.ensures ∙ ap (λ (s : State). s.tree) c.parts.ensures.value) c.in_ok-summary.ensures.after c.in_ok-summary.summary c.in_ok-summary.ensures.ran
     c.in_ok-summary.ensures.written.whole c.in_ok-write_image.ensures.whole in
     search (rules, ran)

@@ -1,5 +1,5 @@
 use Rattle.std.proofs.Common.{◌∙◌, ◌<◌, ◌≤◌, sym, suc, length, arith}
-use Rattle.pv_answers.proofs.WriterContracts.{writes_failed}
+use Rattle.pv_streams.proofs.WriterContracts.{writes_failed}
 use Rattle.pv_step_lines.proofs.AncestorLines.{climbing-init, climbing-on, climbing-governed, climbing-top, climbing-end, climbing-begun, none-found, some-found}
 use Rattle.pv_step_lines.proofs.levels.write_directory_levels.Goals as goal
 

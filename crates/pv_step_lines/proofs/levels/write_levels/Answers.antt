@@ -1,4 +1,4 @@
-use Rattle.pv_answers.proofs.WriterContracts.{writes_as}
+use Rattle.pv_streams.proofs.WriterContracts.{writes_as}
 use Rattle.pv_step_lines.proofs.AncestorLines.{place-bare, place-directory, place-node, place-other}
 use Rattle.pv_step_lines.proofs.levels.write_levels.Goals as goal
 

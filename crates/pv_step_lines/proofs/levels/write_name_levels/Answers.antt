@@ -1,4 +1,4 @@
-use Rattle.pv_answers.proofs.WriterContracts.{writes_as, writes_both, writes_failed, writes_longer}
+use Rattle.pv_streams.proofs.WriterContracts.{writes_as, writes_both, writes_failed, writes_longer}
 use Rattle.pv_step_lines.proofs.AncestorLines.{name-bare, name-first, name-governed, none-found, some-found}
 use Rattle.pv_step_lines.proofs.levels.write_name_levels.Goals as goal
 

@@ -8,7 +8,7 @@ use Rattle.pv_step_lines.proofs.making.make_call.Goals as goal
 
 pub returns-clause-made : goal.returns-clause-made
 returns-clause-made c =
-    let comes = c.requires.next in record {
+    let comes = c.requires in record {
       me = comes.0;
       lives = comes.1;
       comes = comes.2;

@@ -2,7 +2,7 @@ use Rattle.std.proofs.Common.{◌++◌, ◌∙◌, [], ap, sym, codes}
 use Rattle.std.proofs.lemmas.List.{append-nil}
 use Rattle.pv_model.specs.Machine.{answer_bytes, answer_line, call_of}
 use Rattle.pv_trace.specs.Words.{direction_of}
-use Rattle.pv_answers.proofs.WriterContracts.{writes_as, writes_both, writes_failed, writes_longer, writes_none}
+use Rattle.pv_streams.proofs.WriterContracts.{writes_as, writes_both, writes_failed, writes_longer, writes_none}
 use Rattle.pv_step_lines.specs.Parts.{moved_by_call}
 use Rattle.pv_step_lines.proofs.MovedLines.{moved-none, moved-some, moved-first}
 use Rattle.pv_step_lines.proofs.RemarkLines.{with-remark, with-remarks}

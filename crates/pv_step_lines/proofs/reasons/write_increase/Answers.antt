@@ -1,5 +1,5 @@
 use Rattle.pv_promises.specs.Pledge.{bits_of}
-use Rattle.pv_answers.proofs.WriterContracts.{writes_as}
+use Rattle.pv_streams.proofs.WriterContracts.{writes_as}
 use Rattle.pv_step_lines.proofs.PledgeIncreases.{first-line}
 use Rattle.pv_step_lines.proofs.reasons.write_increase.Goals as goal
 

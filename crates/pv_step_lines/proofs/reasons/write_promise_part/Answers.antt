@@ -1,7 +1,7 @@
 use Rattle.std.proofs.Common.{[], ◌∷◌}
 use Rattle.pv_model.specs.Machine.{call_of}
 use Rattle.pv_trace.specs.Words.{promise_verdict_of}
-use Rattle.pv_answers.proofs.WriterContracts.{writes_as, writes_both, writes_failed, writes_longer, writes_none}
+use Rattle.pv_streams.proofs.WriterContracts.{writes_as, writes_both, writes_failed, writes_longer, writes_none}
 use Rattle.pv_step_lines.specs.Parts.{promise_reason_by, why}
 use Rattle.pv_step_lines.proofs.RemarkLines.{with-remark, with-remarks}
 use Rattle.pv_step_lines.proofs.reasons.write_promise_part.Goals as goal

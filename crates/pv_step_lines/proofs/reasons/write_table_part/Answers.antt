@@ -1,4 +1,4 @@
-use Rattle.pv_answers.proofs.WriterContracts.{writes_as, writes_both, writes_failed, writes_longer}
+use Rattle.pv_streams.proofs.WriterContracts.{writes_as, writes_both, writes_failed, writes_longer}
 use Rattle.pv_step_lines.proofs.RemarkLines.{with-remarks}
 use Rattle.pv_step_lines.proofs.reasons.write_table_part.Goals as goal
 

@@ -1,6 +1,6 @@
 use Rattle.std.specs.Option.{option_copied}
 use Rattle.pv_model.specs.Machine.{call_of}
-use Rattle.pv_answers.proofs.WriterContracts.{writes_as}
+use Rattle.pv_streams.proofs.WriterContracts.{writes_as}
 use Rattle.pv_step_lines.specs.Basis.{settings_of_basis, basis_table}
 use Rattle.pv_step_lines.proofs.RemarkLines.{locked-line}
 use Rattle.pv_step_lines.proofs.reasons.write_table_reasons.Goals as goal

@@ -2,7 +2,7 @@ use Rattle.std.proofs.Common.{◌∙◌, ◌+◌, [], ◌∷◌, ◌++◌, drop,
 use Rattle.pv_model.specs.Machine.{hex_byte}
 use Rattle.pv_model.specs.Trace.{hex}
 use Rattle.pv_streams.proofs.OutputTexts.{on_err}
-use Rattle.pv_listing.proofs.TextRemainders.{rest_after, rest_begins}
+use Rattle.pv_streams.proofs.TextRemainders.{rest_after, rest_begins}
 use Rattle.pv_answers.proofs.TextParts.{part-next}
 use Rattle.pv_answers.proofs.numbers.HexFragment.write.Goals as goal
 

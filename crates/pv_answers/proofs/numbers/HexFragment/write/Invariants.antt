@@ -1,5 +1,5 @@
 use Rattle.std.proofs.Common.{◌≡◌, drop}
-use Rattle.pv_listing.proofs.TextRemainders.{LeavesRest}
+use Rattle.pv_streams.proofs.TextRemainders.{LeavesRest}
 use Rattle.pv_model.specs.Trace.{hex}
 use Rattle.pv_answers.proofs.numbers.HexFragment.write.Given as goal
 

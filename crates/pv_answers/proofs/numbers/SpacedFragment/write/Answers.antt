@@ -4,7 +4,7 @@ use Rattle.std.specs.Prelude.{false}
 use Rattle.pv_model.specs.Machine.{spaced}
 use Rattle.pv_answers.specs.Texts.{words_after}
 use Rattle.pv_streams.proofs.OutputTexts.{begins_first, on_err}
-use Rattle.pv_listing.proofs.TextRemainders.{rest_after, rest_begins}
+use Rattle.pv_streams.proofs.TextRemainders.{rest_after, rest_begins}
 use Rattle.pv_answers.proofs.TextParts.{mapped-next}
 use Rattle.pv_answers.proofs.numbers.SpacedFragment.write.Goals as goal
 

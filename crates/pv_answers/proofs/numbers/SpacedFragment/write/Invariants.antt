@@ -1,6 +1,6 @@
 use Rattle.std.proofs.Common.{◌≡◌, drop, map}
 use Rattle.std.specs.Fmt.{signed_decimal}
-use Rattle.pv_listing.proofs.TextRemainders.{LeavesRest}
+use Rattle.pv_streams.proofs.TextRemainders.{LeavesRest}
 use Rattle.pv_model.specs.Machine.{spaced}
 use Rattle.pv_answers.specs.Texts.{words_after}
 use Rattle.std.specs.Prelude.{false}

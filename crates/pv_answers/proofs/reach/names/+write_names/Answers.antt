@@ -1,7 +1,7 @@
 use Rattle.std.proofs.Common.{ap, sym}
 use Rattle.pv_answers.specs.Reaching.{linked_path_bytes}
 use Rattle.pv_answers.proofs.ListedLines.{names-below}
-use Rattle.pv_answers.proofs.WriterContracts.{writes_as, writes_both, writes_failed, writes_longer}
+use Rattle.pv_streams.proofs.WriterContracts.{writes_as, writes_both, writes_failed, writes_longer}
 use Rattle.pv_answers.proofs.reach.names.+write_names.Goals as goal
 
 pub returns-in_err-write_names-in-Below : goal.returns-in_err-write_names-in-Below

@@ -4,12 +4,12 @@ use Rattle.pv_model.specs.Machine.{with_name, Bytes, next_name, Entries, entries
 use Rattle.pv_listing.specs.Lines.{entries_after}
 use Rattle.pv_listing.proofs.DirectoryNames.{past-none}
 use Rattle.pv_listing.proofs.EntryLines.{no-entries}
-use Rattle.pv_listing.proofs.TextRemainders.{rest_after, rest_begins, written_text}
+use Rattle.pv_streams.proofs.TextRemainders.{rest_after, rest_begins, written_text}
 use Rattle.pv_streams.specs.Sinks.{and_all}
 use Rattle.pv_streams.proofs.OutputTexts.{begins_first, on_err}
 use Rattle.pv_answers.specs.Reaching.{lines_under, listed_lines_within, linked_path_bytes, reacher_state}
 use Rattle.pv_answers.proofs.ListedLines.{child-is, lines-are, next-is, node_left, upcoming}
-use Rattle.pv_answers.proofs.EqualOutputs.{begun_as}
+use Rattle.pv_streams.proofs.EqualOutputs.{begun_as}
 use Rattle.pv_answers.proofs.reach.names.+write_within.Goals as goal
 
 pub returns-in_err-write_name : goal.returns-in_err-write_name

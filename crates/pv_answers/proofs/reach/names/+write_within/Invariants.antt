@@ -1,6 +1,6 @@
 use Rattle.std.proofs.Common.{◌≡◌, ◌-◌, length}
 use Rattle.pv_model.specs.Machine.{entries_at}
-use Rattle.pv_listing.proofs.TextRemainders.{LeavesRest}
+use Rattle.pv_streams.proofs.TextRemainders.{LeavesRest}
 use Rattle.pv_answers.specs.Reaching.{lines_under, listed_lines_within, linked_path_bytes, reacher_state}
 use Rattle.pv_answers.proofs.ListedLines.{upcoming}
 use Rattle.pv_answers.proofs.reach.names.+write_within.Given as goal

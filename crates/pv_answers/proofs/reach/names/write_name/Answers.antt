@@ -1,6 +1,6 @@
 use Rattle.pv_answers.specs.Reaching.{linked_path_bytes}
 use Rattle.pv_answers.proofs.ListedLines.{listed-by}
-use Rattle.pv_answers.proofs.WriterContracts.{writes_as}
+use Rattle.pv_streams.proofs.WriterContracts.{writes_as}
 use Rattle.pv_answers.proofs.reach.names.write_name.Goals as goal
 
 pub returns : goal.returns

@@ -1,5 +1,5 @@
 use Rattle.std.proofs.Common.{◌≡◌}
-use Rattle.pv_listing.proofs.TextRemainders.{LeavesRest}
+use Rattle.pv_streams.proofs.TextRemainders.{LeavesRest}
 use Rattle.pv_answers.specs.Reaching.{all_on}
 use Rattle.pv_answers.proofs.OpenDescriptors.{words_from}
 use Rattle.pv_answers.proofs.reach.reacher.write_descriptors_on.Given as goal

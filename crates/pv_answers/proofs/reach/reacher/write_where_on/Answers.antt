@@ -1,7 +1,7 @@
 use Rattle.std.proofs.Common.{◌≡◌, ◌∙◌, ap, sym, rules, if◌then◌else◌, []}
 use Rattle.std.proofs.lemmas.Bool.{eq-eqb}
 use Rattle.pv_answers.specs.Reaching.{descriptor_words, words_on}
-use Rattle.pv_answers.proofs.EqualOutputs.{whole_as}
+use Rattle.pv_streams.proofs.EqualOutputs.{whole_as}
 use Rattle.pv_answers.proofs.reach.reacher.write_where_on.Goals as goal
 
 pub returns-in-Some : goal.returns-in-Some

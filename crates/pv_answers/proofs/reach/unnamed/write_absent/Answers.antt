@@ -1,6 +1,6 @@
 use Rattle.std.proofs.Common.{◌∙◌, sym}
 use Rattle.pv_answers.proofs.AbsentNameEntries.{absent-is}
-use Rattle.pv_answers.proofs.WriterContracts.{writes_as}
+use Rattle.pv_streams.proofs.WriterContracts.{writes_as}
 use Rattle.pv_answers.proofs.reach.unnamed.write_absent.Goals as goal
 
 pub returns : goal.returns

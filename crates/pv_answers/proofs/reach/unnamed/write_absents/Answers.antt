@@ -1,7 +1,7 @@
 use Rattle.std.proofs.Common.{◌∙◌, refl, subst, arith, rules}
 use Rattle.pv_model.specs.Machine.{Bytes}
 use Rattle.pv_streams.proofs.OutputTexts.{on_err}
-use Rattle.pv_listing.proofs.TextRemainders.{LeavesRest, rest_all, rest_after, rest_begins, written_text}
+use Rattle.pv_streams.proofs.TextRemainders.{LeavesRest, rest_all, rest_after, rest_begins, written_text}
 use Rattle.pv_answers.specs.Reaching.{absent_lines}
 use Rattle.pv_answers.proofs.AbsentNameEntries.{absent-next, absent-past}
 use Rattle.pv_answers.proofs.reach.unnamed.write_absents.Goals as goal

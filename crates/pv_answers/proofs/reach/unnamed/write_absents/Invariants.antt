@@ -1,5 +1,5 @@
 use Rattle.std.proofs.Common.{◌≡◌}
-use Rattle.pv_listing.proofs.TextRemainders.{LeavesRest}
+use Rattle.pv_streams.proofs.TextRemainders.{LeavesRest}
 use Rattle.pv_answers.specs.Reaching.{absent_lines}
 use Rattle.pv_answers.proofs.AbsentNameEntries.{absent_from}
 use Rattle.pv_answers.proofs.reach.unnamed.write_absents.Given as goal

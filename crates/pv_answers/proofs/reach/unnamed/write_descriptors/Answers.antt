@@ -1,7 +1,7 @@
 use Rattle.std.proofs.Common.{◌∙◌, refl, subst, arith, rules}
 use Rattle.pv_model.specs.Machine.{Bytes}
 use Rattle.pv_streams.proofs.OutputTexts.{on_err}
-use Rattle.pv_listing.proofs.TextRemainders.{LeavesRest, rest_all, rest_after, rest_begins, written_text}
+use Rattle.pv_streams.proofs.TextRemainders.{LeavesRest, rest_all, rest_after, rest_begins, written_text}
 use Rattle.pv_answers.specs.Reaching.{unnamed_lines}
 use Rattle.pv_answers.proofs.OpenDescriptors.{lines-next, lines-past}
 use Rattle.pv_answers.proofs.reach.unnamed.write_descriptors.Goals as goal

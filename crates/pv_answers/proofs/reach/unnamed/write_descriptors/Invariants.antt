@@ -1,5 +1,5 @@
 use Rattle.std.proofs.Common.{◌≡◌}
-use Rattle.pv_listing.proofs.TextRemainders.{LeavesRest}
+use Rattle.pv_streams.proofs.TextRemainders.{LeavesRest}
 use Rattle.pv_answers.specs.Reaching.{unnamed_lines}
 use Rattle.pv_answers.proofs.OpenDescriptors.{lines_from}
 use Rattle.pv_answers.proofs.reach.unnamed.write_descriptors.Given as goal

@@ -1,6 +1,6 @@
 use Rattle.std.proofs.Common.{◌∙◌, refl, sym}
 use Rattle.pv_answers.proofs.RemovedDirectories.{directory-is}
-use Rattle.pv_answers.proofs.WriterContracts.{writes_as}
+use Rattle.pv_streams.proofs.WriterContracts.{writes_as}
 use Rattle.pv_answers.proofs.reach.unnamed.write_directory.Goals as goal
 
 pub returns : goal.returns

@@ -1,7 +1,7 @@
 use Rattle.std.proofs.Common.{◌∙◌, sym}
 use Rattle.pv_answers.specs.Reaching.{reacher_state}
 use Rattle.pv_answers.proofs.RemovedDirectories.{pathless-removed, unnamed-is}
-use Rattle.pv_answers.proofs.WriterContracts.{writes_as}
+use Rattle.pv_streams.proofs.WriterContracts.{writes_as}
 use Rattle.pv_answers.proofs.reach.unnamed.write_on_unnamed.Goals as goal
 
 pub returns-then-is_directory : goal.returns-then-is_directory

@@ -23,6 +23,8 @@ invariant_of-self c =
     record {
       whole = c.self.invariant.whole;
       first_within = c.self.invariant.first_within;
+      written_within = c.self.invariant.written_within;
+      unwritten = c.self.invariant.unwritten;
       reserved = λ j below. let differs : j ≢ c.args.k = omega arith in after.others j differs ∙ c.self.invariant.reserved j below;
       counted = omega arith;
       none_below = λ j below. let differs : j ≢ c.args.k = omega arith in after.others j differs ∙ c.self.invariant.none_below j (omega arith);

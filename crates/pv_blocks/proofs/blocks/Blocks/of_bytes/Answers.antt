@@ -36,6 +36,8 @@ invariant_of-result c =
       reserved = first_taken _ _ _ _ _ all (omega arith);
       counted = all.counted ∙ ap (count_by (λ f. f)) (sym (free_outside_all _ _ _ _ _ all (omega arith)));
       none_below = first_taken _ _ _ _ _ all (omega arith);
+      written_within = c.written_below-written.ensures.within;
+      unwritten = λ k low high. rw c.deref.ensures.value at (c.written_below-written.ensures.zero k low high);
     }
 
 pub returns-clause-free : goal.returns-clause-free

@@ -20,6 +20,8 @@ invariant_of-self c =
     record {
       whole = c.self.invariant.whole;
       first_within = c.self.invariant.first_within;
+      written_within = c.self.invariant.written_within;
+      unwritten = c.self.invariant.unwritten;
       reserved = λ j below. keeps j (c.self.invariant.reserved j below);
       counted = omega (arith, after.counted, c.self.invariant.counted);
       none_below = λ j below. keeps j (c.self.invariant.none_below j below);

@@ -20,6 +20,8 @@ invariant_of-self c =
     record {
       whole = c.self.invariant.whole;
       first_within = c.self.invariant.first_within;
+      written_within = c.self.invariant.written_within;
+      unwritten = c.self.invariant.unwritten;
       reserved = c.self.invariant.reserved;
       counted = c.self.invariant.counted;
       none_below = λ j below. elim (cases_lt j c.self.inside.least) [

@@ -2,7 +2,7 @@ use Rattle.std.proofs.Common.{Option, ap, sym}
 use Rattle.pv_model.specs.declared.promises.Promises.{Promises as Set}
 use Rattle.pv_model_questions.specs.ExplainMore.{execpromises_text}
 use Rattle.pv_promises.specs.Pledge.{bits_of}
-use Rattle.pv_step_lines.proofs.OfAnswers.WriterContracts.{writes_as}
+use Rattle.pv_streams.proofs.WriterContracts.{writes_as}
 use Rattle.pv_explain.proofs.restraints.ExecpromisesTextFragment.write.Goals as goal
 
 pub returns-in-Some : goal.returns-in-Some

@@ -1,8 +1,8 @@
 use Rattle.std.proofs.Common.{◌∙◌, ap, subst}
-use Rattle.pv_step_lines.proofs.OfAnswers.WriterContracts.{or_ok, writes_as, writes_both, writes_longer}
+use Rattle.pv_streams.proofs.WriterContracts.{or_ok, writes_as, writes_both, writes_longer}
 use Rattle.pv_step_lines.specs.Made.{IsMade}
 use Rattle.pv_step_lines.proofs.StepStates.{left-by}
-use Rattle.pv_step_lines.proofs.StoppedWriters.{no_memory, unwritten}
+use Rattle.pv_streams.proofs.StoppedWriters.{no_memory, unwritten}
 use Rattle.pv_explore.proofs.GraphStepLines.{step-bytes}
 use Rattle.pv_explore.proofs.LastProcessNumbers.{gave-known}
 use Rattle.pv_model.specs.Machine.{State}

@@ -1,7 +1,7 @@
 use Rattle.std.proofs.Common.{◌∙◌, ap, List, Option, subst, ℕ}
 use Rattle.std.specs.Global.{Vec}
-use Rattle.pv_step_lines.proofs.OfAnswers.WriterContracts.{or_as}
-use Rattle.pv_step_lines.proofs.StoppedWriters.{no_memory, no_memory_after, still_ok, stopped}
+use Rattle.pv_streams.proofs.WriterContracts.{or_as}
+use Rattle.pv_streams.proofs.StoppedWriters.{no_memory, no_memory_after, still_ok, stopped}
 use Rattle.pv_explore.specs.declared.states.Followed.{Followed}
 use Rattle.pv_explore.specs.VisitedStates.{MayFollow}
 use Rattle.pv_explore.specs.Plan.{reported_after, reported_bytes, state_at}

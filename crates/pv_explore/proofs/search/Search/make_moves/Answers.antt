@@ -1,7 +1,7 @@
 use Rattle.std.proofs.Common.{◌∙◌, ℕ, List, [], ap, ap₂, get_or, refl, subst, sym}
 use Rattle.std.proofs.lemmas.Option.{get_or_from_slice_get, slice_get-get_or, slice_get_within}
-use Rattle.pv_step_lines.proofs.OfAnswers.WriterContracts.{but_from, or_as}
-use Rattle.pv_step_lines.proofs.StoppedWriters.{but_ends, but_stopped, but_then, no_memory}
+use Rattle.pv_streams.proofs.WriterContracts.{but_from, or_as}
+use Rattle.pv_streams.proofs.StoppedWriters.{but_ends, but_stopped, but_then, no_memory}
 use Rattle.pv_explore.specs.VisitedStates.{HasNumber}
 use Rattle.pv_explore.specs.Plan.{step_bytes_at, move_at, state_at, texts_at, visited_at}
 use Rattle.pv_explore.specs.Searches.{visited_of, witness_at}

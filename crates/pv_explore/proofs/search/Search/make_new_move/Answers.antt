@@ -1,7 +1,7 @@
 use Rattle.std.proofs.Common.{◌≡◌, ◌∙◌, ap, List, subst, sym, ℕ}
 use Rattle.std.specs.Global.{Vec}
-use Rattle.pv_step_lines.proofs.OfAnswers.WriterContracts.{or_as}
-use Rattle.pv_step_lines.proofs.StoppedWriters.{no_memory, no_memory_after, still_ok, stopped}
+use Rattle.pv_streams.proofs.WriterContracts.{or_as}
+use Rattle.pv_streams.proofs.StoppedWriters.{no_memory, no_memory_after, still_ok, stopped}
 use Rattle.pv_explore.specs.Plan.{Visited, reported_after, reported_bytes}
 use Rattle.pv_explore.specs.Searches.{visited_of}
 use Rattle.pv_explore.specs.VisitedStates.{HasNumber}

@@ -1,6 +1,6 @@
 use Rattle.std.proofs.Common.{◌∙◌, refl, subst, sym}
-use Rattle.pv_step_lines.proofs.OfAnswers.WriterContracts.{or_as}
-use Rattle.pv_step_lines.proofs.StoppedWriters.{no_memory, still_ok, stopped}
+use Rattle.pv_streams.proofs.WriterContracts.{or_as}
+use Rattle.pv_streams.proofs.StoppedWriters.{no_memory, still_ok, stopped}
 use Rattle.pv_explore.specs.Searches.{visited_of, witness_at}
 use Rattle.pv_explore.specs.VisitedStates.{HasNumber}
 use Rattle.pv_explore.specs.Witnesses.{longer}

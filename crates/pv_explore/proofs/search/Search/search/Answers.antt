@@ -1,6 +1,6 @@
 use Rattle.std.proofs.Common.{◌≡◌, ◌-◌, arith, List, ◌∙◌, ap, refl, subst, sym}
-use Rattle.pv_step_lines.proofs.OfAnswers.WriterContracts.{but_from, or_as}
-use Rattle.pv_step_lines.proofs.StoppedWriters.{but_ends, but_stopped, but_then}
+use Rattle.pv_streams.proofs.WriterContracts.{but_from, or_as}
+use Rattle.pv_streams.proofs.StoppedWriters.{but_ends, but_stopped, but_then}
 use Rattle.pv_explore.specs.Plan.{Visited, visited_after_steps, visited_from, live_at, state_at}
 use Rattle.pv_explore.specs.VisitedStates.{HasNumber}
 use Rattle.pv_explore.specs.Searches.{visited_of, witness_at}

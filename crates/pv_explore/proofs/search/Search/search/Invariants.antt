@@ -1,5 +1,5 @@
 use Rattle.std.proofs.Common.{◌≡◌}
-use Rattle.pv_step_lines.proofs.OfAnswers.WriterContracts.{WritesBut}
+use Rattle.pv_streams.proofs.WriterContracts.{WritesBut}
 use Rattle.pv_explore.specs.Searches.{AreAt, visited_of}
 use Rattle.pv_explore.proofs.SearchSteps.{visited_left, reported_left}
 use Rattle.pv_explore.proofs.search.Search.search.Given as goal

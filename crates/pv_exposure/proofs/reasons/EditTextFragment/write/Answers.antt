@@ -1,6 +1,6 @@
 use Rattle.std.proofs.Common.{◌++◌, ◌∙◌, ap, codes, decimal, sym}
 use Rattle.pv_model_questions.specs.Fixed.{edit_text}
-use Rattle.pv_programs.proofs.OfAnswers.WriterContracts.{writes_as}
+use Rattle.pv_streams.proofs.WriterContracts.{writes_as}
 use Rattle.pv_exposure.proofs.reasons.EditTextFragment.write.Goals as goal
 
 pub returns-in-Writes : goal.returns-in-Writes

@@ -1,6 +1,6 @@
 use Rattle.std.proofs.Common.{◌++◌, ◌∙◌, ap, codes, decimal, sym}
 use Rattle.pv_model.specs.Sealed.{why_text}
-use Rattle.pv_programs.proofs.OfAnswers.WriterContracts.{writes_as}
+use Rattle.pv_streams.proofs.WriterContracts.{writes_as}
 use Rattle.pv_exposure.proofs.reasons.WhyTextFragment.write.Goals as goal
 
 pub returns-in-Reads : goal.returns-in-Reads

@@ -16,12 +16,12 @@ pub index_mut-requires : goal.index_mut-requires
 index_mut-requires c = has_record c.self.inside.records c.self.inside.keys c.self.invariant.are_keys c.in-Some.file c.in-Some.ensures.1
 
 pub first_free_from-requires-clause-within : goal.first_free_from-requires-clause-within
-first_free_from-requires-clause-within c = first_within c.self.inside.records c.self.inside.keys c.self.inside.first c.self.invariant
+first_free_from-requires-clause-within c = first_within c.self.inside.records c.self.inside.keys c.self.inside.first c.self.inside.most c.self.invariant
 
 pub invariant_of-self : goal.invariant_of-self
 invariant_of-self c =
     let some : 0 < c.open.new.self.users = omega (arith, ap (λ (o : Opened). o.users) c.open.ensures) in
-    records_opened c.self.inside.records c.self.inside.keys c.self.invariant.are_keys c.in-Some.file c.in-Some.ensures.1 c.in-Some.ensures.0 c.open.new.self some
+    records_opened c.self.inside.records c.self.inside.keys c.self.invariant.are_keys c.in-Some.file c.in-Some.ensures.1 c.self.inside.first c.self.inside.most c.max-self-inside.result c.self.invariant (omega arith) (omega arith) (omega (arith, c.self.invariant.few, c.self.invariant.are_keys.count, c.in-Some.ensures.1)) c.in-Some.ensures.0 c.open.new.self some
 
 pub returns-clause-number : goal.returns-clause-number
 returns-clause-number c =

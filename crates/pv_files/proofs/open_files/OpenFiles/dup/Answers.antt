@@ -22,4 +22,4 @@ returns c = shared c.self.inside.records c.self.inside.keys c.self.invariant.are
 pub invariant_of-self : goal.invariant_of-self
 invariant_of-self c =
     let some : 0 < c.add_user.new.self.users = omega (arith, ap (λ (o : Opened). o.users) c.add_user.ensures) in
-    used_still c.self.inside.records c.self.inside.keys c.self.invariant.are_keys c.args.self.now c.self.view_is c.args.file c.requires.opened c.index_mut.result.now c.index_mut.ensures.value c.self.inside.first c.self.invariant.used c.add_user.new.self some
+    used_still c.self.inside.records c.self.inside.keys c.self.invariant.are_keys c.args.self.now c.self.view_is c.args.file c.requires.opened c.index_mut.result.now c.index_mut.ensures.value c.self.inside.first c.self.inside.most c.self.invariant c.add_user.new.self some

@@ -6,7 +6,7 @@ use Rattle.pv_files.proofs.RecordKeys.{first_within}
 use Rattle.pv_files.proofs.open_files.OpenFiles.has_room.Goals as goal
 
 pub first_free_from-requires-clause-within : goal.first_free_from-requires-clause-within
-first_free_from-requires-clause-within c = first_within c.self.inside.records c.self.inside.keys c.self.inside.first c.self.invariant
+first_free_from-requires-clause-within c = first_within c.self.inside.records c.self.inside.keys c.self.inside.first c.self.inside.most c.self.invariant
 
 pub returns : goal.returns
 returns c =

@@ -16,3 +16,18 @@ returns c =
     let (free, count, len, room) = c.loop-number.invariant in
     let end : c.loop-number.number ≡ 128 = omega (arith, c.loop-number-test.false, c.loop-number.auto.number-end) in
     none_open c.loop-number.records c.loop-number.keys count (subst (AreFree c.loop-number.records c.loop-number.keys) end free)
+
+pub invariant_of-result : goal.invariant_of-result
+invariant_of-result c =
+    let (free, count, len, room) = c.loop-number.invariant in
+    let end : c.loop-number.number ≡ 128 = omega (arith, c.loop-number-test.false, c.loop-number.auto.number-end) in
+    record {
+      are_keys = record {
+        count = count;
+        recorded = λ k small. free.recorded k (omega (arith, end));
+        own = λ j k small also. free.own j k (omega (arith, end)) (omega (arith, end));
+      };
+      used = omega arith;
+      few = omega arith;
+      unused = λ k past small. free.free k (omega (arith, end));
+    }

@@ -21,7 +21,7 @@ pub invariant_of-self : goal.invariant_of-self
 invariant_of-self c =
     let several : c.index_mut.result.now.users ≢ 1 = λ one. let some = c.in_err-node.ensures.last.1 one in cc in
     let more : 0 < c.take_user.new.self.users = omega (arith, ap (λ (o : Opened). o.users) c.take_user.ensures.taken, used_open c.self.inside.records c.self.inside.keys c.self.invariant.are_keys c.args.self.now c.self.view_is c.args.file c.requires c.index_mut.result.now c.index_mut.ensures.value, several) in
-    used_still c.self.inside.records c.self.inside.keys c.self.invariant.are_keys c.args.self.now c.self.view_is c.args.file c.requires c.index_mut.result.now c.index_mut.ensures.value c.self.inside.first c.self.invariant.used c.take_user.new.self more
+    used_still c.self.inside.records c.self.inside.keys c.self.invariant.are_keys c.args.self.now c.self.view_is c.args.file c.requires c.index_mut.result.now c.index_mut.ensures.value c.self.inside.first c.self.inside.most c.self.invariant c.take_user.new.self more
 
 pub returns-in_err-node-clause-users : goal.returns-in_err-node-clause-users
 returns-in_err-node-clause-users c = users_fewer c.self.inside.records c.self.inside.keys c.self.invariant.are_keys c.args.self.now c.self.view_is c.args.file c.requires c.index_mut.result.now c.index_mut.ensures.value c.take_user.new.self (ap (λ (o : Opened). o.users) c.take_user.ensures.taken)
@@ -36,7 +36,7 @@ returns-in_err-node-clause-stays c =
     rw c.from_residual.ensures (files_preserved c.self.inside.records c.self.inside.keys c.self.invariant.are_keys c.args.self.now c.self.view_is c.args.file c.requires c.index_mut.result.now c.index_mut.ensures.value c.take_user.new.self more (ap file_of c.take_user.ensures.taken))
 
 pub invariant_of-self-2 : goal.invariant_of-self-2
-invariant_of-self-2 c = rw c.min-self-inside.ensures (used_before c.self.inside.records c.self.inside.keys c.self.invariant.are_keys c.args.self.now c.self.view_is c.args.file c.requires c.index_mut.result.now c.index_mut.ensures.value c.self.inside.first c.self.invariant.used c.take_user.new.self)
+invariant_of-self-2 c = rw c.min-self-inside.ensures (used_before c.self.inside.records c.self.inside.keys c.self.invariant.are_keys c.args.self.now c.self.view_is c.args.file c.requires c.index_mut.result.now c.index_mut.ensures.value c.self.inside.first c.self.inside.most c.self.invariant c.take_user.new.self)
 
 pub returns-clause-users : goal.returns-clause-users
 returns-clause-users c = users_fewer c.self.inside.records c.self.inside.keys c.self.invariant.are_keys c.args.self.now c.self.view_is c.args.file c.requires c.index_mut.result.now c.index_mut.ensures.value c.take_user.new.self (ap (λ (o : Opened). o.users) c.take_user.ensures.taken)

@@ -22,4 +22,4 @@ returns c =
 pub invariant_of-self : goal.invariant_of-self
 invariant_of-self c =
     let some : 0 < c.put_offset.new.self.users = omega (arith, ap (λ (o : Opened). o.users) c.put_offset.ensures, used_open c.self.inside.records c.self.inside.keys c.self.invariant.are_keys c.args.self.now c.self.view_is c.args.file c.requires c.index_mut.result.now c.index_mut.ensures.value) in
-    used_still c.self.inside.records c.self.inside.keys c.self.invariant.are_keys c.args.self.now c.self.view_is c.args.file c.requires c.index_mut.result.now c.index_mut.ensures.value c.self.inside.first c.self.invariant.used c.put_offset.new.self some
+    used_still c.self.inside.records c.self.inside.keys c.self.invariant.are_keys c.args.self.now c.self.view_is c.args.file c.requires c.index_mut.result.now c.index_mut.ensures.value c.self.inside.first c.self.inside.most c.self.invariant c.put_offset.new.self some

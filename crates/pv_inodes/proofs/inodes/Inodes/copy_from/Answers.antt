@@ -1,7 +1,7 @@
 use Rattle.std.proofs.Common.{◌≡◌, ℕ, suc, ◌+◌, ◌-◌, length, subst, sym, ap, ◌∙◌, arith}
 use Rattle.pv_model.specs.declared.version.Version.{Version}
 use Rattle.pv_blocks.specs.BlockStore.{BlockStore}
-use Rattle.pv_inodes.specs.Files.{Files, IsUsed}
+use Rattle.pv_inodes.specs.Files.{Files, IsUsed, held}
 use Rattle.pv_inodes.specs.Sound.{IsSound, first_data, files_of}
 use Rattle.pv_inodes.proofs.StoreCopies.{copied_files, copied_sound}
 use Rattle.pv_inodes.proofs.ChangedInode.{blocks-files_of, version-files_of}
@@ -40,6 +40,7 @@ invariant_of-self c =
     let long = same_lengths _ _ _ _ _ _ c.args.self.now c.args.other.now c.self.invariant.0 c.self.view_is c.other.invariant.0 c.other.view_is c.requires.version c.requires.inodes c.requires.blocks in (
       copied_sound version inodes from old new c.copy_used_from.ensures c.other.invariant.0 c.self.invariant.0.shape.whole long,
       λ s below. subst (λ (f : Files). IsUsed f (suc s)) (sym same) (c.other.invariant.1 s below),
+      λ s past. ap (λ (f : Files). held f (suc s)) same ∙ c.other.invariant.2 s past,
     )
 
 pub returns : goal.returns

@@ -6,6 +6,7 @@ use Rattle.pv_inodes.specs.Sound.{files_of, rekinded}
 use Rattle.pv_inodes.proofs.ByteLists.{length-resize}
 use Rattle.pv_inodes.proofs.EditedFiles.{used-left, inode_bytes_at-left, without-left}
 use Rattle.pv_inodes.proofs.UsedInodes.{InUse, in_use}
+use Rattle.pv_inodes.proofs.GreatestUsedInode.{none_used-without}
 use Rattle.pv_inodes.proofs.LeastFreeInode.{all_used-without}
 use Rattle.pv_inodes.proofs.InodeCreation.{sound_dropped, files_of-dropped}
 use Rattle.pv_inodes.proofs.inodes.Inodes.drop_inode.Goals as goal
@@ -45,6 +46,7 @@ invariant_of-self c =
     let k = known start in (
       rw (dropped after) (sound_dropped c.self.inside.version _ _ _ c.self.invariant.0 k.below k.used (empty start)),
       rw c.min-self-inside.ensures (all_used-without _ _ _ _ _ _ c.self.invariant.1 c.self.view_is c.slot-slot.ensures (given_up after)),
+      none_used-without _ _ _ _ _ c.self.invariant.2 c.self.view_is (given_up after),
     )
 
 pub returns : goal.returns

@@ -1,8 +1,9 @@
-use Rattle.std.proofs.Common.{◌≡◌, ◌+◌, ◌/◌, ap, ◌∙◌, arith}
+use Rattle.std.proofs.Common.{◌≡◌, suc, ◌+◌, ◌/◌, ap, ◌∙◌, arith}
 use Rattle.pv_blocks.specs.BlockStore.{blocks_in_bytes, free_from}
-use Rattle.pv_inodes.specs.Files.{Files}
+use Rattle.pv_inodes.specs.Files.{Files, held}
 use Rattle.pv_inodes.specs.Sound.{first_data}
 use Rattle.pv_inodes.proofs.EmptyStore.{IsEmptyStore, sound_empty, files_of-empty}
+use Rattle.pv_inodes.proofs.NumberMaps.{at_number-none}
 use Rattle.pv_inodes.proofs.InodeLayouts.{first_data-is}
 use Rattle.pv_inodes.proofs.inodes.Inodes.empty.Goals as goal
 use Rattle.pv_inodes.proofs.inodes.Inodes.empty.Goals.{After-of_bytes}
@@ -23,7 +24,7 @@ over_zeros c =
     }
 
 pub invariant_of-result : goal.invariant_of-result
-invariant_of-result c = (sound_empty c.args.version _ _ _ _ _ (over_zeros c), λ s below. absurd (omega (arith, below)))
+invariant_of-result c = (sound_empty c.args.version _ _ _ _ _ (over_zeros c), λ s below. absurd (omega (arith, below)), λ s past. ap (λ (f : Files). held f (suc s)) (files_of-empty c.args.version _ _ _ _ _ (over_zeros c)) ∙ at_number-none c.args.inodes s)
 
 pub returns-clause-version : goal.returns-clause-version
 returns-clause-version c = ap (λ (f : Files). f.version) (files_of-empty c.args.version _ _ _ _ _ (over_zeros c))

@@ -4,6 +4,7 @@ use Rattle.pv_inodes.specs.Files.{Files, held, kind_of_number, with_new}
 use Rattle.pv_inodes.specs.Layout.{kind_at, with_kind}
 use Rattle.pv_inodes.specs.Sound.{files_of, resized_store, rekinded}
 use Rattle.pv_inodes.proofs.ChangedInode.{held-files_of}
+use Rattle.pv_inodes.proofs.GreatestUsedInode.{none_used-with_new}
 use Rattle.pv_inodes.proofs.LeastFreeInode.{all_used-with_new}
 use Rattle.pv_inodes.proofs.InodeCreation.{home_within, sound_made, files_of-made, total_sized}
 use Rattle.pv_inodes.proofs.ReadResults.{node_none, length-files_of}
@@ -28,6 +29,9 @@ set_kind-requires c =
     let long = ap (λ (st : BlockStore). length st.blocks) c.set_size.ensures ∙ total_sized c.self.inside.version c.self.inside.blocks c.self.inside.inodes c.in_ok-slot.slot c.self.invariant.0 (below start) (unused start) 1 (omega arith) (omega arith) in
     rw long (home_within c.self.inside.version _ _ _ c.self.invariant.0 (below start))
 
+pub overflow_add-slot : goal.overflow_add-slot
+overflow_add-slot c = omega (arith, below (goal.at.overflow_add-slot c).In_ok-slot)
+
 pub overflow_add-result : goal.overflow_add-result
 overflow_add-result c = omega (arith, below (goal.at.overflow_add-result c).In_ok-slot)
 
@@ -50,6 +54,7 @@ invariant_of-self c =
     let start = (goal.at.invariant_of-self c).In_ok-slot in (
       rw (made c) (sound_made c.self.inside.version _ _ _ c.self.invariant.0 (below start) (unused start) c.number_of.result c.number_of.ensures.some c.number_of.ensures.few),
       all_used-with_new _ _ _ _ _ _ c.in_ok-slot.ensures.used refl (taken c),
+      none_used-with_new _ _ _ _ _ c.self.inside.most _ c.self.invariant.2 c.self.view_is (taken c) c.in_ok-slot.ensures.within (omega arith) (omega arith),
     )
 
 pub returns-clause-after : goal.returns-clause-after

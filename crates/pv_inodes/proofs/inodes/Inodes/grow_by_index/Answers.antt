@@ -6,6 +6,7 @@ use Rattle.pv_inodes.specs.Files.{inode_bytes_at}
 use Rattle.pv_inodes.specs.Layout.{most_owned, wanted}
 use Rattle.pv_inodes.proofs.UsedInodes.{InUse, in_use}
 use Rattle.pv_inodes.proofs.InodeLayouts.{greatest_length-most, index_pointers-few, wanted-most}
+use Rattle.pv_inodes.proofs.GreatestUsedInode.{none_used-files_with_bytes}
 use Rattle.pv_inodes.proofs.LeastFreeInode.{all_used-files_with_bytes}
 use Rattle.pv_inodes.proofs.MethodResults.{Leaves, TakesIndex, takes_index, leaves_by_index, length-pushed, free_count-pushed, wanted_next, room_enough}
 use Rattle.pv_inodes.proofs.inodes.Inodes.grow_by_index.Goals as goal
@@ -102,7 +103,7 @@ left c =
     c.push_block-block.type_inv c.push_block-block.ensures.free (rw next at c.push_block-block.ensures.after) c.set_size.ensures
 
 pub invariant_of-self : goal.invariant_of-self
-invariant_of-self c = ((left c).sound, all_used-files_with_bytes _ _ _ _ _ _ c.self.invariant.1 c.self.view_is (left c).files)
+invariant_of-self c = ((left c).sound, all_used-files_with_bytes _ _ _ _ _ _ c.self.invariant.1 c.self.view_is (left c).files, none_used-files_with_bytes _ _ _ _ _ _ c.self.invariant.2 c.self.view_is (left c).files)
 
 pub returns : goal.returns
 returns c = (left c).files

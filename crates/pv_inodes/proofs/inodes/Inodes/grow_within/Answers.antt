@@ -5,6 +5,7 @@ use Rattle.pv_inodes.specs.Files.{inode_bytes_at}
 use Rattle.pv_inodes.specs.Layout.{size_at, owned_at, owned_count, position_of_block}
 use Rattle.pv_inodes.proofs.UsedInodes.{InUse, in_use, end_in_use}
 use Rattle.pv_inodes.proofs.InodeLayouts.{greatest_length-most}
+use Rattle.pv_inodes.proofs.GreatestUsedInode.{none_used-files_with_bytes}
 use Rattle.pv_inodes.proofs.LeastFreeInode.{all_used-files_with_bytes}
 use Rattle.pv_inodes.proofs.MethodResults.{Leaves, leaves_within}
 use Rattle.pv_inodes.proofs.BlockNumbers.{length-splice}
@@ -70,7 +71,7 @@ left c =
     c.set_size.ensures
 
 pub invariant_of-self : goal.invariant_of-self
-invariant_of-self c = ((left c).sound, all_used-files_with_bytes _ _ _ _ _ _ c.self.invariant.1 c.self.view_is (left c).files)
+invariant_of-self c = ((left c).sound, all_used-files_with_bytes _ _ _ _ _ _ c.self.invariant.1 c.self.view_is (left c).files, none_used-files_with_bytes _ _ _ _ _ _ c.self.invariant.2 c.self.view_is (left c).files)
 
 pub returns : goal.returns
 returns c = (left c).files

@@ -3,6 +3,8 @@ use Rattle.pv_blocks.specs.BlockStore.{free_from}
 use Rattle.pv_model.specs.Machine.{Bytes}
 use Rattle.pv_inodes.specs.Layout.{owned_count}
 use Rattle.pv_inodes.specs.Sound.{first_data}
+use Rattle.pv_inodes.proofs.GreatestUsedInode.{kinds-none_used}
+use Rattle.pv_inodes.proofs.InodeCreation.{home_within}
 use Rattle.pv_inodes.proofs.InodeLayouts.{first_data-is}
 use Rattle.pv_inodes.proofs.MountedStore.{over_none, home_over, size_over, most_over, index_over, free_over, over_more, over_next, sound_over, files_of-over}
 use Rattle.pv_inodes.proofs.inodes.Inodes.of_image.Goals as goal
@@ -53,8 +55,18 @@ loop-slot-preserved c =
     let next : c.loop-slot.slot + 1 ≡ suc c.loop-slot.slot = omega arith in
     rw next (over_next _ _ _ _ _ _ _ c.loop-i.invariant c.loop-slot-test.true (omega (arith, c.owned_count-i-end.ensures, same, c.loop-i-test.false)))
 
+pub end_of_used-most-requires : goal.end_of_used-most-requires
+end_of_used-most-requires c = λ s below.
+    let at_end : c.loop-slot.slot ≡ c.args.inodes = omega arith in
+    home_within c.args.version _ _ _ (sound_over _ _ _ _ _ (rw at_end at c.loop-slot.invariant)) below
+
 pub invariant_of-result : goal.invariant_of-result
-invariant_of-result c = let at_end : c.loop-slot.slot ≡ c.args.inodes = omega arith in (sound_over _ _ _ _ _ (rw at_end at c.loop-slot.invariant), λ s below. absurd (omega (arith, below)))
+invariant_of-result c =
+    let at_end : c.loop-slot.slot ≡ c.args.inodes = omega arith in (
+      sound_over _ _ _ _ _ (rw at_end at c.loop-slot.invariant),
+      λ s below. absurd (omega (arith, below)),
+      kinds-none_used c.args.version _ c.args.inodes _ c.end_of_used-most.ensures,
+    )
 
 pub returns : goal.returns
 returns c = let at_end : c.loop-slot.slot ≡ c.args.inodes = omega arith in files_of-over _ _ _ _ _ (rw at_end at c.loop-slot.invariant)

@@ -5,6 +5,7 @@ use Rattle.pv_inodes.specs.Layout.{owned_at, owned_count, wanted}
 use Rattle.pv_inodes.proofs.ContentGrowth.{Reduced, reduced_none, reduced_more, MayGiveBack, may_give_back, reduced-index}
 use Rattle.pv_inodes.proofs.UsedInodes.{InUse, in_use}
 use Rattle.pv_inodes.proofs.InodeLayouts.{greatest_length-most, wanted-mono}
+use Rattle.pv_inodes.proofs.GreatestUsedInode.{none_used-files_with_bytes}
 use Rattle.pv_inodes.proofs.LeastFreeInode.{all_used-files_with_bytes}
 use Rattle.pv_inodes.proofs.MethodResults.{Leaves, leaves_reduced}
 use Rattle.pv_inodes.proofs.inodes.Inodes.shrink.Goals as goal
@@ -40,6 +41,7 @@ loop-owned-init c =
       inodes = refl;
       version = refl;
       start = refl;
+      end = refl;
       reduced = rw owned at (reduced_none c.self.inside.version c.self.inside.blocks c.self.inside.inodes c.slot-slot.result c.self.invariant.0);
     }
 
@@ -82,6 +84,7 @@ loop-owned-preserved c =
       inodes = c.loop-owned.invariant.inodes;
       version = c.loop-owned.invariant.version;
       start = c.loop-owned.invariant.start;
+      end = c.loop-owned.invariant.end;
       reduced = rw (c.give_back.ensures, block_is (goal.at.loop-owned-preserved c).After-owned_by-block) given;
     }
 
@@ -96,7 +99,7 @@ left c =
 
 pub invariant_of-self : goal.invariant_of-self
 invariant_of-self c =
-    rw (c.loop-owned.invariant.inodes, c.loop-owned.invariant.version, c.loop-owned.invariant.start) ((left c).sound, all_used-files_with_bytes _ _ _ _ _ _ c.self.invariant.1 c.self.view_is (left c).files)
+    rw (c.loop-owned.invariant.inodes, c.loop-owned.invariant.version, c.loop-owned.invariant.start, c.loop-owned.invariant.end) ((left c).sound, all_used-files_with_bytes _ _ _ _ _ _ c.self.invariant.1 c.self.view_is (left c).files, none_used-files_with_bytes _ _ _ _ _ _ c.self.invariant.2 c.self.view_is (left c).files)
 
 pub returns : goal.returns
 returns c = rw (c.loop-owned.invariant.inodes, c.loop-owned.invariant.version) (left c).files

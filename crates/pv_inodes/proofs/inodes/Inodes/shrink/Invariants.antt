@@ -11,6 +11,7 @@ invariant-loop-owned l = record {
   inodes : l.self-inside.inodes ≡ l.initial.self-inside.inodes;
   version : l.self-inside.version ≡ l.initial.self-inside.version;
   start : l.self-inside.least ≡ l.initial.self-inside.least;
+  end : l.self-inside.most ≡ l.initial.self-inside.most;
   reduced : Reduced l.initial.self-inside.version l.initial.self-inside.blocks l.self-inside.blocks l.initial.self-inside.inodes l.slot l.owned;
 }
 

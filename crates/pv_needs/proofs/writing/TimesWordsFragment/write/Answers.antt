@@ -1,5 +1,5 @@
 use Rattle.std.proofs.Common.{ap, codes, ◌≡◌, ◌++◌, decimal, rules}
-use Rattle.pv_answers.proofs.EqualOutputs.{whole_as}
+use Rattle.pv_streams.proofs.EqualOutputs.{whole_as}
 use Rattle.pv_needs.proofs.LineBytes.{begins-as}
 use Rattle.pv_needs.proofs.writing.TimesWordsFragment.write.Goals as goal
 

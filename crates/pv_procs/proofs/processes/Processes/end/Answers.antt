@@ -3,8 +3,9 @@ use Rattle.std.proofs.lemmas.List.{with_items_is}
 use Rattle.pv_model.specs.Machine.{end_process}
 use Rattle.pv_procs.specs.declared.slot.ProcessSlot.{ProcessSlot}
 use Rattle.pv_procs.specs.declared.shared.Shared.{Shared}
-use Rattle.pv_procs.specs.Slots.{AreConsistentSlots, process_table_of, ascends, shared_program_at}
+use Rattle.pv_procs.specs.Slots.{AreConsistentSlots, IsIdleFrom, process_table_of, ascends, shared_program_at}
 use Rattle.pv_procs.specs.ProcessTable.{ProcessTable, state_with}
+use Rattle.pv_procs.proofs.IdlePrograms.{idle-fewer}
 use Rattle.pv_procs.proofs.SlotLookups.{found-at, live-slot, status-at, process-at}
 use Rattle.pv_procs.proofs.SlotInvariant.{ascends-set}
 use Rattle.pv_procs.proofs.EndedSlots.{has-users, preserved-gone, preserved-claimed, end-is, parent-is}
@@ -59,6 +60,7 @@ invariant_of-self c =
         room = omega (arith, c.self.invariant.1.room, c.settle.ensures.room);
         spare_room = omega (arith, c.self.invariant.1.spare_room, c.settle.ensures.spare_room);
       },
+      subst (λ (gs : List Shared). IsIdleFrom gs i.most) (sym same) (idle-fewer i.programs.items other slot.program i.most c.self.invariant.2 rest fewer),
     )
 
 pub returns : goal.returns

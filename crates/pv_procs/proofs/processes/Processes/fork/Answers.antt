@@ -4,9 +4,11 @@ use Rattle.pv_model.specs.Machine.{fork, answers}
 use Rattle.pv_procs.specs.declared.slot.ProcessSlot.{ProcessSlot}
 use Rattle.pv_procs.specs.declared.shared.Shared.{Shared}
 use Rattle.pv_procs.specs.Children.{child_slot}
-use Rattle.pv_procs.specs.Slots.{AreConsistentSlots, process_table_of, users_at, shared_program_at}
+use Rattle.pv_procs.specs.Slots.{AreConsistentSlots, IsIdleFrom, process_table_of, users_at, shared_program_at}
 use Rattle.pv_procs.specs.ProcessTable.{ProcessTable, state_with}
-use Rattle.pv_procs.proofs.SlotLookups.{found-at, live-slot, process-at}
+use Rattle.pv_procs.proofs.EndedSlots.{has-users}
+use Rattle.pv_procs.proofs.IdlePrograms.{idle-more}
+use Rattle.pv_procs.proofs.SlotLookups.{found-at, live-slot, process-at, status-at}
 use Rattle.pv_procs.proofs.ForkedSlots.{preserved-new, fork-is, mine-is}
 use Rattle.pv_procs.proofs.processes.Processes.fork.Goals as goal
 
@@ -27,6 +29,7 @@ invariant_of-self-2 c =
     let preserved = c.self.invariant.0 in
     let found = rw c.deref.ensures.value at c.live_index-k.ensures in
     let at = found-at i.slots.items c.args.pid k slot found c.index.ensures in
+    let lives = status-at i.slots.items i.programs.items i.last c.args.self.now c.self.view_is c.args.pid preserved.ascending k slot at c.requires in
     let new_is : c.make_child.new.slot ≡ child_slot (suc i.last) slot = c.make_child.ensures ∙ ap (λ n. child_slot n slot) (add-one i.last) in
     let program : c.make_child.new.slot.program ≡ slot.program = ap (λ (p : ProcessSlot). p.program) new_is in
     let listed = c.deref_mut.ensures.value in
@@ -45,6 +48,7 @@ invariant_of-self-2 c =
         room = omega (arith, c.self.invariant.1.room, c.push_reserved.ensures.capacity);
         spare_room = omega (arith, c.self.invariant.1.spare_room, c.in-Some.ensures.capacity);
       },
+      subst (λ (gs : List Shared). IsIdleFrom gs i.most) (sym same) (idle-more i.programs.items other slot.program i.most c.self.invariant.2 rest (has-users i.slots.items i.programs.items i.last preserved c.args.pid k slot at lives)),
     )
 
 pub returns-clause-forked : goal.returns-clause-forked

@@ -5,7 +5,8 @@ use Rattle.pv_procs.specs.declared.slot.ProcessSlot.{ProcessSlot}
 use Rattle.pv_procs.specs.declared.record.ProcessRecord.{ProcessRecord}
 use Rattle.pv_procs.specs.declared.shared.Shared.{Shared}
 use Rattle.pv_procs.specs.Parts.{after_exec}
-use Rattle.pv_procs.specs.Slots.{AreConsistentSlots, process_table_of}
+use Rattle.pv_procs.specs.Slots.{AreConsistentSlots, IsIdleFrom, process_table_of}
+use Rattle.pv_procs.proofs.IdlePrograms.{idle-fewer, idle-set}
 use Rattle.pv_procs.proofs.SlotLookups.{found-at, live-slot, status-at, process-at}
 use Rattle.pv_procs.proofs.SlotInvariant.{roomy-set}
 use Rattle.pv_procs.proofs.EndedSlots.{has-users}
@@ -71,6 +72,8 @@ invariant_of-self c =
     let listed : List Shared = slice_set (with_items i.programs go).items free (record { program = c.args.program; users = 1 }) in (
       subst (λ (ps : List ProcessSlot). AreConsistentSlots ps listed i.last) (sym slots) (subst (λ (gs : List Shared). AreConsistentSlots changed gs i.last) (sym programs) loaded),
       roomy-set i.slots.items i.spare.items k _ _ _ c.self.invariant.1,
+      subst (λ (gs : List Shared). IsIdleFrom gs c.max-self-inside.result) (sym programs)
+          (rw c.max-self-inside.ensures (idle-set go free i.most (record { program = c.args.program; users = 1 }) (idle-fewer i.programs.items go slot.program i.most c.self.invariant.2 rest fewer) (omega (arith, unused.0, long, preserved.table)))),
     )
 
 pub returns : goal.returns

@@ -1,7 +1,8 @@
 use Rattle.std.proofs.Common.{◌∙◌, List, [], ◌∷◌, ◌++◌, sym, ap₂, subst, arith}
 use Rattle.pv_procs.specs.declared.slot.ProcessSlot.{ProcessSlot}
 use Rattle.pv_procs.specs.declared.shared.Shared.{Shared}
-use Rattle.pv_procs.specs.Slots.{AreConsistentSlots}
+use Rattle.pv_procs.specs.Slots.{AreConsistentSlots, IsIdleFrom}
+use Rattle.pv_procs.proofs.IdlePrograms.{idle-first}
 use Rattle.pv_procs.proofs.LoadedPrograms.{first-preserved}
 use Rattle.pv_procs.proofs.processes.Processes.new.Goals as goal
 
@@ -15,4 +16,5 @@ invariant_of-result c =
         room = omega (arith, c.push_reserved.ensures.capacity, c.in_ok-slots.ensures.exact);
         spare_room = omega (arith, c.in_ok-spare.ensures.room);
       },
+      subst (λ (gs : List Shared). IsIdleFrom gs 1) (sym c.in_ok-programs.ensures) (idle-first c.args.program),
     )

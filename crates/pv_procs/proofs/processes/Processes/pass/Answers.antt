@@ -18,7 +18,7 @@ pub invariant_of-self : goal.invariant_of-self
 invariant_of-self c =
     let i = c.self.inside in
     let at = (appeared c).at in
-    (preserved-set i.slots.items i.programs.items i.last c.self.invariant.0 c.args.pid c.in-Some.k c.index_mut-slot.result.now at _ at.number refl refl, roomy-set i.slots.items i.spare.items c.in-Some.k _ _ _ c.self.invariant.1)
+    (preserved-set i.slots.items i.programs.items i.last c.self.invariant.0 c.args.pid c.in-Some.k c.index_mut-slot.result.now at _ at.number refl refl, roomy-set i.slots.items i.spare.items c.in-Some.k _ _ _ c.self.invariant.1, c.self.invariant.2)
 
 pub returns-clause-made : goal.returns-clause-made
 returns-clause-made c =

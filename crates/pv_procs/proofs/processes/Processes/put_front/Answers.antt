@@ -22,7 +22,7 @@ invariant_of-self c =
     let found = rw c.deref.ensures.value at c.live_index-k.ensures in
     let at = found-at i.slots.items c.args.pid k slot found c.index_mut-slot.ensures.value in
     let lives = status-at i.slots.items i.programs.items i.last c.args.self.now c.self.view_is c.args.pid c.self.invariant.0.ascending k slot at c.requires.live in
-    (preserved-set i.slots.items i.programs.items i.last c.self.invariant.0 c.args.pid k slot at _ at.number refl refl, roomy-set i.slots.items i.spare.items k _ _ _ c.self.invariant.1)
+    (preserved-set i.slots.items i.programs.items i.last c.self.invariant.0 c.args.pid k slot at _ at.number refl refl, roomy-set i.slots.items i.spare.items k _ _ _ c.self.invariant.1, c.self.invariant.2)
 
 pub returns : goal.returns
 returns c =

@@ -36,6 +36,7 @@ invariant_of-self c =
         room = omega (arith, c.self.invariant.1.room, c.remove-slot.ensures.capacity);
         spare_room = omega (arith, c.self.invariant.1.spare_room, c.push_reserved.ensures.capacity);
       },
+      c.self.invariant.2,
     )
 
 pub returns-clause-waited : goal.returns-clause-waited

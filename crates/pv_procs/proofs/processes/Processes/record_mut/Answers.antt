@@ -20,6 +20,7 @@ invariant_of-self-lent c = λ w.
     let at = found-at i.slots.items c.args.pid c.live_index-k.result slot found c.index_mut.ensures.value in (
       preserved-set i.slots.items i.programs.items i.last c.self.invariant.0 c.args.pid c.live_index-k.result slot at _ at.number refl refl,
       roomy-set i.slots.items i.spare.items c.live_index-k.result _ _ _ c.self.invariant.1,
+      c.self.invariant.2,
     )
 
 pub returns : goal.returns

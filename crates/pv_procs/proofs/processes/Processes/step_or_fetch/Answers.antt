@@ -20,7 +20,7 @@ invariant_of-self c =
     let slot = c.index_mut-slot.result.now in
     let found = rw c.deref.ensures.value at c.in-Some.ensures.slot in
     let at = found-at i.slots.items c.args.pid c.in-Some.k slot found c.index_mut-slot.ensures.value in
-    (preserved-set i.slots.items i.programs.items i.last c.self.invariant.0 c.args.pid c.in-Some.k slot at _ at.number refl refl, roomy-set i.slots.items i.spare.items c.in-Some.k _ _ _ c.self.invariant.1)
+    (preserved-set i.slots.items i.programs.items i.last c.self.invariant.0 c.args.pid c.in-Some.k slot at _ at.number refl refl, roomy-set i.slots.items i.spare.items c.in-Some.k _ _ _ c.self.invariant.1, c.self.invariant.2)
 
 pub returns : goal.returns
 returns c =

@@ -1,8 +1,8 @@
 use Rattle.std.proofs.Common.{◌∙◌, ap, List, refl, ℕ}
 use Rattle.std.specs.Global.{Vec}
-use Rattle.pv_state_encoding.proofs.OfAnswers.WriterContracts.{or_as}
+use Rattle.pv_streams.proofs.WriterContracts.{or_as}
 use Rattle.pv_reduced.proofs.ReducedSearchSteps.{bytes-is, visited-at-is, visited-is}
-use Rattle.pv_explore.proofs.OfStepLines.StoppedWriters.{no_memory, no_memory_after, still_ok, stopped}
+use Rattle.pv_streams.proofs.StoppedWriters.{no_memory, no_memory_after, still_ok, stopped}
 use Rattle.pv_explore.specs.Plan.{reported_after, reported_bytes}
 use Rattle.pv_reduced.specs.Plan.{ReducedVisited}
 use Rattle.pv_reduced.specs.Searches.{reduced_visited_of, reduced_witness_at}

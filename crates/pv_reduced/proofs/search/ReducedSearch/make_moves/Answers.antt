@@ -2,8 +2,8 @@ use Rattle.std.proofs.Common.{◌≡◌, ◌∙◌, ℕ, List, [], Option, ap, a
 use Rattle.std.specs.Prelude.{IfSome}
 use Rattle.std.proofs.lemmas.List.{drop_all}
 use Rattle.std.proofs.lemmas.Option.{get_or_from_slice_get, slice_get-get_or, slice_get_within}
-use Rattle.pv_state_encoding.proofs.OfAnswers.WriterContracts.{but_from, or_as}
-use Rattle.pv_explore.proofs.OfStepLines.StoppedWriters.{but_ends, but_no_memory, but_stopped, but_then, no_memory}
+use Rattle.pv_streams.proofs.WriterContracts.{but_from, or_as}
+use Rattle.pv_streams.proofs.StoppedWriters.{but_ends, but_no_memory, but_stopped, but_then, no_memory}
 use Rattle.pv_explore.specs.Plan.{move_at, state_at}
 use Rattle.pv_laws_classes.specs.Reduced.{bound_by}
 use Rattle.pv_model.specs.Machine.{program_of, State}

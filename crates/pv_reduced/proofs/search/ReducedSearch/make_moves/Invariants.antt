@@ -1,6 +1,6 @@
 use Rattle.std.proofs.Common.{◌≡◌, Some, drop, slice_get}
 use Rattle.std.specs.Prelude.{IfSome}
-use Rattle.pv_state_encoding.proofs.OfAnswers.WriterContracts.{WritesBut}
+use Rattle.pv_streams.proofs.WriterContracts.{WritesBut}
 use Rattle.pv_reduced.specs.Plan.{reduced_visited_after_steps}
 use Rattle.pv_reduced.specs.Searches.{reduced_visited_of, reduced_witness_at}
 use Rattle.pv_reduced.proofs.ReducedSearchSteps.{steps_left}

@@ -1,9 +1,9 @@
 use Rattle.std.proofs.Common.{◌≡◌, ◌-◌, arith, ◌∙◌, ap, refl}
 use Rattle.std.proofs.lemmas.Option.{slice_get_within}
-use Rattle.pv_state_encoding.proofs.OfAnswers.WriterContracts.{but_from, or_as}
+use Rattle.pv_streams.proofs.WriterContracts.{but_from, or_as}
 use Rattle.pv_reduced.specs.Plan.{reduced_visited_after_steps, reduced_visited_from}
 use Rattle.pv_reduced.proofs.ReducedSearchSteps.{found-none, found-witness, left-next, left-none, long-after, reported-next, reported-none, reported-past, reported-start}
-use Rattle.pv_explore.proofs.OfStepLines.StoppedWriters.{but_ends, but_stopped, but_then}
+use Rattle.pv_streams.proofs.StoppedWriters.{but_ends, but_stopped, but_then}
 use Rattle.pv_reduced.specs.Searches.{moving_in, reduced_visited_of, reduced_witness_at}
 use Rattle.pv_model.specs.Machine.{program_of}
 use Rattle.pv_reduced.proofs.search.ReducedSearch.search.Goals as goal

@@ -1,5 +1,5 @@
 use Rattle.std.proofs.Common.{◌≡◌}
-use Rattle.pv_state_encoding.proofs.OfAnswers.WriterContracts.{WritesBut}
+use Rattle.pv_streams.proofs.WriterContracts.{WritesBut}
 use Rattle.pv_reduced.specs.Searches.{HaveWitnesses, reduced_visited_of}
 use Rattle.pv_reduced.proofs.ReducedSearchSteps.{visited_left, reported_left}
 use Rattle.pv_reduced.proofs.search.ReducedSearch.search.Given as goal

@@ -1,5 +1,5 @@
 use Rattle.std.proofs.Common.{sym}
-use Rattle.pv_answers.proofs.WriterContracts.{writes_as, writes_none}
+use Rattle.pv_streams.proofs.WriterContracts.{writes_as, writes_none}
 use Rattle.pv_step_lines.proofs.EntryOrigins.{no-source, source-earlier, source-now}
 use Rattle.pv_step_lines.proofs.levels.OriginTextFragment.write.Goals as goal
 

@@ -1,7 +1,7 @@
 use Rattle.std.proofs.Common.{ap}
 use Rattle.pv_answers.specs.Reaching.{linked_path_bytes}
 use Rattle.pv_answers.proofs.ListedLines.{text-below}
-use Rattle.pv_answers.proofs.WriterContracts.{writes_as}
+use Rattle.pv_streams.proofs.WriterContracts.{writes_as}
 use Rattle.pv_answers.proofs.reach.names.PathTextFragment.write.Goals as goal
 
 pub returns-in-Below : goal.returns-in-Below

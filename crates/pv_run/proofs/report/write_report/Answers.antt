@@ -1,0 +1,12 @@
+use Rattle.std.proofs.Common.{◌∙◌, Some, ap, subst}
+use Rattle.pv_model.specs.Listing.{found_line, lines_of_all}
+use Rattle.pv_model.specs.Machine.{State, Tree, audit_node, report}
+use Rattle.pv_streams.specs.Sinks.{FailsBy, WritesOr}
+use Rattle.pv_run.proofs.report.write_report.Goals as goal
+
+pub returns : goal.returns
+unfolding report
+returns g c =
+    let s = c.args.session.now in
+    subst (λ (t : Tree). WritesOr g.W.Sink FailsBy (lines_of_all t (λ path n. found_line path (audit_node s (Some n)))) c.args.out.now c.write_lines.new.out c.write_lines.result)
+    (c.tree.ensures ∙ ap (λ (x : State). x.tree) c.parts.ensures.value) c.write_lines.ensures
