@@ -11,8 +11,8 @@ use Rattle.pv_compare.specs.declared.pairs.PairNumbers.{PairNumbers}
 use Rattle.pv_explore.specs.Plan.{state_key}
 use Rattle.pv_explore.specs.Rows.{Grew, IsAmong, number_in}
 use Rattle.pv_explore.specs.Sides.{IsAddedTo, IsNumbered}
-use Rattle.pv_explore.proofs.PlannedSearch.{packed-test, same-known}
-use Rattle.pv_explore.proofs.StateRows.{among-later, number-later, same-number}
+use Rattle.pv_explore.proofs.Planned.{packed-test, same-known}
+use Rattle.pv_explore.proofs.Rows.{among-later, number-later, same-number}
 use Rattle.pv_laws_answers.proofs.Lists.{each-append}
 use Rattle.pv_laws_trees.proofs.DirectoryEntries.{bytes_eq-same, bytes_eq-itself}
 use Rattle.pv_model.specs.Machine.{FoundPair, same_state, Bytes, program_of, State}

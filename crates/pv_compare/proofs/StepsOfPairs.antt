@@ -14,7 +14,7 @@ use Rattle.pv_explore.specs.Rows.{IsAmong, number_in}
 use Rattle.pv_explore.specs.Sides.{IsNumbered}
 use Rattle.pv_explore.specs.VisitedStates.{HasNumber}
 use Rattle.pv_explore.specs.Witnesses.{longer}
-use Rattle.pv_explore.proofs.SideStates.{has-number}
+use Rattle.pv_explore.proofs.Sides.{has-number}
 use Rattle.pv_model.specs.Machine.{FoundPair, PairMove, differs, Bytes, program_of, State}
 use Rattle.pv_explore.specs.OfSession.Running.{stepped}
 use Rattle.pv_laws_trees.proofs.ListTests.{all-at}

@@ -1,26 +1,32 @@
 -- The lines of the states, one state at a time, are those of the state graph.
-use Rattle.std.proofs.Common.{◌≡◌, ◌∙◌, sym, ap, ap₂, ℕ, zero, suc, ◌+◌, ◌<◌, ◌≤◌, Bool, bytes_eq, true, false, List, [], ◌∷◌, ◌++◌, map, flat_map, length, drop, get_or, slice_get, Option, None, Some, refl, add-one, codes}
+use Rattle.std.proofs.Common.{◌≡◌, ◌∙◌, sym, ap, ap₂, subst, ℕ, zero, suc, ◌+◌, ◌<◌, ◌≤◌, Bool, bytes_eq, true, false, List, [], ◌∷◌, ◌++◌, map, flat_map, length, drop, get_or, slice_get, Option, None, Some, refl, add-one, codes}
 use Rattle.std.specs.Prelude.{position}
 use Rattle.std.specs.Fmt.{decimal}
 use Rattle.std.specs.List.{AllByRecursion}
 use Rattle.std.proofs.lemmas.Grind.{flat_map-append}
 use Rattle.std.proofs.lemmas.List.{drop_all, length-map}
 use Rattle.std.proofs.Math.Seq.{drop-cons}
-use Rattle.pv_explore.specs.Plan.{Visited, first_visited, visited_from, state_key, state_at, live_at, reported_from}
+use Rattle.pv_engine.specs.Forms.{whole_bound, whole_key}
+use Rattle.pv_engine.specs.Plan.{Visited, all_visited, all_reported, state_key, state_at, live_at}
+use Rattle.pv_engine.specs.Results.{found_with}
 use Rattle.pv_explore.specs.Vertices.{found_lines, listed_bytes, vertex_step, steps_at, vertex_at, vertices_from}
-use Rattle.pv_step_cache.proofs.KeyLists.{position-mapped}
+use Rattle.pv_rows.proofs.KeyLists.{position-mapped}
 use Rattle.pv_streams.proofs.ProperPrefixes.{lines-long}
-use Rattle.pv_explore.proofs.PlannedSearch.{Finds, plan-found, same-known, state_of_found, witness_of_found}
-use Rattle.pv_model.specs.Machine.{Found, is_complete, move, states_found, explained_step, graph_lines, AnswerLine, answer_bytes, answer_line, answer_line_bytes, counted_from, same_state, Observer, state_lines, reach_lines, Bytes, lines_of, program_of, live_processes, listing, Process, State}
+use Rattle.pv_engine.proofs.Planned.{Finds, plan-finds, witness_of_found}
+use Rattle.pv_explore.proofs.Instances.{one-known, same-complete, same-found}
+use Rattle.pv_model.specs.Machine.{Found, is_complete, move, explained_step, graph_lines, AnswerLine, answer_bytes, answer_line, answer_line_bytes, counted_from, same_state, Observer, state_lines, reach_lines, Bytes, lines_of, program_of, live_processes, listing, Process, State}
 use Rattle.pv_model.specs.Answers.Explore.{states_line}
 use Rattle.pv_model.specs.Answers.Graph.{leads_to_text, listing_lines, number_found, step_lines, tree_lines, unreported, vertex_lines}
 use Rattle.pv_step_lines.specs.OfSession.Running.{stepped}
+
+abbrev state_of_found : Found → Bytes
+state_of_found f = state_key f.state
 
 same-positions : {X : Type 0} (p q : X → Bool) → ((x : X) → p x ≡ q x) → (xs : List X) → position p xs ≡ position q xs
 same-positions {X} p q same xs = let tests : p ≡ q = λ i x. same x i in ap (λ (t : X → Bool). position t xs) tests
 
 number-of : (t : State) (found : List Found) → position (bytes_eq (state_key t)) (map state_of_found found) ≡ number_found t found
-number-of t found = position-mapped state_of_found (bytes_eq (state_key t)) found ∙ same-positions (λ (f : Found). bytes_eq (state_key t) (state_of_found f)) (λ f. same_state f.state t) (same-known t) found
+number-of t found = position-mapped state_of_found (bytes_eq (state_key t)) found ∙ same-positions (λ (f : Found). bytes_eq (state_key t) (state_of_found f)) (λ f. same_state f.state t) (λ f. one-known t f.state) found
 
 module _ (found : List Found) (keys : List Bytes) (same : keys ≡ map state_of_found found) where
   step-is : (f : Found) (pid : ℕ) → vertex_step keys f.state pid ≡ step_lines program_of found f (move program_of f pid)
@@ -77,17 +83,17 @@ module _ (keys : List Bytes) (s : State) (trees : Bool) (witnesses : List (List 
 
 -- ---- the graph
 
-module _ (observe : Observer Bytes) (limit : ℕ) (s : State) (trees : Bool) (bytes : Bytes) (visited : Visited) (it : Finds observe program_of limit s bytes visited) where
-  pub as-many : length visited.witnesses ≡ length visited.keys
-  as-many = ap length it.keeps.witnesses ∙ length-map (states_found program_of limit s) witness_of_found ∙ sym (ap length it.keeps.keys ∙ length-map (states_found program_of limit s) state_of_found)
+module _ (observe : Observer Bytes) (limit : ℕ) (s : State) (trees : Bool) (bytes : Bytes) (visited : Visited) (it : Finds observe whole_key whole_bound program_of limit s bytes visited) where
+  abbrev found : List Found
+  found = found_with whole_key whole_bound program_of s limit
 
   pub graph-are : vertices_from visited.keys s trees 0 visited.witnesses ++ states_line (length visited.keys) visited.complete ∷ [] ≡ graph_lines program_of limit trees s
   unfolding graph_lines
   graph-are =
-      let found = states_found program_of limit s in
       ap₂ (λ (a b : List AnswerLine). a ++ b)
-      (ap (vertices_from visited.keys s trees 0) it.keeps.witnesses ∙ vertices-are found visited.keys it.keeps.keys s trees found 0 it.sound)
-      (ap₂ (λ n b. states_line n b ∷ []) (ap length it.keeps.keys ∙ length-map found state_of_found) it.keeps.complete)
+      (ap (vertices_from visited.keys s trees 0) it.keeps.witnesses ∙ vertices-are found visited.keys it.keeps.keys s trees found 0 it.sound
+      ∙ ap (λ (fs : List Found). flat_map (vertex_lines program_of trees fs) (counted_from 0 fs)) (same-found program_of s limit))
+      (ap₂ (λ n b. states_line n b ∷ []) (ap length it.keeps.keys ∙ length-map found state_of_found ∙ ap length (same-found program_of s limit)) (it.keeps.complete ∙ same-complete program_of s limit))
 
 -- ---- parts of a state
 
@@ -126,21 +132,18 @@ module _ (keys : List Bytes) (s : State) (witness : List ℕ) where
 
 -- ---- the whole output, as bytes
 
-module _ (observe : Observer Bytes) (limit : ℕ) (s : State) (trees : Bool) (visited : Visited) (some : 1 ≤ limit) (is : visited ≡ visited_from observe limit program_of s limit 0 (first_visited s)) where
+module _ (observe : Observer Bytes) (limit : ℕ) (s : State) (trees : Bool) (visited : Visited) (some : 1 ≤ limit) (is : visited ≡ all_visited observe whole_key whole_bound limit s) where
   abbrev bytes : Bytes
-  bytes = reported_from observe limit program_of s limit 0 (first_visited s)
+  bytes = all_reported observe whole_key whole_bound limit s
 
-  found-visited : Finds observe program_of limit s bytes visited
-  found-visited = plan-found observe program_of limit s some visited is
-
-  pub graph-many : length visited.witnesses ≡ length visited.keys
-  graph-many = as-many observe limit s trees bytes visited found-visited
+  found-visited : Finds observe whole_key whole_bound program_of limit s bytes visited
+  found-visited = subst (Finds observe whole_key whole_bound program_of limit s bytes) (sym is) (plan-finds observe whole_key whole_bound program_of limit s some)
 
   pub graph-bytes : answer_bytes (found_lines visited s trees) ≡ answer_bytes (graph_lines program_of limit trees s)
   graph-bytes = ap answer_bytes (graph-are observe limit s trees bytes visited found-visited)
 
   pub graph-complete : visited.complete ≡ is_complete program_of limit s
-  graph-complete = found-visited.keeps.complete
+  graph-complete = found-visited.keeps.complete ∙ same-complete program_of s limit
 
 -- the text of a graph is not empty
 pub graph-long : (limit : ℕ) (s : State) (trees : Bool) → 0 < length (answer_bytes (graph_lines program_of limit trees s))

@@ -64,7 +64,7 @@ reference_old order n less = ap (λ b. if b then order else order ++ n ∷ []) (
 pub reference_new : (order : List ℕ) (n : ℕ) → length order ≤ index_in order n → order ++ n ∷ [] ≡ with_reference order n
 reference_new order n past = ap (λ b. if b then order else order ++ n ∷ []) (sym (not-in-order order n past))
 
-references-append : (order ns ms : List ℕ) → with_references order (ns ++ ms) ≡ with_references (with_references order ns) ms
+pub references-append : (order ns ms : List ℕ) → with_references order (ns ++ ms) ≡ with_references (with_references order ns) ms
 references-append order [] ms = refl
 references-append order (n ∷ ns) ms = references-append (with_reference order n) ns ms
 

@@ -10,7 +10,6 @@ use Rattle.pv_answers.specs.OfProcs.Parts.{record_of}
 use Rattle.pv_answers.specs.OfProcs.ProcessTable.{ended_process}
 use Rattle.pv_answers.specs.OfProcs.declared.record.ProcessRecord.{ProcessRecord as Owned}
 use Rattle.pv_state_encoding.specs.Packed.{IsAdded}
-use Rattle.pv_state_encoding.specs.Groups.{ended_parts, live_parts, numbered_parts, owned_parts}
 use Rattle.pv_state_encoding.specs.Parts.{held_numbers, if_there}
 use Rattle.pv_state_encoding.proofs.AppendedNumbers.{added_both, added_then}
 
@@ -40,37 +39,7 @@ pub process-is : (p : Process) → process_numbers p ≡ held_numbers (record_of
 unfolding process_numbers
 process-is p = refl
 
-pub group_there : (o : Option ProcessRecord) (pid : ℕ) (owned : Owned) (parent : ℕ) (program : Program) (group : List Bytes) → option_map record_of (live_process o) ≡ Some owned → option_map parent_of o ≡ Some parent
-    → option_map (λ me. me.program) (live_process o) ≡ Some program → group ≡ owned_parts pid owned parent program owned.context.buffer → group ≡ live_parts pid (live_process o)
-group_there None pid owned parent program group is above runs group_is = cc
-group_there (Some (ended_record p status)) pid owned parent program group is above runs group_is = cc
-group_there (Some (live p)) pid owned parent program group is above runs group_is =
-    let owned_is : owned ≡ record_of p = cc in
-    let parent_is : parent ≡ p.parent = cc in
-    let program_is : program ≡ p.program = cc in
-    group_is ∙ ap (λ (r : Owned). owned_parts pid r parent program r.context.buffer) owned_is ∙ ap (λ (q : ℕ). owned_parts pid (record_of p) q program p.buffer) parent_is
-    ∙ ap (λ (x : Program). owned_parts pid (record_of p) p.parent x p.buffer) program_is
-
 pub parent-there : (o : Option ProcessRecord) → is_some (live_process o) ≡ true → (parent : ℕ) × (option_map parent_of o ≡ Some parent)
 parent-there None is = cc
 parent-there (Some (ended_record p status)) is = cc
 parent-there (Some (live p)) is = (p.parent, refl)
-
-pub group_of_live : (o : Option ProcessRecord) (pid : ℕ) (group : List Bytes) → is_some (live_process o) ≡ true → group ≡ live_parts pid (live_process o) → group ≡ numbered_parts pid o
-group_of_live None pid group there is = cc
-group_of_live (Some (ended_record p status)) pid group there is = cc
-group_of_live (Some (live p)) pid group there is = is
-
-some-is : (a b : ℕ × ℕ) → Some a ≡ Some b → a ≡ b
-some-is a b is = cc
-
-pub group_of_ended : (o : Option ProcessRecord) (pid parent status : ℕ) (group : List Bytes) → Some (parent, status) ≡ ended_process o → group ≡ ended_parts pid parent status → group ≡ numbered_parts pid o
-group_of_ended None pid parent status group there is = cc
-group_of_ended (Some (live p)) pid parent status group there is = cc
-group_of_ended (Some (ended_record q code)) pid parent status group there is =
-    let both = some-is (parent, status) (q, code) there in is ∙ ap (λ (p : ℕ × ℕ). ended_parts pid p.0 p.1) both
-
-pub group_of_nobody : (o : Option ProcessRecord) (pid : ℕ) → is_some (live_process o) ≡ false → None ≡ ended_process o → [] ≡ numbered_parts pid o
-group_of_nobody None pid is none = refl
-group_of_nobody (Some (live p)) pid is none = cc
-group_of_nobody (Some (ended_record q code)) pid is none = cc

@@ -2,7 +2,7 @@ use Rattle.std.proofs.Common.{◌∙◌, ◌≤◌, ap, false, length, List, sub
 use Rattle.std.specs.Global.{Vec}
 use Rattle.pv_compare.specs.Pairs.{pairs_of}
 use Rattle.pv_explore.specs.Sides.{SideStates}
-use Rattle.pv_explore.specs.OfStepCache.Steps.{texts_in}
+use Rattle.pv_explore.specs.OfRows.Texts.{texts_in}
 use Rattle.pv_compare.proofs.StepsOfPairs.{counted, differs-is, first-few, first-reached, first-there, numbers-still, second-few, second-reached, second-there, visited-longer, within}
 use Rattle.pv_compare.proofs.pairs.Pairs.make_move.Goals as goal
 
