@@ -23,7 +23,7 @@ module _ {O W : Type 0} (makes : ℕ → Observed O W → Observed O W → Type 
   stopped-after stops [] others x y z same stop = subst (λ (t : Observed O W). AreStopped makes stops others t z) same stop
   stopped-after stops (pid ∷ pids) others x y z made stop = inr (made.0, made.1, stopped-after stops pids others made.0 y z made.2 stop)
 
--- the state after steps, each of which leaves the state of the machine's step
+-- the state after steps, if each step leaves the state that the machine's step leaves
 pub state-after : {O W : Type 0} (makes : ℕ → Observed O W → Observed O W → Type 0) → ((pid : ℕ) (x y : Observed O W) → makes pid x y → y.state ≡ (stepped x.state pid).after)
     → (pids : List ℕ) (x z : Observed O W) → AreMade makes pids x z → z.state ≡ (run program_of pids x.state).final
 state-after makes each [] x z same = ap (λ t. t.state) same
