@@ -7,7 +7,7 @@ use Rattle.std.proofs.lemmas.List.{length-append, map-append}
 use Rattle.pv_reduced.specs.OfExplore.Observing
 use Rattle.pv_reduced.specs.OfExplore.Observing.{is_shown, observation_bytes}
 use Rattle.pv_streams.proofs.ProperPrefixes.{lines-long}
-use Rattle.pv_reduced.proofs.OfExplore.ReportedBytes.{line-shown}
+use Rattle.pv_reduced.proofs.OfEngine.Reported.{line-shown}
 use Rattle.pv_reduced.specs.OfLawsClasses.Reduced.{reduced_moves_of}
 use Rattle.pv_reduced.specs.OfLawsClasses.ReducedAnswers.{reduced_access_lines}
 use Rattle.pv_laws_trees.proofs.DirectoryEntries.{bytes_eq-same}

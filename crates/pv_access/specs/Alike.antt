@@ -10,7 +10,7 @@ use Rattle.pv_model.specs.Answers.Access.{accesses_by_open, node_opened, reads, 
 use Rattle.pv_laws_steps.proofs.DependentSteps.{steps-by_seen}
 use Rattle.pv_reduced.specs.OfLawsSteps.Seen.{seen, with_insides, StepsWithOtherInsides}
 use Rattle.pv_reduced.specs.SeenProcess.{found-inside, process-seen}
-use Rattle.pv_named_files.specs.OfStepCache.Cached.{DependsOnSeen}
+use Rattle.pv_named_files.specs.OfRows.Cached.{DependsOnSeen}
 use Rattle.pv_model_questions.specs.Accesses.{lines_of_access}
 use Rattle.pv_access.specs.Texts.{access_texts, texts_by, texts_of_call}
 

@@ -4,7 +4,7 @@ ghost use Rattle.pv_model.specs.Machine.{changes_name, answer_line_bytes};
 ghost use Rattle.pv_named_files.specs.FirstPaths.{files_given, first_tree};
 ghost use Rattle.pv_access.specs.Texts.{access_at, all_prepared, access_lines_in, prepared, texts_by, texts_with};
 ghost use Rattle.pv_access.specs.declared.condition.Condition.TheVariants.{Success};
-ghost use Rattle.pv_named_files.specs.OfStepCache.Steps.{texts_in};
+ghost use Rattle.pv_named_files.specs.OfRows.Texts.{texts_in};
 
 use crate::condition::Condition;
 use crate::word::NodeWord;

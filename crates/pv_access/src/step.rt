@@ -7,7 +7,7 @@ ghost use Rattle.pv_reduced.specs.OfProcs.Turns.{CallsNext};
 ghost use Rattle.pv_reduced.specs.OfSession.Running.{stepped};
 ghost use Rattle.pv_named_files.specs.FirstPaths.{files_given, first_tree};
 ghost use Rattle.pv_access.specs.Texts.{access_texts, access_lines_in, texts_by};
-ghost use Rattle.pv_named_files.specs.OfStepCache.Steps.{texts_in};
+ghost use Rattle.pv_named_files.specs.OfRows.Texts.{texts_in};
 
 use crate::candidate::texts_of;
 use crate::candidates::candidates_of;

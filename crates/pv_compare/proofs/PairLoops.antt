@@ -7,7 +7,7 @@ use Rattle.pv_compare.specs.Pairs.{ComparesSteps, Extends, IsCompared, IsDiffere
 use Rattle.pv_compare.specs.Plan.{compared_moves, compared_pairs, pair_at}
 use Rattle.pv_compare.specs.declared.differences.Difference.{Difference}
 use Rattle.pv_compare.specs.declared.pairs.Pairs.{Pairs}
-use Rattle.pv_explore.proofs.VisitedStates.{get-left}
+use Rattle.pv_explore.proofs.OfEngine.Finding.{witness-stays}
 use Rattle.pv_compare.proofs.PairSteps.{compared_left, extends-none, extends-then, left-end, left-next, left-none, moved-none, moved-some, pair-at, visited-extends}
 use Rattle.pv_model.specs.Machine.{Comparison, FoundPair, PairMove, alike, different, differs, pair_moves, program_of, State}
 use Rattle.pv_model.specs.Answers.Compare.{live_in_either, pair_move}
@@ -102,7 +102,8 @@ moves-start limit old now witness live same =
 pub witness-there : (old mid : PairsFound) (number : ℕ) (witness now : List ℕ) → Extends old mid → number < length old.witnesses → witness ≡ get_or old.witnesses number []
     → now ≡ witness → slice_get mid.witnesses number ≡ Some now
 witness-there old mid number witness now extends within is same =
-    ap (λ ws. slice_get ws number) extends.witnesses ∙ get-left old.witnesses extends.more number within ∙ slice_get-get_or old.witnesses number [] within
+    ap (λ (ws : List (List ℕ)). slice_get ws number) extends.witnesses
+    ∙ witness-stays old.witnesses extends.more number (get_or old.witnesses number []) (slice_get-get_or old.witnesses number [] within)
     ∙ ap Some (sym (same ∙ is))
 
 -- ---- the search

@@ -9,10 +9,11 @@ use Rattle.pv_compare.specs.Pairs.{AreNumbered, AreStored, IsNumberOfState, Pair
 use Rattle.pv_compare.specs.Plan.{pairs_at}
 use Rattle.pv_compare.specs.declared.pairs.PairNumbers.{PairNumbers}
 use Rattle.pv_explore.specs.Plan.{state_key}
-use Rattle.pv_explore.specs.Rows.{Grew, IsAmong, number_in}
+use Rattle.pv_explore.specs.OfRows.Tables.{Appended, IsAmong, number_in}
 use Rattle.pv_explore.specs.Sides.{IsAddedTo, IsNumbered}
-use Rattle.pv_explore.proofs.PlannedSearch.{packed-test, same-known}
-use Rattle.pv_explore.proofs.StateRows.{among-later, number-later, same-number}
+use Rattle.pv_explore.proofs.Instances.{one-known}
+use Rattle.pv_explore.proofs.OfEngine.OfRows.Numbers.{among-now, number-now, same-number}
+use Rattle.pv_explore.proofs.OfEngine.Planned.{packed-test}
 use Rattle.pv_laws_answers.proofs.Lists.{each-append}
 use Rattle.pv_laws_trees.proofs.DirectoryEntries.{bytes_eq-same, bytes_eq-itself}
 use Rattle.pv_model.specs.Machine.{FoundPair, same_state, Bytes, program_of, State}
@@ -21,28 +22,22 @@ use Rattle.pv_model.specs.Answers.Compare.{same_pair}
 -- ---- states and their encodings
 
 same-key : (s t : State) → bytes_eq (state_key t) (state_key s) ≡ same_state s t
-same-key s t = same-known t (record { witness = []; state = s })
+same-key s t = one-known t s
 
 key-same : (s t : State) → same_state s t ≡ true → state_key t ≡ state_key s
 key-same s t is = bytes_eq-same (state_key t) (state_key s) (same-key s t ∙ is)
 
 -- ---- more states
 
-pub grown : (limit : ℕ) (old new : List Bytes) (key : Bytes) (number : Option ℕ) → IsNumbered limit old new key number → Grew old new
+pub grown : (limit : ℕ) (old new : List Bytes) (key : Bytes) (number : Option ℕ) → IsNumbered limit old new key number → Appended old new
 grown limit old new key None it = record { more = []; is = it.2 ∙ sym (append-nil old) }
 grown limit old new key (Some n) it = ⊎_elim (λ same. record { more = []; is = same ∙ sym (append-nil old) }) (λ added. record { more = key ∷ []; is = added.2 }) it.2
 
-number-grew : (old new : List Bytes) (b : Bytes) → Grew old new → IsAmong old b → number_in new b ≡ number_in old b
-number-grew old new b grew among = ap (λ table. number_in table b) grew.is ∙ number-later old grew.more b among
-
-among-grew : (old new : List Bytes) (b : Bytes) → Grew old new → IsAmong old b → IsAmong new b
-among-grew old new b grew among = subst (λ table. IsAmong table b) (sym grew.is) (among-later old grew.more b among)
-
-module _ (firsts firsts_now seconds seconds_now : List Bytes) (grew_first : Grew firsts firsts_now) (grew_second : Grew seconds seconds_now) where
+module _ (firsts firsts_now seconds seconds_now : List Bytes) (grew_first : Appended firsts firsts_now) (grew_second : Appended seconds seconds_now) where
   stored-grew : (found : List FoundPair) → AllByRecursion (AreStored firsts seconds) found → AllByRecursion (AreStored firsts_now seconds_now) found
   stored-grew [] all = tt
   stored-grew (f ∷ found) all = (
-    (among-grew firsts firsts_now (state_key f.states.first) grew_first all.0.0, among-grew seconds seconds_now (state_key f.states.second) grew_second all.0.1),
+    (among-now firsts firsts_now grew_first (state_key f.states.first) all.0.0, among-now seconds seconds_now grew_second (state_key f.states.second) all.0.1),
     stored-grew found all.1,
   )
 
@@ -50,8 +45,8 @@ module _ (firsts firsts_now seconds seconds_now : List Bytes) (grew_first : Grew
   numbers-grew [] all = refl
   numbers-grew (f ∷ found) all =
       ap₂ (λ (n : PairNumbers) (ns : List PairNumbers). n ∷ ns)
-      (ap₂ (λ (a b : ℕ). record { first = a; second = b }) (number-grew firsts firsts_now (state_key f.states.first) grew_first all.0.0)
-      (number-grew seconds seconds_now (state_key f.states.second) grew_second all.0.1))
+      (ap₂ (λ (a b : ℕ). record { first = a; second = b }) (number-now firsts firsts_now grew_first (state_key f.states.first) all.0.0)
+      (number-now seconds seconds_now grew_second (state_key f.states.second) all.0.1))
       (numbers-grew found all.1)
 
   pub numbered-grew : (keys : List Bytes) (numbers : List PairNumbers) (found : List FoundPair) → AreNumbered firsts seconds keys numbers found → AreNumbered firsts_now seconds_now keys numbers found

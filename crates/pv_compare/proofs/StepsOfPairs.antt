@@ -2,22 +2,27 @@
 use Rattle.std.proofs.Common.{◌≡◌, ◌∙◌, sym, ap, ap₂, subst, ℕ, ◌+◌, ◌<◌, ◌≤◌, Bool, true, false, not, ◌&&◌, bytes_eq, List, [], ◌∷◌, ◌++◌, get_or, length, map, option_map, slice_get, Option, None, Some, refl, arith}
 use Rattle.std.specs.List.{AllByRecursion, list_any}
 use Rattle.std.proofs.lemmas.List.{length-map}
-use Rattle.std.proofs.lemmas.Option.{get_or_from_slice_get, slice_get-map, slice_get_within}
+use Rattle.std.proofs.lemmas.Option.{get_or_from_slice_get, slice_get-get_or, slice_get-map, slice_get_within}
 use Rattle.pv_compare.specs.Observing.{compared_texts, text_in, texts_differ}
 use Rattle.pv_compare.specs.Pairs.{AreCounted, AreNumbered, AreStored, IsDifference, IsNumberOfState, IsSearchInvariant, NumbersAre, PairsFound, found_in, is_visited, move_in, numbers_in, pair_in, pairs_of, visited}
+use Rattle.pv_compare.specs.declared.differences.Difference.{Difference}
 use Rattle.pv_compare.specs.declared.pairs.PairNumbers.{PairNumbers}
 use Rattle.pv_compare.specs.declared.pairs.Pairs.{Pairs}
 use Rattle.pv_compare.proofs.PairSteps.{after-is, pair-at, texts-differ}
 use Rattle.pv_compare.proofs.PairNumbers.{few-after, grown, new-first, new-second, numbered-grew}
 use Rattle.pv_explore.specs.Plan.{state_at, state_key}
-use Rattle.pv_explore.specs.Rows.{IsAmong, number_in}
-use Rattle.pv_explore.specs.Sides.{IsNumbered}
-use Rattle.pv_explore.specs.VisitedStates.{HasNumber}
+use Rattle.pv_explore.specs.OfRows.Tables.{IsAmong, number_in}
+use Rattle.pv_explore.specs.Sides.{HasNumber, IsNumbered}
 use Rattle.pv_explore.specs.Witnesses.{longer}
-use Rattle.pv_explore.proofs.SideStates.{has-number}
+use Rattle.pv_explore.proofs.OfEngine.OfRows.Numbers.{get-number, number-within}
 use Rattle.pv_model.specs.Machine.{FoundPair, PairMove, differs, Bytes, program_of, State}
 use Rattle.pv_explore.specs.OfSession.Running.{stepped}
 use Rattle.pv_laws_trees.proofs.ListTests.{all-at}
+
+-- a state that is stored has its number
+has-number : (keys : List Bytes) (s : State) → IsAmong keys (state_key s) → HasNumber keys (number_in keys (state_key s)) s
+has-number keys s among =
+    slice_get-get_or keys (number_in keys (state_key s)) [] (number-within keys (state_key s) among) ∙ ap Some (get-number keys (state_key s) among)
 
 -- ---- the numbers of a visited pair
 
@@ -45,6 +50,12 @@ module _ (p : Pairs) (whole : IsSearchInvariant p) (number : ℕ) (witness : Lis
   second-there n is =
       ap (λ (m : PairNumbers). slice_get p.second.keys m.second) (numbers-at n is) ∙ has-number p.second.keys (state_at program_of p.second.first witness) stored.1
 
+  pub first-within : (n : PairNumbers) → n ≡ get_or p.numbers.items number n → n.first < length p.first.keys
+  first-within n is = slice_get_within p.first.keys n.first (state_key (state_at program_of p.first.first witness)) (first-there n is)
+
+  pub second-within : (n : PairNumbers) → n ≡ get_or p.numbers.items number n → n.second < length p.second.keys
+  second-within n is = slice_get_within p.second.keys n.second (state_key (state_at program_of p.second.first witness)) (second-there n is)
+
 -- the lists of numbers and of pairs have equal lengths
 pub counted : (p : Pairs) → IsSearchInvariant p → AreCounted p
 counted p whole =
@@ -60,6 +71,15 @@ module _ (p : PairsFound) (witness : List ℕ) (pid : ℕ) (first second : List 
       let s = (pair_in p witness).states.first in
       let t = (pair_in p witness).states.second in
       sym (is ∙ ap₂ texts_differ first_are second_are ∙ texts-differ s t pid (stepped s pid) (stepped t pid))
+
+  pub difference-is : (d : Difference) → d.pid ≡ pid → d.witness.items ≡ witness ++ pid ∷ [] → d.first.items ≡ text_in first → d.second.items ≡ text_in second
+      → IsDifference d (move_in p witness pid)
+  difference-is d pid_is witness_is first_is second_is = record {
+    pid = pid_is;
+    witness = witness_is;
+    first = first_is ∙ ap text_in first_are;
+    second = second_is ∙ ap text_in second_are;
+  }
 
 -- ---- the pair after a step
 

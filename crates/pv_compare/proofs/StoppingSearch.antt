@@ -7,7 +7,7 @@ use Rattle.std.proofs.lemmas.Grind.{flat_map-append}
 use Rattle.std.proofs.lemmas.List.{take_all, drop_all}
 use Rattle.std.proofs.lemmas.Option.{slice_get_cases}
 use Rattle.pv_model.specs.Answers.Search.{with_element, elements_after, elements_from, search}
-use Rattle.pv_explore.proofs.PlannedSearch.{all-last}
+use Rattle.pv_explore.proofs.OfEngine.Planned.{all-last}
 use Rattle.pv_compare.specs.Stopping.{is_left_out, result_of_moves, result_at, result_from, result_of}
 
 -- ---- lists

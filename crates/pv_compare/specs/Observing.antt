@@ -5,7 +5,7 @@ use Rattle.pv_model.specs.Answers.Compare.{is_restraint}
 use Rattle.pv_model.specs.Machine.{Observer, Bytes, program_of, process_at, trace_bytes}
 use Rattle.pv_explore.proofs.SteppingProcess.{process-seen}
 use Rattle.pv_laws_steps.proofs.DependentSteps.{steps-by_seen}
-use Rattle.pv_explore.specs.OfStepCache.Cached.{DependsOnSeen}
+use Rattle.pv_explore.specs.OfRows.Cached.{DependsOnSeen}
 
 -- a note, if the step is a call of pledge or unveil
 abbrev pub mark_if : Bool → List Bytes

@@ -6,10 +6,10 @@ use Rattle.pv_compare.specs.declared.pairs.Pairs.{Pairs}
 use Rattle.pv_compare.specs.declared.differences.Difference.{Difference}
 use Rattle.pv_compare.specs.Plan.{compared_moves, compared_pairs, pair_at, pairs_at}
 use Rattle.pv_explore.specs.Plan.{state_key}
-use Rattle.pv_explore.specs.Rows.{number_in, IsAmong}
 use Rattle.pv_explore.specs.Witnesses.{longer}
 use Rattle.pv_model.specs.Machine.{Comparison, FoundPair, PairMove, alike, different, differs, pair_moves, Bytes, program_of, State, trace_bytes}
 use Rattle.pv_model.specs.Answers.Compare.{is_pair_found, pair_move, same_pair}
+use Rattle.pv_explore.specs.OfRows.Tables.{IsAmong, number_in}
 use Rattle.pv_explore.specs.OfStateEncoding.Packed.{packed_all}
 
 -- ---- the pairs

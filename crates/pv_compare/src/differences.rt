@@ -1,7 +1,7 @@
 //! Steps that differ.
 ghost use Rattle.std.specs.Prelude.{◌≡◌, ◌++◌, ◌∷◌, [], IfOk};
 ghost use Rattle.pv_compare.specs.Observing.{has_note, text_in, texts_differ};
-ghost use Rattle.pv_explore.specs.OfStepCache.Steps.{texts_in};
+ghost use Rattle.pv_explore.specs.OfRows.Texts.{texts_in};
 
 use std::alloc::{AllocError, Global};
 

@@ -3,7 +3,7 @@ ghost use Rattle.std.specs.Prelude.{◌≡◌, ◌++◌, IfOk, OnOk};
 ghost use Rattle.pv_compare.specs.Observing.{mark_if};
 ghost use Rattle.pv_model.specs.Answers.Compare.{is_restraint};
 ghost use Rattle.pv_model.specs.Machine.{process_at};
-ghost use Rattle.pv_explore.specs.OfStepCache.Steps.{texts_in};
+ghost use Rattle.pv_explore.specs.OfRows.Texts.{texts_in};
 
 use pv_explore::answers::{is_pledge, is_unveil};
 use pv_explore::session::Session;

@@ -1,13 +1,13 @@
 //! The visited pairs of states.
-ghost use Rattle.std.specs.Prelude.{◌≡◌, ◌⊎◌, ◌++◌, ◌∷◌, [], ◌<◌, length, slice_get, IfOk, IfSome, OnOk, None, Some};
+ghost use Rattle.std.specs.Prelude.{◌≡◌, ◌⊎◌, ◌++◌, ◌∷◌, [], ◌<◌, get_or, length, IfOk, IfSome, OnOk, None, Some};
 ghost use Rattle.pv_compare.specs.Pairs.{IsNumberOfState, IsSearchInvariant, NumbersAre, first_pair, pair_in, pair_key, pairs_of, visited};
 ghost use Rattle.pv_explore.specs.Plan.{state_key};
 ghost use Rattle.pv_explore.specs.Witnesses.{longer};
 ghost use Rattle.pv_model.specs.Answers.Compare.{live_in_either};
 
 use crate::observer::ComparedLines;
+use pv_explore::row_tables::Keys;
 use pv_explore::state_encoding::push_number;
-use pv_explore::step_cache::tables::Keys;
 use pv_explore::{FirstMachine, Side, Witnesses, ascending};
 use pv_model::StepFault;
 use std::alloc::{AllocError, Global};
@@ -15,8 +15,8 @@ use std::alloc::{AllocError, Global};
 /// The numbers of the two states of a pair.
 #[derive(Clone, Copy)]
 pub(crate) struct PairNumbers {
-    pub(crate) first: usize,
-    pub(crate) second: usize,
+    pub(crate) first: u32,
+    pub(crate) second: u32,
 }
 
 /// The data of a search of pairs.
@@ -37,7 +37,7 @@ pub(crate) struct Pairs<'a> {
 }
 
 // Returns the numbers of a pair, if both are given.
-fn both(first: Option<usize>, second: Option<usize>) -> Option<PairNumbers>
+fn both(first: Option<u32>, second: Option<u32>) -> Option<PairNumbers>
     ensures some { IfSome result (λ numbers. (first ≡ Some numbers.first) × (second ≡ Some numbers.second)) }
     ensures none { result ≡ None → (first ≡ None) ⊎ (second ≡ None) }
 {
@@ -52,8 +52,8 @@ fn pair_key(alloc: Global, numbers: PairNumbers) -> Result<Vec<u8>, AllocError>
     ensures { IfOk result (λ key. key.items ≡ pair_key numbers) }
 {
     let mut key = Vec::new(alloc);
-    push_number(&mut key, numbers.first as u64)?;
-    push_number(&mut key, numbers.second as u64)?;
+    push_number(&mut key, u64::from(numbers.first))?;
+    push_number(&mut key, u64::from(numbers.second))?;
     Ok(key)
 }
 
@@ -105,29 +105,21 @@ impl<'a> Pairs<'a> {
         })
     }
 
-    /// Returns the processes that are live in either state of pair `number`, in ascending order. `witness` is the witness
-    /// of the pair.
+    /// Returns the processes that are live in either state of pair `number`, in ascending order.
     ///
     /// # Errors
     ///
     /// `NoMemory`, if there is no memory.
-    pub(crate) fn live(
-        &mut self,
-        alloc: Global,
-        number: u32,
-        witness: &[u32],
-    ) -> Result<Vec<u32>, StepFault>
-        requires whole { IsSearchInvariant self.old }
-        requires at { slice_get self.old.witnesses number ≡ Some witness.now }
-        ensures whole { IsSearchInvariant self.new }
-        ensures unchanged { pairs_of self.new ≡ pairs_of self.old }
-        ensures live { IfOk result (λ pids. pids.items ≡ live_in_either (pair_in (pairs_of self.old) witness.now).states) }
+    pub(crate) fn live(&self, alloc: Global, number: u32) -> Result<Vec<u32>, StepFault>
+        requires whole { IsSearchInvariant self.now }
+        requires found { number < length self.now.witnesses }
+        ensures { IfOk result (λ pids. pids.items ≡ live_in_either (pair_in (pairs_of self.now) (get_or self.now.witnesses number [])).states) }
     {
         self.first.invariant();
         self.second.invariant();
         let numbers = self.numbers[number as usize];
-        let mut pids = self.first.live(alloc, numbers.first, witness)?;
-        let second = self.second.live(alloc, numbers.second, witness)?;
+        let mut pids = self.first.live(alloc, numbers.first)?;
+        let second = self.second.live(alloc, numbers.second)?;
         pids.extend_from_slice(&second)?;
         Ok(ascending(alloc, &pids)?)
     }
@@ -144,8 +136,8 @@ impl<'a> Pairs<'a> {
         limit: u32,
         from: u32,
         pid: u32,
-        first: Option<usize>,
-        second: Option<usize>,
+        first: Option<u32>,
+        second: Option<u32>,
     ) -> Result<(), StepFault>
         requires numbered { NumbersAre self.old }
         requires from { from < length self.old.witnesses }

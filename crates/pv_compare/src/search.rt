@@ -35,9 +35,8 @@ impl<'a> Pairs<'a> {
         ensures counted { OnOk result (AreCounted self.new) }
     {
         let numbers = self.numbers[number as usize];
-        let most = limit as usize;
-        let first = self.first.step(alloc, most, numbers.first, witness, pid)?;
-        let second = self.second.step(alloc, most, numbers.second, witness, pid)?;
+        let first = self.first.step(alloc, limit, numbers.first, pid)?;
+        let second = self.second.step(alloc, limit, numbers.second, pid)?;
         if differ(&first.texts, &second.texts) {
             let difference = difference_of(alloc, witness, pid, &first.texts, &second.texts)?;
             return Ok(Some(difference));
@@ -59,7 +58,7 @@ impl<'a> Pairs<'a> {
         ensures moved { IfOk result (ComparesSteps limit self.old self.new (pair_moves program_of (pair_in (pairs_of self.old) (get_or self.old.witnesses number [])))) }
     {
         let witness = self.witnesses.at(alloc, number)?;
-        let pids = self.live(alloc, number, &witness)?;
+        let pids = self.live(alloc, number)?;
         let live = pids.as_slice();
         for pid in live {
             let found = self.make_move(alloc, limit, number, &witness, *pid)?;

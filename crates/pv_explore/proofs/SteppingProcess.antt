@@ -1,11 +1,11 @@
 -- The process that makes a step, in the part of a state on which the step depends.
-use Rattle.std.proofs.Common.{◌≡◌, ◌≢◌, ◌∙◌, ◌⊎◌, inl, inr, sym, ap, subst, ℕ, Bool, cond, ◌==◌, if◌then◌else◌, List, [], ◌∷◌, map, Option, None, Some, refl}
+use Rattle.std.proofs.Common.{◌≡◌, ◌≢◌, ◌∙◌, ◌⊎◌, inl, inr, sym, ap, subst, ℕ, Bool, cond, ◌==◌, if◌then◌else◌, List, [], ◌∷◌, map, Option, Some, refl}
 use Rattle.std.specs.FinMap.Entries.{find}
 use Rattle.std.specs.Ordering.{nat_cmp, is_eq}
 use Rattle.std.proofs.lemmas.Bool.{cases_eq, eq-eqb, ne_eqb}
 use Rattle.std.specs.Cmp.{unsigned_ties}
 use Rattle.pv_model.specs.Machine.{Process, ProcessRecord, State, live_process, process_at}
-use Rattle.pv_step_cache.specs.OfLawsSteps.Seen.{SeenRecord, own_record, live_other, ended_other, seen_other, seen_record, seen, with_inside, inside_from}
+use Rattle.pv_engine.specs.OfRows.OfLawsSteps.Seen.{SeenRecord, own_record, live_other, ended_other, seen_other, seen_record, seen, with_inside, inside_from}
 
 abbrev first_or : {X : Type 0} → X → List X → X
 first_or x [] = x

@@ -1,17 +1,15 @@
-pub mod Afters
-pub mod Checkpoints
-pub mod FirstMachines
-pub mod Observing
-pub mod Plan
-pub mod Rows
-pub mod Searches
-pub mod Sides
+pub mod Results
 pub mod Vertices
-pub mod VisitedStates
-pub mod Visiting
-pub mod Witnesses
-pub use Rattle.pv_step_lines.specs.OfAudit
-pub use Rattle.pv_step_lines.specs.OfCallsPath
-pub use Rattle.pv_step_lines.specs.OfSession
-pub use Rattle.pv_step_cache.specs.OfStateEncoding
-pub use Rattle.pv_step_cache.specs as OfStepCache
+pub use Rattle.pv_engine.specs.FirstMachines
+pub use Rattle.pv_engine.specs.Observing
+pub use Rattle.pv_engine.specs.Plan
+pub use Rattle.pv_engine.specs.Reporting
+pub use Rattle.pv_engine.specs.Sides
+pub use Rattle.pv_engine.specs.Visiting
+pub use Rattle.pv_engine.specs.Witnesses
+pub use Rattle.pv_engine.specs.OfAudit
+pub use Rattle.pv_engine.specs.OfCallsPath
+pub use Rattle.pv_engine.specs.OfSession
+pub use Rattle.pv_engine.specs.OfStateEncoding
+pub use Rattle.pv_engine.specs.OfRows
+pub use Rattle.pv_engine.specs as OfEngine

@@ -1,15 +1,33 @@
 -- A visited state with its steps, from the data of the search.
-use Rattle.std.specs.Prelude.{ℕ, Bool, List, [], ◌∷◌, ◌++◌, map, flat_map, codes, bytes_eq, length, position}
+use Rattle.std.specs.Prelude.{ℕ, Bool, List, [], ◌∷◌, ◌++◌, map, flat_map, codes, bytes_eq, position, Option, None, Some}
 use Rattle.std.specs.Fmt.{decimal}
-use Rattle.pv_explore.specs.Plan.{Visited, state_key, state_at, live_at}
+use Rattle.pv_engine.specs.Engines.{Searching}
+use Rattle.pv_engine.specs.Plan.{Visited, state_key, state_at, live_at}
+use Rattle.pv_engine.specs.declared.found.Visit.{Visit}
+use Rattle.pv_engine.specs.declared.found.Visit.TheVariants.{Known, Full, New}
 use Rattle.pv_model.specs.Machine.{explained_step, AnswerLine, answer_bytes, answer_line, counted_from, state_lines, Bytes, program_of, State}
-use Rattle.pv_model.specs.Answers.Explore.{states_line}
 use Rattle.pv_model.specs.Answers.Graph.{leads_to_text, tree_lines, unreported}
-use Rattle.pv_step_lines.specs.OfSession.Running.{stepped}
+use Rattle.pv_engine.specs.OfSession.Running.{stepped}
+
+-- the visited states: the state before the first step, and the key and the witness of each
+pub record States : Type 0 where
+  pub first : State
+  pub keys : List Bytes
+  pub witnesses : List (List ℕ)
+
+-- the visited states of a search
+abbrev pub states_in : Searching → States
+states_in e = record { first = e.first; keys = e.visited.keys; witnesses = e.visited.witnesses }
 
 -- the bytes of the lines of a listing
 abbrev pub listed_bytes : List Bytes → Bytes
 listed_bytes lines = answer_bytes (map (answer_line 0 (codes "LS")) lines)
+
+-- the number of the state after a step, if it was visited
+abbrev pub leads_of : Visit → Option ℕ
+leads_of (Known number) = Some number
+leads_of Full = None
+leads_of New = None
 
 module _ (keys : List Bytes) where
   -- a step in a state: the number of the state after it, and its explained lines
@@ -35,9 +53,6 @@ module _ (keys : List Bytes) where
     abbrev pub vertices_from : Bool → ℕ → List (List ℕ) → List AnswerLine
     vertices_from trees number witnesses = flat_map (λ e. vertex_at trees e.0 e.1) (counted_from number witnesses)
 
--- the lines of the visited states, from the first state on, and with the last line
+-- the lines of the visited states, from the first state on
 abbrev pub all_vertices : Visited → State → Bool → List AnswerLine
 all_vertices visited s trees = vertices_from visited.keys s trees 0 visited.witnesses
-
-abbrev pub found_lines : Visited → State → Bool → List AnswerLine
-found_lines visited s trees = all_vertices visited s trees ++ states_line (length visited.keys) visited.complete ∷ []

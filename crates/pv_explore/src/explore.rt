@@ -1,17 +1,16 @@
 //! The search of all states, and its answer: what can happen under any schedule.
 ghost use Rattle.std.specs.Prelude.{◌≡◌, ◌≤◌, IfOk};
-ghost use Rattle.pv_explore.specs.Plan.{result_lines};
+ghost use Rattle.pv_explore.specs.Observing.{IsSearched, observed_bytes};
 ghost use Rattle.pv_streams.specs.ProperPrefixes.{StopsInside};
+ghost use Rattle.pv_explore.specs.Results.{result_lines};
 ghost use Rattle.pv_model.specs.Machine.{endings_line, is_complete, answer_bytes, answer_line_bytes, program_of};
 ghost use Rattle.pv_model.specs.Answers.Explore.{completeness_text, explore_lines, states_line};
 ghost use Rattle.pv_streams.specs.Sinks.{FailsBy, Writes, WritesOr};
 
-use crate::first_machine::FirstMachine;
-use crate::observer::TraceLines;
-use crate::progress::Progress;
-use crate::searched::{Searched, search_observed};
-use crate::witness::Count;
-use pv_step_lines::answers::Line;
+use pv_engine::answers::Line;
+use pv_engine::{
+    Count, FirstMachine, Observer, Progress, Searched, TraceLines, Whole, search_with,
+};
 use pv_streams::{Failed, Fragment, Plain, Sink, Stop};
 use std::alloc::Global;
 
@@ -67,6 +66,32 @@ fn write_done<W: Sink>(out: &mut W, searched: &Searched) -> Result<(), Failed>
 {
     write_states(out, searched.states, searched.complete)?;
     write_endings(out, searched.endings)
+}
+
+/// Searches all schedules with an observer. The search visits at most `states` states, in breadth-first order from the
+/// first state of a machine, and makes a step of each live process in each. Of the texts observed, each that no earlier
+/// step had is recorded, and is written unless it is empty or begins with byte 0: first a BY line with a shortest
+/// witness, that is, a schedule that leads to the step, and then the text. Returns the result of the search.
+///
+/// `progress` shows the state of the search, and ends with it, also if the search fails.
+///
+/// # Errors
+///
+/// - `Memory`, if there is no memory.
+/// - `Write`, if a write failed. The sink received a prefix of the bytes.
+pub fn search_observed<O: Observer + Drop, W: Sink, P: Progress>(
+    alloc: Global,
+    first_machine: &FirstMachine,
+    states: u32,
+    observer: O,
+    progress: &mut P,
+    out: &mut W,
+) -> Result<Searched, Stop>
+    requires { 1 ≤ states }
+    ensures written { WritesOr W.Sink FailsBy (observed_bytes O.observe states first_machine.now) out.old out.new result }
+    ensures found { IfOk result (λ r. IsSearched O.observe states first_machine.now r.states r.complete r.endings r.texts) }
+{
+    search_with(alloc, first_machine, states, observer, Whole, progress, out)
 }
 
 /// Writes what can happen under any schedule. The search visits at most `states` states, in breadth-first order from

@@ -1,29 +1,26 @@
 //! The state graph: the states that are reachable from a machine's first state, and their transitions.
-ghost use Rattle.std.specs.Prelude.{◌≡◌, ◌≤◌, [], Some, codes, length, IfOk};
+ghost use Rattle.std.specs.Prelude.{◌≡◌, ◌<◌, ◌≤◌, [], Some, codes, length, IfOk, OnOk};
 ghost use Rattle.std.specs.Fmt.{decimal};
-ghost use Rattle.pv_explore.specs.Observing.{no_text};
 ghost use Rattle.pv_streams.specs.ProperPrefixes.{StopsInside};
-ghost use Rattle.pv_explore.specs.Searches.{all_visited, visited_of};
-ghost use Rattle.pv_explore.specs.Vertices.{all_steps_at, all_vertices, found_lines, listed_bytes, vertex_at};
-ghost use Rattle.pv_model.specs.Machine.{is_complete, graph_lines, answer_bytes, answer_line, answer_line_bytes, lines_of, program_of, listing};
+ghost use Rattle.pv_explore.specs.Vertices.{all_steps_at, all_vertices, leads_of, listed_bytes, states_in, vertex_step, vertex_at};
+ghost use Rattle.pv_engine.specs.Engines.{state_of};
+ghost use Rattle.pv_engine.specs.Plan.{witness_at};
+ghost use Rattle.pv_model.specs.Answers.Graph.{leads_to_text, unreported};
+ghost use Rattle.pv_model.specs.Machine.{explained_step, is_complete, graph_lines, answer_bytes, answer_line, answer_line_bytes, lines_of, program_of, listing};
 ghost use Rattle.pv_model.specs.Answers.Graph.{tree_lines};
 ghost use Rattle.pv_streams.specs.Sinks.{and_all, FailsBy, Writes, WritesOr};
 
-use crate::checkpoints::Checkpoints;
 use crate::explore::write_states;
-use crate::first_machine::FirstMachine;
-use crate::observer::{Observer, Unobserved};
-use crate::progress::Progress;
-use crate::search::Search;
-use crate::searched::search_all;
-use crate::states::States;
-use crate::unheard::Unheard;
-use crate::witness::Count;
+use pv_engine::answers::{Line, write_reach, write_state};
+use pv_engine::step_lines::calls_state::Parts;
+use pv_engine::step_lines::listing::write_listing;
+use pv_engine::step_lines::script::CallTexts;
+use pv_engine::step_lines::{make_step, write_made};
+use pv_engine::{
+    Count, Engine, FirstMachine, Position, Progress, Unobserved, Visit, Whole, search_states,
+};
 use pv_image::tree::Tree;
 use pv_model::StepFault;
-use pv_step_lines::answers::{Line, write_reach, write_state};
-use pv_step_lines::calls_state::Parts;
-use pv_step_lines::listing::write_listing;
 use pv_streams::{Failed, Fragment, Gathered, Plain, Sink, Stop};
 use pv_text::lines::split_line;
 use pv_trace::LineBuffer;
@@ -81,26 +78,96 @@ fn write_tree<W: Sink>(alloc: Global, parts: &Parts, tree: bool, out: &mut W) ->
 
 // ---- a state with its steps
 
-// Writes the steps from the state at the end of a witness.
-fn write_steps<O: Observer + Drop, W: Sink>(
+/// A search whose states are written.
+type Graph<'a> = Engine<'a, Unobserved, Whole>;
+
+// The number of the state after a step, or `left out`.
+#[derive(Clone, Copy)]
+struct Leads(Visit);
+
+impl Fragment for Leads {
+    ghost use Rattle.pv_explore.specs.Vertices.{leads_of};
+    ghost use Rattle.pv_model.specs.Answers.Graph.{leads_to_text};
+
+    ghost text = { λ p. leads_to_text (leads_of p.0) };
+
+    fn write<W: Sink>(&self, out: &mut W) -> Result<(), Failed> {
+        match self.0 {
+            Visit::Known(number) => (Plain(b"to "), Count(number as usize)).write(out),
+            Visit::Full | Visit::New => Plain(b"left out").write(out),
+        }
+    }
+}
+
+// Writes the STEP line of a step: the number of the state after it.
+#[tactic(auto, unfolding(pv_model::specs::Trace::text_line))]
+fn write_leads<W: Sink>(out: &mut W, pid: u32, found: Visit) -> Result<(), Failed>
+    ensures { Writes W.Sink (answer_line_bytes (answer_line pid (codes "STEP") (leads_to_text (leads_of found)))) out.old out.new result }
+{
+    let line = Line {
+        pid,
+        word: *b"STEP",
+        text: Leads(found),
+    };
+    line.write(out)
+}
+
+// Makes a step of a process with a machine, and writes the explained lines of the step, without the lines at which entries
+// were set. Returns the machine after the step.
+fn write_explained<W: Sink>(
     alloc: Global,
-    checkpoints: &mut Checkpoints<'_>,
-    states: &States<O>,
-    witness: &[u32],
+    machine: Position,
+    pid: u32,
+    line_buffer: &mut LineBuffer,
+    out: &mut W,
+) -> Result<Position, Stop>
+    ensures { WritesOr W.Sink FailsBy (answer_bytes (explained_step program_of unreported machine pid)) out.old out.new result }
+{
+    let mut session = machine.into_session();
+    let mut texts = CallTexts::new();
+    let made = make_step(alloc, &mut session, &mut texts, pid)?;
+    write_made(out, line_buffer, &session, pid, &made, &[])?;
+    Ok(Position::of_session(session))
+}
+
+// Writes a step from state `number`: the number of the state after it, and its explained lines.
+fn write_step<W: Sink>(
+    alloc: Global,
+    graph: &mut Graph<'_>,
+    number: u32,
+    pid: u32,
     line_buffer: &mut LineBuffer,
     out: &mut W,
 ) -> Result<(), Stop>
-    ensures unchanged { checkpoints.new ≡ checkpoints.old }
-    ensures written { WritesOr W.Sink FailsBy (answer_bytes (all_steps_at states.now checkpoints.old witness.now)) out.old out.new result }
+    requires { number < length graph.old.plan.visited.witnesses }
+    ensures unchanged { OnOk result (states_in graph.new.plan ≡ states_in graph.old.plan) }
+    ensures written { WritesOr W.Sink FailsBy (answer_bytes (vertex_step graph.old.plan.visited.keys (state_of graph.old.plan number) pid)) out.old out.new result }
 {
-    let machine = checkpoints.position(alloc, witness)?;
-    let pids = machine.live(alloc)?;
-    checkpoints.release(machine);
+    let states = graph.len();
+    let taken = graph.take(alloc, states, number, pid)?;
+    write_leads(out, pid, taken.found)?;
+    let machine = graph.copy(alloc, number)?;
+    let machine = write_explained(alloc, machine, pid, line_buffer, out)?;
+    graph.release(machine);
+    Ok(())
+}
+
+// Writes the steps from state `number`.
+fn write_steps<W: Sink>(
+    alloc: Global,
+    graph: &mut Graph<'_>,
+    number: u32,
+    line_buffer: &mut LineBuffer,
+    out: &mut W,
+) -> Result<(), Stop>
+    requires { number < length graph.old.plan.visited.witnesses }
+    ensures unchanged { OnOk result (states_in graph.new.plan ≡ states_in graph.old.plan) }
+    ensures written { WritesOr W.Sink FailsBy (answer_bytes (all_steps_at graph.old.plan.visited.keys graph.old.plan.first (witness_at graph.old.plan.visited number))) out.old out.new result }
+{
+    let pids = graph.live(alloc, number)?;
     let live = pids.as_slice();
     for pid in live {
-        let mut machine = checkpoints.position(alloc, witness)?;
-        machine.write_step(alloc, states, *pid, line_buffer, out)?;
-        checkpoints.release(machine);
+        write_step(alloc, graph, number, *pid, line_buffer, out)?;
     }
     Ok(())
 }
@@ -118,55 +185,40 @@ fn write_number<W: Sink>(out: &mut W, number: usize) -> Result<(), Failed>
     line.write(out)
 }
 
-// Writes the state at the end of a witness, with its number and its steps.
-fn write_vertex<O: Observer + Drop, W: Sink>(
+// Writes state `number`, with its steps.
+fn write_vertex<W: Sink>(
     alloc: Global,
-    checkpoints: &mut Checkpoints<'_>,
-    states: &States<O>,
+    graph: &mut Graph<'_>,
     tree: bool,
-    number: usize,
-    witness: &[u32],
+    number: u32,
     line_buffer: &mut LineBuffer,
     out: &mut W,
 ) -> Result<(), Stop>
-    ensures unchanged { checkpoints.new ≡ checkpoints.old }
-    ensures written { WritesOr W.Sink FailsBy (answer_bytes (vertex_at states.now checkpoints.old tree number witness.now)) out.old out.new result }
+    requires { number < length graph.old.plan.visited.witnesses }
+    ensures unchanged { OnOk result (states_in graph.new.plan ≡ states_in graph.old.plan) }
+    ensures written { WritesOr W.Sink FailsBy (answer_bytes (vertex_at graph.old.plan.visited.keys graph.old.plan.first tree number (witness_at graph.old.plan.visited number))) out.old out.new result }
 {
-    let machine = checkpoints.position(alloc, witness)?;
-    write_number(out, number)?;
+    let machine = graph.copy(alloc, number)?;
+    write_number(out, number as usize)?;
     write_state(out, machine.parts())?;
     write_tree(alloc, machine.parts(), tree, out)?;
-    checkpoints.release(machine);
-    write_steps(alloc, checkpoints, states, witness, line_buffer, out)
+    graph.release(machine);
+    write_steps(alloc, graph, number, line_buffer, out)
 }
 
 // Writes the states of a search.
-fn write_vertices<O: Observer + Drop, W: Sink>(
+fn write_vertices<W: Sink>(
     alloc: Global,
-    first_machine: &FirstMachine,
-    search: &Search<O>,
+    graph: &mut Graph<'_>,
     tree: bool,
     out: &mut W,
 ) -> Result<(), Stop>
-    requires { length (visited_of search.now).witnesses ≡ length search.now.states }
-    ensures { WritesOr W.Sink FailsBy (answer_bytes (all_vertices (visited_of search.now) first_machine.now tree)) out.old out.new result }
+    ensures { WritesOr W.Sink FailsBy (answer_bytes (all_vertices graph.old.plan.visited graph.old.plan.first tree)) out.old out.new result }
 {
     let mut line_buffer = new_line_buffer(alloc)?;
-    let mut checkpoints = Checkpoints::new(alloc, first_machine);
-    for number in 0..search.states.len() {
-        let Some(witness) = search.witness(alloc, number)? else {
-            return Ok(());
-        };
-        write_vertex(
-            alloc,
-            &mut checkpoints,
-            &search.states,
-            tree,
-            number,
-            &witness,
-            &mut *line_buffer,
-            out,
-        )?;
+    graph.invariant();
+    for number in 0..graph.len() {
+        write_vertex(alloc, graph, tree, number, &mut *line_buffer, out)?;
     }
     Ok(())
 }
@@ -177,49 +229,6 @@ fn new_line_buffer(alloc: Global) -> Result<Box<LineBuffer>, StepFault> {
         Ok(line_buffer) => Ok(line_buffer),
         Err(_) => Err(StepFault::NoMemory),
     }
-}
-
-/// Searches all states without observing the steps.
-///
-/// # Errors
-///
-/// `NoMemory`, if there is no memory.
-pub(crate) fn search_states<P: Progress>(
-    alloc: Global,
-    first_machine: &FirstMachine,
-    states: u32,
-    progress: &mut P,
-) -> Result<Search<Unobserved>, StepFault>
-    ensures { IfOk result (λ search. visited_of search ≡ all_visited no_text states first_machine.now) }
-{
-    let mut search = Search::new(alloc, Unobserved, first_machine)?;
-    match search_all(
-        alloc,
-        first_machine,
-        states,
-        &mut search,
-        progress,
-        &mut Unheard,
-    ) {
-        Ok(()) => Ok(search),
-        Err(_) => Err(StepFault::NoMemory),
-    }
-}
-
-// Writes the states that a search visited, and whether these are all.
-fn write_found<O: Observer + Drop, W: Sink>(
-    alloc: Global,
-    first_machine: &FirstMachine,
-    search: &Search<O>,
-    tree: bool,
-    out: &mut W,
-) -> Result<(), Stop>
-    requires { length (visited_of search.now).witnesses ≡ length search.now.states }
-    ensures written { WritesOr W.Sink FailsBy (answer_bytes (found_lines (visited_of search.now) first_machine.now tree)) out.old out.new result }
-    ensures part { StopsInside W.Sink (answer_bytes (found_lines (visited_of search.now) first_machine.now tree)) out.old out.new result }
-{
-    write_vertices(alloc, first_machine, search, tree, out)?;
-    Ok(write_states(out, search.states.len(), search.complete)?)
 }
 
 /// Writes the state graph: the states that are reachable from a machine's first state, at most `states` of them, in the
@@ -248,7 +257,10 @@ pub fn write_graph<W: Sink, P: Progress>(
     ensures complete { IfOk result (λ complete. complete ≡ is_complete program_of states first_machine.now) }
     ensures part { StopsInside W.Sink (answer_bytes (graph_lines program_of states tree first_machine.now)) out.old out.new result }
 {
-    let search = search_states(alloc, first_machine, states, progress)?;
-    write_found(alloc, first_machine, &search, tree, out)?;
-    Ok(search.complete)
+    let mut graph = search_states(alloc, first_machine, states, Whole, progress)?;
+    let found = graph.len() as usize;
+    let complete = graph.is_complete();
+    write_vertices(alloc, &mut graph, tree, out)?;
+    write_states(out, found, complete)?;
+    Ok(complete)
 }

@@ -13,7 +13,7 @@ use Rattle.pv_model.specs.Machine.{calls_for, Found, next, node_of, of_next, of_
 use Rattle.pv_model_questions.specs.Exposure.{read_observer}
 use Rattle.pv_programs.proofs.OfAnswers.InstructionWords.{no-calls}
 use Rattle.pv_procs.specs.Turns.{NoCallNext}
-use Rattle.pv_reduced.specs.OfExplore.declared.visited.VisitedState.{VisitedState}
+use Rattle.pv_reduced.specs.OfEngine.declared.visited.VisitedState.{VisitedState}
 use Rattle.pv_reduced.specs.OfExplore.Visiting.{found_of}
 use Rattle.pv_exposure.specs.Reading.{file_to_read, has_read, may_read}
 

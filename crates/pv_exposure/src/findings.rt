@@ -11,7 +11,7 @@ ghost use Rattle.pv_named_files.specs.FirstPaths.{first_tree};
 use crate::files::StateFile;
 use crate::reasons::{Visit, reason_of};
 use pv_model_questions::FindingKind;
-use pv_named_files::step_cache::tables::Keys;
+use pv_named_files::row_tables::Keys;
 use std::alloc::{AllocError, Global};
 use std::marker::Model;
 

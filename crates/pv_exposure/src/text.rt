@@ -14,7 +14,7 @@ use crate::programs::ProgramRecord;
 use crate::ranges::append_ranges;
 use pv_model_questions::FindingKind;
 use pv_named_files::FirstPaths;
-use pv_named_files::step_cache::tables::Keys;
+use pv_named_files::row_tables::Keys;
 use pv_programs::answers::{Line, NodeBrief};
 use pv_programs::append_program_line;
 use pv_reduced::SearchKind;

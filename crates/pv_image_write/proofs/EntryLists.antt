@@ -17,12 +17,7 @@ use Rattle.pv_laws_trees.proofs.TreeChanges.{entries-good}
 use Rattle.pv_laws_trees.proofs.DirectoryEntries.{by_name, tied_itself, find_after}
 use Rattle.pv_tree.proofs.OfDirs.EqualParts.{name_length}
 use Rattle.pv_laws_trees.proofs.NameOrder.{less_from}
-use Rattle.pv_image_write.specs.Encoding.{slot_of}
-
--- the name before an index
-abbrev pub name_before : Entries → ℕ → Option Bytes
-name_before es zero = None
-name_before es (suc i) = option_map (λ e. e.0) (slice_get es i)
+use Rattle.pv_image_write.specs.Encoding.{name_before, slot_of}
 
 -- the first i entries are encoded, and this is the name of the last of them
 pub record IsListing (v : Version) (es : Entries) (i : ℕ) (before bytes : Bytes) (last : Option Bytes) : Type 0 where

@@ -1,10 +1,10 @@
 -- The bytes of an image that is written: its first block, its inodes, and the blocks of each node consecutively.
-use Rattle.std.specs.Prelude.{ℕ, zero, suc, ◌+◌, ◌-◌, ◌*◌, min, List, [], ◌∷◌, ◌++◌, length, replicate, flat_map, Option, None, Some}
+use Rattle.std.specs.Prelude.{ℕ, zero, suc, ◌+◌, ◌-◌, ◌*◌, min, List, [], ◌∷◌, ◌++◌, length, replicate, flat_map, Option, None, Some, option_map, slice_get}
 use Rattle.std.specs.List.{range_with_len}
 use Rattle.pv_model.specs.declared.limits.TheConstants.{BLOCK}
 use Rattle.pv_model.specs.declared.version.Version.{Version}
 use Rattle.pv_model.specs.declared.version.Version.TheVariants.{V1, V2}
-use Rattle.pv_model.specs.Machine.{Bytes, little_endian, magic, inode_blocks, inode_length, index_pointers, entry_length, rounded_up, Node, directory_node, file_node, link_node, Tree, node_at, names_of}
+use Rattle.pv_model.specs.Machine.{Bytes, little_endian, magic, inode_blocks, inode_length, index_pointers, entry_length, rounded_up, Entries, Node, directory_node, file_node, link_node, Tree, node_at, names_of}
 use Rattle.pv_model.specs.Effect.{sort_number}
 
 -- bytes padded with zeros to a length
@@ -18,6 +18,11 @@ encoded_numbers ks = flat_map (little_endian 2) ks
 -- the slot of an entry: its inode number, the length of its name, 0, its name, and zeros
 unfoldable pub slot_of : Version → Bytes × ℕ → Bytes
 slot_of v e = padded (entry_length v) (little_endian 2 e.1 ++ length e.0 ∷ 0 ∷ e.0)
+
+-- the name before the entry at an index
+abbrev pub name_before : Entries → ℕ → Option Bytes
+name_before es zero = None
+name_before es (suc i) = option_map (λ e. e.0) (slice_get es i)
 
 -- the contents of a node
 abbrev pub node_content : Version → Node → Bytes

@@ -5,7 +5,7 @@ use Rattle.pv_model.specs.Answers.Nodes.{name_words}
 use Rattle.pv_model.specs.Machine.{Bytes, quote, Tree}
 use Rattle.pv_model_questions.specs.AboutFiles.{is_given_path}
 use Rattle.pv_named_files.specs.FirstPaths.{is_any_given, path_texts}
-use Rattle.pv_step_cache.specs.OfStateEncoding.OfCallsState.OfTree.NodeNames.{names_after, names_from}
+use Rattle.pv_rows.specs.OfStateEncoding.OfCallsState.OfTree.NodeNames.{names_after, names_from}
 
 pub take-past : {X : Type 0} (xs : List X) (n : ℕ) → length xs ≤ n → take n xs ≡ xs
 take-past [] zero past = refl

@@ -6,7 +6,7 @@ use Rattle.pv_model.specs.Answers.Nodes.{name_words}
 use Rattle.pv_model.specs.Machine.{Bytes, Tree, quote}
 use Rattle.pv_model_questions.specs.AboutFiles.{is_given_path}
 use Rattle.pv_named_files.specs.declared.first_paths.FirstPaths.{FirstPaths}
-use Rattle.pv_step_cache.specs.Steps.{texts_in}
+use Rattle.pv_rows.specs.Texts.{texts_in}
 
 -- the first tree
 abbrev pub first_tree : FirstPaths → Tree

@@ -1,4 +1,4 @@
 pub mod FirstPaths
 pub mod Listed
 pub mod Notes
-pub use Rattle.pv_step_cache.specs as OfStepCache
+pub use Rattle.pv_rows.specs as OfRows

@@ -7,8 +7,8 @@ ghost use Rattle.pv_model.specs.Machine.{is_file_at, named_files, IsWellFormed};
 use crate::note::note_of;
 use pv_model::Kind;
 use pv_model::limits::ROOT;
-use pv_step_cache::tables::Keys;
-use pv_step_cache::tree::Tree;
+use pv_rows::Keys;
+use pv_rows::tree::Tree;
 use std::alloc::{AllocError, Global};
 
 // Appends a node, and the nodes of all names below it, up to the given depth.

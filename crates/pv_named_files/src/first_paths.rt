@@ -5,10 +5,10 @@ ghost use Rattle.pv_model.specs.Answers.Nodes.{name_words};
 ghost use Rattle.pv_model_questions.specs.AboutFiles.{is_given_path, is_given_node, keeps_name, keeps_node};
 ghost use Rattle.pv_model_questions.specs.Briefs.{brief_since, node_path_text, with_first};
 ghost use Rattle.pv_named_files.specs.FirstPaths.{files_given, first_tree, is_any_given, path_texts};
-ghost use Rattle.pv_step_cache.specs.Steps.{texts_in};
+ghost use Rattle.pv_rows.specs.Texts.{texts_in};
 
-use pv_step_cache::state_encoding::answers::{NameWords, NodeBrief, PathOf, has_path};
-use pv_step_cache::tree::Tree;
+use pv_rows::state_encoding::answers::{NameWords, NodeBrief, PathOf, has_path};
+use pv_rows::tree::Tree;
 use pv_streams::{Quoted, text_of};
 use std::alloc::{AllocError, Global};
 

@@ -12,4 +12,4 @@ mod note;
 pub use files::{is_file, named_files};
 pub use first_paths::FirstPaths;
 pub use note::note_of;
-pub use pv_step_cache as step_cache;
+pub use pv_rows as row_tables;

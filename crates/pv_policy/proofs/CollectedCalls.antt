@@ -5,7 +5,7 @@ use Rattle.std.proofs.lemmas.List.Elements.{filter-append}
 use Rattle.std.proofs.lemmas.List.Folds.{flat_map-map}
 use Rattle.std.proofs.lemmas.List.Sums.{fold-append}
 use Rattle.pv_needs.proofs.OfAnswers.InstructionWords.{register-next}
-use Rattle.pv_reduced.specs.OfExplore.declared.visited.VisitedState.{VisitedState}
+use Rattle.pv_reduced.specs.OfEngine.declared.visited.VisitedState.{VisitedState}
 use Rattle.pv_reduced.specs.OfExplore.Visiting.{Visits, found_of}
 use Rattle.pv_model.specs.declared.call.Call.{Call}
 use Rattle.pv_model.specs.Machine.{Answered, answer, Found, Move, move, moves_of, witness_text, AnswerLine, answer_bytes, answer_line, answer_line_bytes, counted_from, is_refused, groups, observed, of_calls, of_next, of_process, Request, Requests, Bytes, program_of, live_processes, calls_for, next, Process, State, process_at, Stepped, Tree}

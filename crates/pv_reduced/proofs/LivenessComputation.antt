@@ -1,23 +1,24 @@
 -- The computation of live variables, and the cache of its results.
-use Rattle.std.proofs.Common.{◌≡◌, ◌∙◌, sym, ap, ap₂, ℕ, zero, suc, ◌+◌, ◌-◌, ◌<◌, ◌≤◌, max, Bool, true, false, ◌||◌, if◌then◌else◌, nat_lt, bytes_eq, List, [], ◌∷◌, ◌++◌, length, map, take, drop, get_or, replicate, append_assoc, append-nil, slice_get, position, Option, None, Some, Result, Ok, Err, IfOk, option_map, add-one, arith, refl}
+use Rattle.std.proofs.Common.{◌≡◌, ◌≢◌, ◌∙◌, sym, ap, ap₂, ℕ, zero, suc, ◌+◌, ◌-◌, ◌<◌, ◌≤◌, max, Bool, true, false, ◌||◌, if◌then◌else◌, nat_lt, List, [], ◌∷◌, ◌++◌, length, map, take, drop, get_or, replicate, append_assoc, append-nil, slice_get, Option, None, Some, Result, Ok, Err, IfOk, option_map, add-one, arith, refl}
 use Rattle.std.specs.Global.{Vec}
-use Rattle.std.specs.List.{list_any}
 use Rattle.std.proofs.lemmas.Bool.Decides.{nat_tests}
 use Rattle.std.proofs.lemmas.List.{drop_all, length-map, map-append, take_all, take_more}
-use Rattle.std.proofs.lemmas.List.Quantifiers.{position-Some}
 use Rattle.std.proofs.lemmas.Option.{get_or_from_slice_get, slice_get-get_or, slice_get-map, slice_get_within}
 use Rattle.std.proofs.Math.Seq.{drop-cons}
-use Rattle.pv_explore.proofs.VisitedStates.{other-row}
 use Rattle.pv_laws_classes.proofs.OfLawsAnswers.StateDecoding.{same-state_numbers}
 use Rattle.pv_laws_classes.specs.Liveness.{Variable, bound_if, byte_variable, greatest_bound, has_line, is_live_at, is_needed, next_table, read_bound, register_variable, rounds}
-use Rattle.pv_laws_trees.proofs.DirectoryEntries.{bytes_eq-same}
 use Rattle.pv_model.specs.declared.instruction.Instruction.{Instruction}
 use Rattle.pv_model.specs.declared.version.Version.TheVariants.{V1}
-use Rattle.pv_model.specs.Machine.{Numbers, bool_numbers, bytes_numbers, descriptor_numbers, entry_numbers, file_numbers, instruction_numbers, integer_numbers, list_numbers, number_numbers, option_numbers, state_numbers, tree_numbers, Bytes, Process, Program, ProcessRecord, live, ended_record, State, first_process, first_state, Tree}
+use Rattle.pv_model.specs.Machine.{Numbers, bool_numbers, bytes_numbers, descriptor_numbers, entry_numbers, file_numbers, instruction_numbers, integer_numbers, list_numbers, number_numbers, option_numbers, state_numbers, tree_numbers, Process, Program, ProcessRecord, live, ended_record, State, first_process, first_state, Tree}
 use Rattle.pv_model.specs.Answers.Numbers.{process_numbers}
-use Rattle.pv_reduced.specs.Live.{AreTables, Bound, bound_in, bound_of, bound_table, bound_tables, bounds_of, greatest_in, last_table, live_line_in, lines_in, lists_of, live_line, live_lines, numbers_from, packed_program, register_tables, registers_in, table_in, liveness_of, tables_of}
+use Rattle.pv_reduced.specs.Live.{AreOfPart, AreOfParts, Bound, bound_in, bound_of, bound_table, bound_tables, bounds_of, greatest_in, last_table, live_line_in, lines_in, live_line, live_lines, numbers_from, packed_program, register_tables, registers_in, table_in, liveness_of, tables_of}
+use Rattle.pv_reduced.specs.Places.{known_at}
+use Rattle.pv_reduced.specs.declared.live_tables.LiveTables.{LiveTables}
 use Rattle.pv_reduced.specs.declared.liveness.BoundTable.{BoundTable}
 use Rattle.pv_reduced.specs.declared.liveness.LiveLine.{LiveLine}
+use Rattle.pv_reduced.proofs.Places.{put-each, same-each}
+use Rattle.pv_rows.proofs.Numbers.{same-number}
+use Rattle.pv_rows.specs.Tables.{Stored, IsPartNumber}
 use Rattle.pv_state_encoding.proofs.InjectiveEncoding.{packed-apart}
 
 -- ---- lines of a table
@@ -306,72 +307,19 @@ same-program a b same =
     let numbers = packed-apart (list_numbers instruction_numbers a) (list_numbers instruction_numbers b) same in
     ap (λ (s : State). program_in s.processes) (same-state_numbers (first_state t a) (first_state t b) (numbers-alike t a b numbers))
 
-mapped-at : {X Y : Type 0} (f : X → Y) (xs : List X) (k : ℕ) (d : Y) → k < length (map f xs) → (x : X) × (slice_get xs k ≡ Some x) × (get_or (map f xs) k d ≡ f x)
-mapped-at f [] k d less = absurd (omega (arith, less))
-mapped-at f (x ∷ xs) zero d less = (x, refl, refl)
-mapped-at f (x ∷ xs) (suc k) d less = mapped-at f xs k d (omega (arith, less))
+-- the live variables that are known of the number of a part are those of its program
+pub known-lines : (t : Stored) (tables : LiveTables) (program : Program) (number : ℕ) (lines : Vec LiveLine) → AreOfParts t tables → IsPartNumber t (packed_program program) number → known_at tables.lines.items number ≡ Some lines
+    → lines.items ≡ live_lines program
+known-lines t tables program number lines are part known =
+    let it = are number lines known in
+    let parts : packed_program it.program ≡ packed_program program = same-number t.parts (packed_program it.program) (packed_program program) part.stored (sym it.number_is.is ∙ part.is) in
+    it.lines_are ∙ ap live_lines (same-program it.program program parts)
 
-pub tables-start : (keys : List Bytes) (lines : List (Vec LiveLine)) → keys ≡ [] → lines ≡ [] → AreTables keys (lists_of lines)
-tables-start keys lines none empty = record { programs = []; keys_are = none; tables_are = ap lists_of empty }
+-- those that are put at the number are right
+pub lines-added : (t : Stored) (old new : LiveTables) (program : Program) (number : ℕ) (lines : Vec LiveLine) → AreOfParts t old → IsPartNumber t (packed_program program) number → lines.items ≡ live_lines program
+    → known_at new.lines.items number ≡ Some lines → ((k : ℕ) → k ≢ number → known_at new.lines.items k ≡ known_at old.lines.items k) → AreOfParts t new
+lines-added t old new program number lines are part is there others =
+    put-each old.lines.items new.lines.items number lines there others (λ k (ls : Vec LiveLine). AreOfPart t k ls.items) (record { program = program; number_is = part; lines_are = is }) are
 
-module _ (keys : List Bytes) (lines : List (Vec LiveLine)) (part : Bytes) (program : Program) (encoded : part ≡ packed_program program) (tables : AreTables keys (lists_of lines)) where
-  pub table-found : (number : ℕ) → Some number ≡ position (bytes_eq part) keys → slice_get (lists_of lines) number ≡ Some (live_lines program)
-  table-found number is =
-      let found = position-Some (bytes_eq part) (map packed_program tables.programs) number [] (ap (position (bytes_eq part)) (sym tables.keys_are) ∙ sym is) in
-      let at = mapped-at packed_program tables.programs number [] found.0 in
-      let same : at.0 ≡ program = same-program at.0 program (sym at.2 ∙ sym (bytes_eq-same part (get_or (map packed_program tables.programs) number []) found.1) ∙ encoded) in
-      ap (λ (ts : List (List LiveLine)). slice_get ts number) tables.tables_are
-      ∙ slice_get-map live_lines tables.programs number
-      ∙ ap (λ (o : Option Program). option_map live_lines o) at.1
-      ∙ ap (λ (p : Program). Some (live_lines p)) same
-
-  pub table-other : None ≡ position (bytes_eq part) keys → list_any (bytes_eq part) keys ≡ false
-  table-other is = other-row keys part part None is refl refl
-
-  pub table-added : (new_keys : List Bytes) (new_lines : List (Vec LiveLine)) (it : Vec LiveLine) → list_any (bytes_eq part) keys ≡ false → it.items ≡ live_lines program → new_lines ≡ lines ++ it ∷ []
-      → new_keys ≡ (if list_any (bytes_eq part) keys then keys else keys ++ part ∷ []) → AreTables new_keys (lists_of new_lines)
-  table-added new_keys new_lines it other value pushed added = record {
-    programs = tables.programs ++ program ∷ [];
-    keys_are =
-        added ∙ ap (λ b. if b then keys else keys ++ part ∷ []) other ∙ ap₂ (λ (ks : List Bytes) (k : Bytes). ks ++ k ∷ []) tables.keys_are encoded
-        ∙ sym (map-append packed_program tables.programs (program ∷ []));
-    tables_are =
-        ap lists_of pushed ∙ map-append (λ (t : Vec LiveLine). t.items) lines (it ∷ []) ∙ ap₂ (λ (ts : List (List LiveLine)) (t : List LiveLine). ts ++ t ∷ []) tables.tables_are value
-        ∙ sym (map-append live_lines tables.programs (program ∷ []));
-  }
-
-  -- an error leaves the tables as they were
-  pub tables-left : (new_keys : List Bytes) (new_lines pushed : List (Vec LiveLine)) (it : Vec LiveLine) (number : ℕ) → new_keys ≡ keys → pushed ≡ lines ++ it ∷ [] → new_lines ≡ take number pushed → number ≡ length lines
-      → AreTables new_keys (lists_of new_lines)
-  tables-left new_keys new_lines pushed it number same is cut counted = record {
-    programs = tables.programs;
-    keys_are = same ∙ tables.keys_are;
-    tables_are = ap lists_of (cut ∙ ap₂ (λ (n : ℕ) (ts : List (Vec LiveLine)). take n ts) counted is ∙ take-front lines it) ∙ tables.tables_are;
-  }
-    where
-      take-front : (ts : List (Vec LiveLine)) (t : Vec LiveLine) → take (length ts) (ts ++ t ∷ []) ≡ ts
-      take-front [] t = refl
-      take-front (u ∷ ts) t = ap (λ (us : List (Vec LiveLine)). u ∷ us) (take-front ts t)
-
--- the table of the last program
-pub last-table : (lines new : List (Vec LiveLine)) (it : Vec LiveLine) (program : Program) (number : ℕ) → new ≡ lines ++ it ∷ [] → it.items ≡ live_lines program → number ≡ length lines → slice_get (lists_of new) number ≡ Some (live_lines program)
-last-table lines new it program number is value counted =
-    ap₂ (λ (ts : List (Vec LiveLine)) (n : ℕ). slice_get (lists_of ts) n) is counted ∙ at lines ∙ ap Some value
-  where
-    at : (ts : List (Vec LiveLine)) → slice_get (lists_of (ts ++ it ∷ [])) (length ts) ≡ Some it.items
-    at [] = refl
-    at (t ∷ ts) = at ts
-
-pub lines-there : (lines given : List (Vec LiveLine)) (number : ℕ) (program : Program) → given ≡ lines → slice_get (lists_of lines) number ≡ Some (live_lines program) → slice_get (lists_of given) number ≡ Some (live_lines program)
-lines-there lines given number program same is = ap (λ (ts : List (Vec LiveLine)). slice_get (lists_of ts) number) same ∙ is
-
-pub number-within : (lines : List (Vec LiveLine)) (given : List (Vec LiveLine)) (number : ℕ) (table : List LiveLine) → given ≡ lines → slice_get (lists_of lines) number ≡ Some table → number < length given
-number-within lines given number table same is =
-    let within = slice_get_within (lists_of lines) number table is in
-    omega (arith, within, length-map lines (λ (t : Vec LiveLine). t.items), ap length same)
-
-pub lines-of : (lines : List (Vec LiveLine)) (number : ℕ) (it : Vec LiveLine) (given table : List LiveLine) → number < length lines → it ≡ get_or lines number it → given ≡ it.items → slice_get (lists_of lines) number ≡ Some table → given ≡ table
-lines-of lines number it given table less is same there =
-    let both : Some it.items ≡ Some table = sym (items-at lines number it less is) ∙ there in
-    let items : it.items ≡ table = cc both in
-    same ∙ items
+pub lines-same : (t : Stored) (old new : LiveTables) → AreOfParts t old → ((k : ℕ) → known_at new.lines.items k ≡ known_at old.lines.items k) → AreOfParts t new
+lines-same t old new are same = same-each (λ k (ls : Vec LiveLine). AreOfPart t k ls.items) old.lines.items new.lines.items same are

@@ -1,82 +1,61 @@
--- The bytes written of observations are those of the first observations, and those of `explore` its lines.
-use Rattle.std.proofs.Common.{◌≡◌, ◌∙◌, sym, ap, ap₂, ℕ, ◌<◌, ◌≤◌, Bool, List, [], ◌∷◌, ◌++◌, length, map, flat_map, refl}
+-- The output and the result of the reduced search are those of the engine, and the bytes of `explore` are those of its lines.
+use Rattle.std.proofs.Common.{◌≡◌, ◌∙◌, sym, ap, ℕ, ◌<◌, ◌≤◌, Bool, List, [], ◌∷◌, ◌++◌, length, map, flat_map}
 use Rattle.std.proofs.lemmas.Grind.{flat_map-append}
-use Rattle.std.proofs.lemmas.List.{length-map, map-append}
-use Rattle.pv_reduced.specs.Lines.{IsReducedSearched, reduced_observed_bytes, reduced_states}
-use Rattle.pv_reduced.specs.Plan.{ReducedVisited}
-use Rattle.pv_reduced.specs.Searches.{reduced_all_reported, reduced_all_visited}
-use Rattle.pv_reduced.proofs.PlannedReduction.{Finds, plan-finds}
-use Rattle.pv_explore.specs.Observing.{no_text, trace_text}
-use Rattle.pv_explore.specs.Plan.{tree_key}
-use Rattle.pv_explore.specs.Visiting.{found_at, visits_of}
-use Rattle.pv_explore.proofs.PlannedSearch.{written}
-use Rattle.pv_streams.proofs.ProperPrefixes.{lines-long}
-use Rattle.pv_explore.proofs.ReportedBytes.{HaveEmpty, explored, text_observed, written-first}
-use Rattle.pv_explore.proofs.VisitedList.{states-at}
-use Rattle.pv_laws_classes.specs.Reduced.{reduced_found, reduced_moves, reduced_moves_of, reduced_reported}
-use Rattle.pv_laws_classes.specs.ReducedAnswers.{classes_done_line, classes_line, reduced_lines, reduced_observations, reduced_observations_at}
-use Rattle.pv_model.specs.Machine.{Found, Move, endings, endings_line, AnswerLine, answer_bytes, answer_line_bytes, Observation, Observer, observed, Bytes, program_of, State, trace_bytes}
+use Rattle.pv_explore.proofs.OfEngine.Reported.{all-complete, bytes-written, endings-many, explored-bytes, first_with, states-many, texts-recorded}
+use Rattle.pv_explore.specs.OfEngine.Engines.{IsResult}
+use Rattle.pv_explore.specs.OfEngine.Observing.{observation_bytes, trace_text}
+use Rattle.pv_explore.specs.OfEngine.Plan.{all_reported, all_visited}
+use Rattle.pv_explore.specs.OfEngine.Results.{all_moves_with}
+use Rattle.pv_explore.specs.OfEngine.Visiting.{visits_with}
+use Rattle.pv_laws_classes.specs.Reduced.{reduced_found, reduced_moves, reduced_reported}
+use Rattle.pv_laws_classes.specs.ReducedAnswers.{classes_done_line, classes_line, reduced_lines}
+use Rattle.pv_model.specs.Machine.{Found, Move, elements_with_new_keys, endings, endings_line, move_text, AnswerLine, answer_bytes, answer_line_bytes, Observation, Observer, first_observations, Bytes, program_of, State}
 use Rattle.pv_model.specs.Answers.Explore.{move_lines}
+use Rattle.pv_reduced.proofs.Instances.{same-complete, same-found, same-moves, same-observations}
+use Rattle.pv_reduced.specs.Forms.{reduced_bound, reduced_key}
+use Rattle.pv_reduced.specs.Lines.{IsReducedSearched, reduced_first_texts, reduced_observed_bytes, reduced_states}
+use Rattle.pv_streams.proofs.ProperPrefixes.{lines-long}
 
 module _ (limit : ℕ) (s : State) where
   -- ---- the result of a search
 
   module _ (observe : Observer Bytes) where
-    bytes-observed : written [] (reduced_observations observe program_of limit s) ≡ reduced_observed_bytes observe limit s
-    unfolding reduced_observed_bytes
-    bytes-observed = (written-first [] [] (λ t. refl) (reduced_observations observe program_of limit s)).0
+    firsts-are : first_with reduced_key reduced_bound limit s observe ≡ reduced_first_texts observe limit s
+    firsts-are = ap (first_observations (λ t. t)) (same-observations program_of s observe limit)
 
     -- the bytes of a search from the first state
-    pub reported-bytes : 1 ≤ limit → reduced_all_reported observe limit s ≡ reduced_observed_bytes observe limit s
-    reported-bytes some = (plan-finds observe program_of limit s some).bytes_are ∙ bytes-observed
+    pub observed-bytes : 1 ≤ limit → all_reported observe reduced_key reduced_bound limit s ≡ reduced_observed_bytes observe limit s
+    unfolding reduced_observed_bytes
+    observed-bytes some = bytes-written reduced_key reduced_bound limit s observe some ∙ ap (flat_map observation_bytes) firsts-are
 
-    pub is-searched : (visited : ReducedVisited) → 1 ≤ limit → visited ≡ reduced_all_visited observe limit s → (states : ℕ) (complete : Bool) (ends : ℕ) (texts : List Bytes) → states ≡ length visited.keys
-        → complete ≡ visited.complete → ends ≡ length visited.endings → texts ≡ visited.reported → IsReducedSearched observe limit s states complete ends texts
-    is-searched visited some is states complete ends texts states_are complete_is ends_are texts_are =
-        let it : Finds observe program_of limit s (reduced_all_reported observe limit s) (reduced_all_visited observe limit s) = plan-finds observe program_of limit s some in
-        record {
-          states_are = states_are ∙ ap (λ (v : ReducedVisited). length v.keys) is ∙ ap length it.keeps.keys ∙ length-map (reduced_found program_of s limit) _;
-          complete_is = complete_is ∙ ap (λ (v : ReducedVisited). v.complete) is ∙ it.keeps.complete;
-          endings_are = ends_are ∙ ap (λ (v : ReducedVisited). length v.endings) is ∙ ap length it.keeps.endings ∙ length-map (endings (reduced_found program_of s limit)) tree_key;
-          texts_are = texts_are ∙ ap (λ (v : ReducedVisited). v.reported) is ∙ it.reported_are ∙ (written-first [] [] (λ t. refl) (reduced_observations observe program_of limit s)).1;
-        }
+    pub is-searched : 1 ≤ limit → (states : ℕ) (complete : Bool) (ends : ℕ) (texts : List Bytes) → IsResult (all_visited observe reduced_key reduced_bound limit s) states complete ends texts
+        → IsReducedSearched observe limit s states complete ends texts
+    is-searched some states complete ends texts it = record {
+      states_are = it.states_are ∙ states-many reduced_key reduced_bound limit s observe some ∙ ap length (same-found program_of s limit);
+      complete_is = it.complete_is ∙ all-complete reduced_key reduced_bound limit s observe some ∙ same-complete program_of s limit;
+      endings_are = it.endings_are ∙ endings-many reduced_key reduced_bound limit s observe some ∙ ap (λ (fs : List Found). length (endings fs)) (same-found program_of s limit);
+      texts_are = it.texts_are ∙ texts-recorded reduced_key reduced_bound limit s observe some ∙ ap (map (λ (o : Observation Bytes). o.item)) firsts-are;
+    }
 
   -- the visited states
-  pub states-are : (visited : ReducedVisited) → 1 ≤ limit → visited ≡ reduced_all_visited no_text limit s → visits_of s visited.witnesses visited.complete ≡ reduced_states limit s
-  states-are visited some is =
-      let it : Finds no_text program_of limit s (reduced_all_reported no_text limit s) (reduced_all_visited no_text limit s) = plan-finds no_text program_of limit s some in
-      let found : map (found_at s) visited.witnesses ≡ reduced_found program_of s limit =
-      ap (λ (v : ReducedVisited). map (found_at s) v.witnesses) is ∙ ap (map (found_at s)) it.keeps.witnesses ∙ states-at s (reduced_found program_of s limit) it.sound in
-      let complete = ap (λ (v : ReducedVisited). v.complete) is ∙ it.keeps.complete in
-      λ i. record { found = found i; complete = complete i }
+  pub visits-are : visits_with reduced_key reduced_bound limit s ≡ reduced_states limit s
+  visits-are = λ i. record { found = same-found program_of s limit i; complete = same-complete program_of s limit i }
 
   -- ---- the bytes of `explore`
 
-  one-each : (ms : List Move) → flat_map (λ m. map (observed m) (trace_bytes m.stepped.lines ∷ [])) ms ≡ map text_observed ms
-  one-each [] = refl
-  one-each (m ∷ ms) = ap (λ os. text_observed m ∷ os) (one-each ms)
-
-  -- the texts that are observed are those of the steps
-  all-moves : (found : List Found) → flat_map (reduced_observations_at trace_text program_of limit s) found ≡ map text_observed (flat_map (reduced_moves_of program_of s) found)
-  all-moves [] = refl
-  all-moves (f ∷ found) =
-      ap₂ (λ (a b : List (Observation Bytes)). a ++ b) (one-each (reduced_moves_of program_of s f)) (all-moves found)
-      ∙ sym (map-append text_observed (reduced_moves_of program_of s f) (flat_map (reduced_moves_of program_of s) found))
+  all-moves : all_moves_with reduced_key reduced_bound program_of s limit ≡ reduced_moves program_of s limit
+  all-moves = λ i. flat_map (λ (f : Found). same-moves program_of s f i) (same-found program_of s limit i)
 
   -- the bytes of the trace lines and of the last lines are those of `explore`
   abbrev pub last_lines : List AnswerLine
   last_lines = classes_done_line program_of limit s ∷ endings_line (length (endings (reduced_found program_of s limit))) ∷ []
 
-  pub explore-bytes : reduced_observed_bytes trace_text limit s ++ answer_bytes last_lines ≡ answer_bytes (reduced_lines program_of limit s)
+  pub explore-bytes : 1 ≤ limit → all_reported trace_text reduced_key reduced_bound limit s ++ answer_bytes last_lines ≡ answer_bytes (reduced_lines program_of limit s)
   unfolding reduced_lines
-  explore-bytes =
-      let ms : List Move = reduced_moves program_of s limit in
-      ap (λ bs. bs ++ answer_bytes last_lines) (sym (bytes-observed trace_text) ∙ ap (written []) (all-moves (reduced_found program_of s limit)) ∙ explored [] ([] ∷ []) empty ms)
+  explore-bytes some =
+      ap (λ (bs : Bytes). bs ++ answer_bytes last_lines)
+      (explored-bytes reduced_key reduced_bound limit s some ∙ ap (λ (ms : List Move). answer_bytes (flat_map move_lines (elements_with_new_keys move_text ([] ∷ []) ms))) all-moves)
       ∙ sym (flat_map-append answer_line_bytes (flat_map move_lines (reduced_reported program_of s limit)) last_lines)
-    where
-      empty : HaveEmpty [] ([] ∷ [])
-      empty [] = refl
-      empty (b ∷ bs) = refl
 
   pub last-bytes : (observe : Observer Bytes) (states : ℕ) (complete : Bool) (ends : ℕ) (texts : List Bytes) → IsReducedSearched observe limit s states complete ends texts
       → answer_bytes (classes_line states complete ∷ endings_line ends ∷ []) ≡ answer_bytes last_lines

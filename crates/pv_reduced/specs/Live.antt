@@ -1,13 +1,16 @@
 -- The variables of a program that are live at a line, as the code stores them.
-use Rattle.std.specs.Prelude.{◌≡◌, ℕ, zero, suc, max, Bool, if◌then◌else◌, List, [], ◌∷◌, map, length, get_or}
+use Rattle.std.specs.Prelude.{◌≡◌, ℕ, zero, suc, max, Bool, if◌then◌else◌, List, [], ◌∷◌, map, length, get_or, Some}
 use Rattle.std.specs.Global.{Vec}
 use Rattle.pv_model.specs.declared.instruction.Instruction.{Instruction}
 use Rattle.pv_model.specs.Machine.{instruction_numbers, list_numbers, Bytes, Program}
 use Rattle.pv_laws_classes.specs.Liveness.{Variable, byte_variable, has_line, is_live_at, live_bytes, read_bound, register_variable, rounds}
+use Rattle.pv_rows.specs.Tables.{Stored, IsPartNumber}
 use Rattle.pv_state_encoding.specs.Packed.{packed_all}
+use Rattle.pv_reduced.specs.Places.{known_at}
+use Rattle.pv_reduced.specs.declared.live_tables.LiveTables.{LiveTables}
 use Rattle.pv_reduced.specs.declared.liveness.BoundTable.{BoundTable}
 use Rattle.pv_reduced.specs.declared.liveness.LiveLine.{LiveLine}
-use Rattle.pv_reduced.specs.declared.liveness.Variable.{Variable as Stored}
+use Rattle.pv_reduced.specs.declared.liveness.Variable.{Variable as StoredVariable}
 use Rattle.pv_reduced.specs.declared.liveness.Variable.TheVariants.{Byte, Register}
 
 -- the numbers from a number on
@@ -29,7 +32,7 @@ live_lines program = map (live_line program) (numbers_from 0 (suc (length progra
 -- ---- the computation
 
 -- the variable of the definitions
-abbrev pub variable_of : Stored → Variable
+abbrev pub variable_of : StoredVariable → Variable
 variable_of (Register r) = register_variable r
 variable_of (Byte k) = byte_variable k
 
@@ -96,11 +99,12 @@ lines_in tables bounds count = map (live_line_in tables bounds) (numbers_from 0 
 abbrev pub packed_program : Program → Bytes
 packed_program program = packed_all (list_numbers instruction_numbers program)
 
-abbrev pub lists_of : List (Vec LiveLine) → List (List LiveLine)
-lists_of tables = map (λ t. t.items) tables
+-- the live variables of the program whose encoding is the part with a number
+pub record AreOfPart (t : Stored) (number : ℕ) (lines : List LiveLine) : Type 0 where
+  pub program : Program
+  pub number_is : IsPartNumber t (packed_program program) number
+  pub lines_are : lines ≡ live_lines program
 
--- the encodings of programs, and the live variables of their lines
-pub record AreTables (keys : List Bytes) (tables : List (List LiveLine)) : Type 0 where
-  pub programs : List Program
-  pub keys_are : keys ≡ map packed_program programs
-  pub tables_are : tables ≡ map live_lines programs
+-- for each number of a part the live variables of its program, if they are known
+abbrev pub AreOfParts : Stored → LiveTables → Type 0
+AreOfParts t tables = (number : ℕ) (lines : Vec LiveLine) → known_at tables.lines.items number ≡ Some lines → AreOfPart t number lines.items

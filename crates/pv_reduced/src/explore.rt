@@ -6,9 +6,9 @@ ghost use Rattle.pv_model.specs.Machine.{endings_line, answer_bytes, answer_line
 ghost use Rattle.pv_streams.specs.ProperPrefixes.{StopsInside};
 ghost use Rattle.pv_streams.specs.Sinks.{FailsBy, Writes, WritesOr};
 
-use crate::searched::search_reduced;
+use crate::form::Reduced;
 use pv_explore::{
-    Count, FirstMachine, Progress, Searched, TraceLines, completeness, write_endings,
+    Count, FirstMachine, Progress, Searched, TraceLines, completeness, search_with, write_endings,
 };
 use pv_state_encoding::answers::Line;
 use pv_streams::{Failed, Fragment, Plain, Sink, Stop};
@@ -72,7 +72,16 @@ pub(crate) fn write_reduced<W: Sink, P: Progress>(
     ensures complete { IfOk result (λ complete. complete ≡ is_reduced_complete program_of first_machine.now states) }
     ensures part { StopsInside W.Sink (answer_bytes (reduced_lines program_of states first_machine.now)) out.old out.new result }
 {
-    let searched = search_reduced(alloc, first_machine, states, TraceLines, progress, out)?;
+    let form = Reduced::new(alloc);
+    let searched = search_with(
+        alloc,
+        first_machine,
+        states,
+        TraceLines,
+        form,
+        progress,
+        out,
+    )?;
     write_done(out, &searched)?;
     Ok(searched.complete)
 }

@@ -6,10 +6,10 @@ ghost use Rattle.pv_streams.specs.ProperPrefixes.{StopsInside};
 ghost use Rattle.pv_streams.specs.Sinks.{FailsBy, Writes, WritesOr};
 
 use crate::explore::{write_classes, write_reduced};
-use crate::searched::{reduced_states, search_reduced};
+use crate::form::Reduced;
 use pv_explore::{
-    FirstMachine, Observer, Progress, Searched, SearchedStates, search_observed, write_explore,
-    write_states,
+    FirstMachine, Observer, Progress, Searched, SearchedStates, Whole, search_observed,
+    search_with, write_explore, write_states,
 };
 use pv_model::StepFault;
 use pv_streams::{Failed, Sink, Stop};
@@ -26,7 +26,7 @@ pub enum SearchKind {
 }
 
 impl SearchKind {
-    /// Searches with an observer: see `pv_explore::search_observed` and `search_reduced`.
+    /// Searches with an observer: see `pv_explore::search_observed` and `pv_engine::search_with`.
     ///
     /// # Errors
     ///
@@ -50,7 +50,8 @@ impl SearchKind {
                 search_observed(alloc, first_machine, states, observer, progress, out)
             }
             SearchKind::Reduced => {
-                search_reduced(alloc, first_machine, states, observer, progress, out)
+                let form = Reduced::new(alloc);
+                search_with(alloc, first_machine, states, observer, form, progress, out)
             }
         }
     }
@@ -71,8 +72,13 @@ impl SearchKind {
         ensures { IfOk result (λ visits. visits ≡ states_by self states first_machine.now) }
     {
         match self {
-            SearchKind::Full => SearchedStates::search(alloc, first_machine, states, progress),
-            SearchKind::Reduced => reduced_states(alloc, first_machine, states, progress),
+            SearchKind::Full => {
+                SearchedStates::search(alloc, first_machine, states, Whole, progress)
+            }
+            SearchKind::Reduced => {
+                let form = Reduced::new(alloc);
+                SearchedStates::search(alloc, first_machine, states, form, progress)
+            }
         }
     }
 

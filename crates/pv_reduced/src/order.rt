@@ -1,13 +1,11 @@
 //! The order of open files in which descriptors refer to them first.
 ghost use Rattle.std.specs.Prelude.{◌≡◌, ◌∷◌, [], IfOk, OnOk};
-ghost use Rattle.pv_reduced.specs.Keys.{descriptor_files, files_of_live, files_of_processes, with_reference, with_references};
+ghost use Rattle.pv_reduced.specs.Keys.{descriptor_files, with_reference, with_references};
 ghost use Rattle.pv_laws_classes.specs.Canonical.{index_in};
 ghost use Rattle.pv_model.specs.Machine.{at_number};
-ghost use Rattle.pv_state_encoding.specs.OfProcs.ProcessTable.{process_in};
 
 use pv_files::Descriptors;
 use pv_model::limits::DESCRIPTORS;
-use pv_state_encoding::procs::Processes;
 use std::alloc::{AllocError, Global};
 
 /// Returns the index of a number, or the length of the list if it does not contain the number.
@@ -22,9 +20,13 @@ pub(crate) fn index_in(order: &[usize], file: usize) -> usize
     index
 }
 
-// Appends an open file if it is new.
+/// Appends an open file if it is new.
+///
+/// # Errors
+///
+/// `AllocError`, if there is no memory.
 #[tactic(auto, using(crate::proofs::DescriptorOrder::reference_old, crate::proofs::DescriptorOrder::reference_new))]
-fn push_reference(order: &mut Vec<usize>, file: usize) -> Result<(), AllocError>
+pub(crate) fn push_reference(order: &mut Vec<usize>, file: usize) -> Result<(), AllocError>
     ensures { OnOk result (order.new.items ≡ with_reference order.old.items file) }
 {
     if index_in(order, file) < order.len() {
@@ -60,34 +62,15 @@ fn push_files_of(order: &mut Vec<usize>, descriptors: &Descriptors) -> Result<()
     Ok(())
 }
 
-// Appends the open files of a process, if it is live and they are new.
-fn push_files_of_process(
-    order: &mut Vec<usize>,
-    processes: &Processes,
-    pid: u32,
-) -> Result<(), AllocError>
-    ensures { OnOk result (order.new.items ≡ with_references order.old.items (files_of_live (process_in processes.now pid))) }
-{
-    match processes.live_record(pid) {
-        Some(record) => push_files_of(order, &record.descriptors),
-        None => Ok(()),
-    }
-}
-
-/// Returns the open files in the order of their first reference.
+/// Returns the open files of a process in the order in which its descriptors refer to them first.
 ///
 /// # Errors
 ///
 /// `AllocError`, if there is no memory.
-pub(crate) fn references(alloc: Global, processes: &Processes) -> Result<Vec<usize>, AllocError>
-    ensures { IfOk result (λ order. order.items ≡ with_references [] (files_of_processes processes.now.processes)) }
+pub(crate) fn files_of(alloc: Global, descriptors: &Descriptors) -> Result<Vec<usize>, AllocError>
+    ensures { IfOk result (λ order. order.items ≡ with_references [] (descriptor_files descriptors.now)) }
 {
-    processes.invariant();
     let mut order = Vec::new(alloc);
-    let mut last = 0;
-    while let Some(pid) = processes.next_number(last) {
-        push_files_of_process(&mut order, processes, pid)?;
-        last = pid;
-    }
+    push_files_of(&mut order, descriptors)?;
     Ok(order)
 }

@@ -40,7 +40,7 @@ pub struct Session {
     // Boxed, like the line buffer below, so that a session is cheap to move.
     system: Box<System<CachedLookup>>,
     // The texts of the last call, overwritten by the next.
-    texts: CallTexts,
+    texts: Box<CallTexts>,
     // The buffer in which trace lines are built.
     line_buffer: Box<LineBuffer>,
 }
@@ -104,11 +104,12 @@ impl Session {
             (λ fault. (fault ≡ BootFault.Memory) ⊎ (booted store ≡ Err fault)) }
     {
         let line_buffer = Box::new(alloc, LineBuffer::new())?;
+        let texts = Box::new(alloc, CallTexts::new())?;
         let lookup = CachedLookup::new(alloc)?;
         match boot(alloc, store, lookup) {
             Ok(system) => Ok(Session {
                 system: Box::new(alloc, system)?,
-                texts: CallTexts::new(),
+                texts,
                 line_buffer,
             }),
             Err(fault) => Err(fault),
@@ -158,7 +159,7 @@ impl Session {
         ensures child { IfOk result (λ outcome. ChildBeginsWithSameRights self.old pid outcome self.new) }
     {
         let system = &mut *self.system;
-        match system.parts.step_or_fetch(pid, &mut self.texts) {
+        match system.parts.step_or_fetch(pid, &mut *self.texts) {
             Fetched::Gone => Ok(Outcome::Gone),
             Fetched::Register => Ok(Outcome::Value(0)),
             Fetched::Call(call) => Ok(make_call(alloc, system, pid, call)?.outcome),
@@ -271,7 +272,7 @@ impl Session {
             (W.written trace.old) (W.written trace.new)) }
     {
         let system = &mut *self.system;
-        match system.parts.step_or_fetch(pid, &mut self.texts) {
+        match system.parts.step_or_fetch(pid, &mut *self.texts) {
             Fetched::Gone => {
                 write_gone_line(trace, &mut *self.line_buffer, pid)?;
                 Ok(1)

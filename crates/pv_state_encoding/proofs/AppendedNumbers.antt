@@ -1,5 +1,5 @@
 -- Numbers appended in sequence.
-use Rattle.std.proofs.Common.{◌≡◌, ◌∙◌, sym, ap, ap₂, ℕ, zero, suc, ◌+◌, ◌-◌, ◌*◌, ◌^◌, ◌/◌, ◌%◌, ◌<◌, ◌≤◌, if◌then◌else◌, true, false, nat_lt, List, [], ◌∷◌, ◌++◌, length, take, get_or, append_assoc, append-nil, flat_map, refl, subst, pow-suc, arith}
+use Rattle.std.proofs.Common.{◌≡◌, ◌∙◌, sym, ap, ap₂, ℕ, zero, suc, ◌+◌, ◌-◌, ◌*◌, ◌^◌, ◌/◌, ◌%◌, ◌<◌, ◌≤◌, if◌then◌else◌, true, false, nat_lt, List, [], ◌∷◌, ◌++◌, length, take, get_or, append_assoc, append-nil, flat_map, replicate, refl, subst, pow-suc, arith}
 use Rattle.std.specs.List.{list_all}
 use Rattle.std.proofs.lemmas.Bool.{and_parts}
 use Rattle.std.proofs.lemmas.Bool.Decides.{nat_tests}
@@ -80,6 +80,13 @@ packed-each_small (n ∷ ns) small =
 
 pub added_small : (bytes old new : Bytes) → list_all is_small bytes ≡ true → new ≡ old ++ bytes → IsAdded bytes old new
 added_small bytes old new small is = record { is = is ∙ ap (λ bs. old ++ bs) (sym (packed-each_small bytes small)) }
+
+pub added_zeros : (n : ℕ) (old new : Bytes) → new ≡ old ++ replicate n 0 → IsAdded (replicate n 0) old new
+added_zeros n old new is = added_small (replicate n 0) old new (all-small n) is
+  where
+    all-small : (k : ℕ) → list_all is_small (replicate k 0) ≡ true
+    all-small zero = refl
+    all-small (suc k) = all-small k
 
 -- ---- lists
 

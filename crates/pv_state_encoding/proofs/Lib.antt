@@ -1,7 +1,6 @@
 -- Lemmas about the encoding: AppendedNumbers (numbers in sequence), MapNumbers (finite maps and optional values),
 -- TreeNumbers (entries and nodes), ProcessNumbers (a process's record, part by part), ProcessGroups (processes in
--- sequence), StateGroups (nodes, part by part; the groups are the encoding of the state), InjectiveEncoding (the
--- encoding is injective).
+-- sequence), StateGroups (the groups are the encoding of the state), InjectiveEncoding (the encoding is injective).
 pub mod AppendedNumbers
 pub mod MapNumbers
 pub mod TreeNumbers

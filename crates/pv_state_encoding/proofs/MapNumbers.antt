@@ -1,5 +1,5 @@
 -- Numbers of finite maps and of optional values.
-use Rattle.std.proofs.Common.{IsSome, Bool, ◌≡◌, ◌∙◌, sym, ap, subst, ℕ, zero, suc, ◌+◌, ◌<◌, [], ◌∷◌, ◌++◌, length, take, flat_map, append-nil, Option, None, Some, option_map, add-one, arith, refl}
+use Rattle.std.proofs.Common.{IsSome, Bool, ◌≡◌, ◌∙◌, sym, ap, ap₂, subst, ℕ, zero, suc, ◌+◌, ◌<◌, ◌≤◌, [], ◌∷◌, ◌++◌, length, take, replicate, flat_map, append_assoc, append-nil, Option, None, Some, option_map, add-one, arith, refl}
 use Rattle.std.proofs.lemmas.Grind.{flat_map-append}
 use Rattle.pv_model.specs.declared.open_flags.Mode.{Mode}
 use Rattle.pv_model.specs.Machine.{Numbers, option_numbers, file_numbers, bool_numbers, bytes_numbers, Bytes, Numbered, at_number, OpenFile}
@@ -22,6 +22,22 @@ added_at f xs i n old middle new long within first second =
     (sym (ap (λ k. flat_map (option_numbers f) (take k xs)) (add-one i) ∙ ap (flat_map (option_numbers f)) (take-at xs i (omega arith)) ∙ flat_map-append (option_numbers f) (take i xs) (at_number xs i ∷ [])
     ∙ ap (λ ms. flat_map (option_numbers f) (take i xs) ++ ms) (append-nil (option_numbers f (at_number xs i)))))
     (added_both first second)
+
+-- the elements from a number on are absent: there are n elements before it, and m from it on
+unused-zeros : {X : Type 0} (f : X → Numbers) (xs : Numbered X) (n m : ℕ) → n + m ≡ length xs → ((k : ℕ) → n ≤ k → at_number xs k ≡ None) → flat_map (option_numbers f) xs ≡ flat_map (option_numbers f) (take n xs) ++ replicate m 0
+unused-zeros f [] zero zero all none = refl
+unused-zeros f [] zero (suc m) all none = absurd (omega (arith, all))
+unused-zeros f [] (suc n) m all none = absurd (omega (arith, all))
+unused-zeros f (x ∷ xs) zero zero all none = absurd (omega (arith, all))
+unused-zeros f (x ∷ xs) zero (suc m) all none =
+    ap₂ (λ (ns ms : Numbers). ns ++ ms) (ap (option_numbers f) (none 0 (omega arith))) (unused-zeros f xs 0 m (omega (arith, all)) (λ k above. none (suc k) (omega arith)))
+unused-zeros f (x ∷ xs) (suc n) m all none =
+    ap (λ (ns : Numbers). option_numbers f x ++ ns) (unused-zeros f xs n m (omega (arith, all)) (λ k above. none (suc k) (omega (arith, above))))
+    ∙ sym (append_assoc (option_numbers f x) (flat_map (option_numbers f) (take n xs)) (replicate m 0))
+
+pub added_unused : {X : Type 0} (f : X → Numbers) (xs : Numbered X) (n m : ℕ) (old middle new : Bytes) → n + m ≡ length xs → ((k : ℕ) → n ≤ k → at_number xs k ≡ None)
+    → IsAdded (flat_map (option_numbers f) (take n xs)) old middle → IsAdded (replicate m 0) middle new → IsAdded (flat_map (option_numbers f) xs) old new
+added_unused f xs n m old middle new all none first second = subst (λ (ns : Numbers). IsAdded ns old new) (sym (unused-zeros f xs n m all none)) (added_both first second)
 
 -- ---- optional values
 

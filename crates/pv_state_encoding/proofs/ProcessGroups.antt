@@ -1,5 +1,5 @@
 -- The groups of processes, one process at a time.
-use Rattle.std.proofs.Common.{◌≡◌, ◌∙◌, sym, ap, ℕ, ◌+◌, List, [], ◌∷◌, ◌++◌, length, map, append_assoc, append-nil, Option, None, Some, arith}
+use Rattle.std.proofs.Common.{◌≡◌, ◌∙◌, sym, ap, ℕ, List, [], ◌∷◌, ◌++◌, map, append_assoc, append-nil, Option, None, Some}
 use Rattle.std.specs.FinMap.Entries.{find}
 use Rattle.std.specs.Ordering.{nat_cmp}
 use Rattle.pv_answers.proofs.ProcessSequence.{Recorded, IsNextRecord, all-after, none-after, records_after}
@@ -28,12 +28,3 @@ module _ {X : Type 0} (f : Recorded → X) where
 
   pub records-end : (rs : List Recorded) (last : ℕ) (old now : List X) → number_after last rs ≡ None → LeavesRecords f rs last old now → now ≡ old ++ map f rs
   records-end rs last old now none left = sym (append-nil now) ∙ ap (λ (es : List Recorded). now ++ map f es) (sym (none-after last rs none)) ∙ left.is
-
-pub count-start : (ps : ProcessTable) → IsProcessTable ps → 0 + length (records_after 0 ps.processes) ≡ length ps.processes
-count-start ps is = let all = ap length (all-after ps.last_process ps.processes is.numbers) in omega arith
-
-pub count-next : (rs : List Recorded) (last pid count : ℕ) → IsNextRecord last pid rs → count + length (records_after last rs) ≡ length rs → count + 1 + length (records_after pid rs) ≡ length rs
-count-next rs last pid count next all = let more = ap length next.first in omega arith
-
-pub count-end : (rs : List Recorded) (last count : ℕ) → number_after last rs ≡ None → count + length (records_after last rs) ≡ length rs → count ≡ length rs
-count-end rs last count none all = let past = ap length (none-after last rs none) in omega arith

@@ -15,63 +15,6 @@ use Rattle.pv_state_encoding.proofs.ProcessNumbers.{process-is}
 pub added_whole : (ns : Numbers) (old new : Bytes) → old ≡ [] → IsAdded ns old new → new ≡ packed_all ns
 added_whole ns old new none added = added.is ∙ ap (λ bs. bs ++ packed_all ns) none
 
--- ---- nodes
-
-module _ (nodes : Numbered Node) where
-  next-at : (node : ℕ) → node < length nodes → drop node nodes ≡ at_number nodes node ∷ drop (node + 1) nodes
-  next-at node inside = drop-at nodes node inside ∙ ap (λ k. at_number nodes node ∷ drop k nodes) (sym (add-one node))
-    where
-      drop-at : (xs : Numbered Node) (i : ℕ) → i < length xs → drop i xs ≡ at_number xs i ∷ drop (suc i) xs
-      drop-at [] i inside = absurd (omega arith)
-      drop-at (x ∷ xs) zero inside = refl
-      drop-at (x ∷ xs) (suc i) inside = drop-at xs i (omega arith)
-
-  -- the parts so far and the rest are all parts
-  pub record LeavesParts (node : ℕ) (group : List Bytes) (part : Bytes) : Type 0 where
-    pub is : group ++ node_parts part (drop node nodes) ≡ node_parts [] nodes
-
-  pub parts-start : (group : List Bytes) (part : Bytes) → group ≡ [] → part ≡ [] → LeavesParts 0 group part
-  parts-start group part none nothing = record { is = ap₂ (λ (g : List Bytes) (p : Bytes). g ++ node_parts p nodes) none nothing }
-
-  pub parts-used : (node : ℕ) (group group_now : List Bytes) (part part_now new : Bytes) → node < length nodes → IsSome (at_number nodes node) → IsAdded (option_numbers node_numbers (at_number nodes node)) part part_now
-      → group_now ≡ group ++ part_now ∷ [] → new ≡ [] → LeavesParts node group part → LeavesParts (node + 1) group_now new
-  parts-used node group group_now part part_now new inside used added pushed nothing so_far = record {
-    is =
-        ap₂ (λ (g : List Bytes) (p : Bytes). g ++ node_parts p (drop (node + 1) nodes)) pushed nothing
-        ∙ append_assoc group (part_now ∷ []) (node_parts [] (drop (node + 1) nodes))
-        ∙ ap (λ (ps : List Bytes). group ++ ps) (one (at_number nodes node) used added ∙ ap (node_parts part) (sym (next-at node inside)))
-        ∙ so_far.is;
-  }
-    where
-      one : (o : Option Node) → IsSome o → IsAdded (option_numbers node_numbers o) part part_now → part_now ∷ node_parts [] (drop (node + 1) nodes) ≡ node_parts part (o ∷ drop (node + 1) nodes)
-      one None used added = cc
-      one (Some x) used added = ap (λ (p : Bytes). p ∷ node_parts [] (drop (node + 1) nodes)) added.is
-
-  pub parts-unused : (node : ℕ) (group : List Bytes) (part part_now : Bytes) → node < length nodes → (IsSome (at_number nodes node) → ⊥) → IsAdded (0 ∷ []) part part_now → LeavesParts node group part
-      → LeavesParts (node + 1) group part_now
-  parts-unused node group part part_now inside unused added so_far = record {
-    is = ap (λ (ps : List Bytes). group ++ ps) (none (at_number nodes node) unused ∙ ap (node_parts part) (sym (next-at node inside))) ∙ so_far.is;
-  }
-    where
-      none : (o : Option Node) → (IsSome o → ⊥) → node_parts part_now (drop (node + 1) nodes) ≡ node_parts part (o ∷ drop (node + 1) nodes)
-      none None unused = ap (λ (p : Bytes). node_parts p (drop (node + 1) nodes)) added.is
-      none (Some x) unused = absurd (unused refl)
-
-  pub parts-end : (node : ℕ) (group group_now : List Bytes) (part : Bytes) → length nodes ≤ node → group_now ≡ group ++ part ∷ [] → LeavesParts node group part → group_now ≡ node_parts [] nodes
-  parts-end node group group_now part past pushed so_far = pushed ∙ ap (λ (ns : Numbered Node). group ++ node_parts part ns) (sym (drop_all node nodes past)) ∙ so_far.is
-
--- ---- the groups of a state, in sequence
-
-pub all-grouped : (s : State) (start one two three all : List (List Bytes)) (counts files nodes : List Bytes) → start ≡ [] → one ≡ start ++ counts ∷ [] → two ≡ one ++ map record_parts s.processes → three ≡ two ++ files ∷ []
-    → all ≡ three ++ nodes ∷ [] → counts ≡ counts_part s.last_process (length s.processes) ∷ [] → files ≡ files_part s.files ∷ tree_part s.tree ∷ [] → nodes ≡ node_parts [] s.tree.nodes → all ≡ state_groups s
-unfolding state_groups
-all-grouped s start one two three all counts files nodes none first second third last counts_is files_is nodes_are =
-    let records : List (List Bytes) = map record_parts s.processes in
-    last ∙ ap (λ (gs : List (List Bytes)). gs ++ nodes ∷ []) (third ∙ ap (λ (gs : List (List Bytes)). gs ++ files ∷ []) (second ∙ ap (λ (gs : List (List Bytes)). gs ++ records) (first ∙ ap (λ (gs : List (List Bytes)). gs ++ counts ∷ []) none)))
-    ∙ append_assoc (counts ∷ records) (files ∷ []) (nodes ∷ [])
-    ∙ ap₂ (λ (a b : List Bytes). a ∷ (records ++ b ∷ nodes ∷ [])) counts_is files_is
-    ∙ ap (λ (g : List Bytes). (counts_part s.last_process (length s.processes) ∷ []) ∷ (records ++ (files_part s.files ∷ tree_part s.tree ∷ []) ∷ g ∷ [])) nodes_are
-
 -- ---- the concatenation is the encoding of the state
 
 abbrev together : List Bytes → Bytes
@@ -105,10 +48,10 @@ records-concatenated_groups : (rs : List (ℕ × ProcessRecord)) → concatenate
 records-concatenated_groups [] = refl
 records-concatenated_groups (r ∷ rs) = ap₂ (λ (a b : Bytes). a ++ b) (record-together r) (records-concatenated_groups rs) ∙ sym (packed-append (record_numbers r) (flat_map record_numbers rs))
 
-regroup : (a b c d e : Bytes) → (a ++ []) ++ (b ++ ((c ++ (d ++ [])) ++ e)) ≡ ((a ++ b) ++ c) ++ (d ++ e)
+regroup : (a b c d e : Bytes) → (a ++ []) ++ (b ++ ((c ++ []) ++ ((d ++ e) ++ []))) ≡ ((a ++ b) ++ c) ++ (d ++ e)
 regroup a b c d e =
-    ap₂ (λ (x y : Bytes). x ++ (b ++ ((c ++ y) ++ e))) (append-nil a) (append-nil d)
-    ∙ ap (λ (x : Bytes). a ++ (b ++ x)) (append_assoc c d e)
+    ap₂ (λ (x y : Bytes). x ++ (b ++ (y ++ ((d ++ e) ++ [])))) (append-nil a) (append-nil c)
+    ∙ ap (λ (x : Bytes). a ++ (b ++ (c ++ x))) (append-nil (d ++ e))
     ∙ sym (append_assoc a b (c ++ (d ++ e)))
     ∙ sym (append_assoc (a ++ b) c (d ++ e))
 
@@ -127,10 +70,13 @@ state-concatenated_groups s =
     let files : Numbers = list_numbers (option_numbers file_numbers) s.files in
     let nodes : Numbers = flat_map (option_numbers node_numbers) s.tree.nodes in
     ap (λ (bs : Bytes). (packed_all counts ++ []) ++ bs)
-    (flat_map-append together (map record_parts s.processes) ((files_part s.files ∷ tree_part s.tree ∷ []) ∷ node_parts [] s.tree.nodes ∷ [])
-    ∙ ap₂ (λ (a b : Bytes). a ++ ((packed_all files ++ (tree_part s.tree ++ [])) ++ b)) (records-concatenated_groups s.processes)
-    (append-nil (together (node_parts [] s.tree.nodes)) ∙ nodes-together [] s.tree.nodes))
+    (flat_map-append together (map record_parts s.processes) ((files_part s.files ∷ []) ∷ (tree_part s.tree ∷ node_parts [] s.tree.nodes) ∷ [])
+    ∙ ap₂ (λ (a b : Bytes). a ++ ((packed_all files ++ []) ++ ((tree_part s.tree ++ b) ++ []))) (records-concatenated_groups s.processes) (nodes-together [] s.tree.nodes))
     ∙ regroup (packed_all counts) (packed_all records) (packed_all files) (tree_part s.tree) (packed_all nodes)
     ∙ ap₂ (λ (a b : Bytes). (a ++ packed_all files) ++ b) (sym (packed-append counts records)) (sym (tree-is s.tree))
     ∙ ap (λ (bs : Bytes). bs ++ packed_all (tree_numbers s.tree)) (sym (packed-append (counts ++ records) files))
     ∙ sym (packed-append ((counts ++ records) ++ files) (tree_numbers s.tree))
+
+-- the concatenation of the parts of a tree is its encoding
+pub tree-concatenated : (t : Tree) → together (tree_part t ∷ node_parts [] t.nodes) ≡ packed_all (tree_numbers t)
+tree-concatenated t = ap (λ (bs : Bytes). tree_part t ++ bs) (nodes-together [] t.nodes) ∙ sym (tree-is t)

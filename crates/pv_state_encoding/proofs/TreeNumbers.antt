@@ -1,65 +1,88 @@
 -- The numbers of a tree: entries one at a time, and each kind of node.
-use Rattle.std.proofs.Common.{◌≡◌, ◌∙◌, sym, ap, subst, ℕ, ◌+◌, ◌<◌, ◌≤◌, true, false, [], ◌∷◌, ◌++◌, length, take, drop, flat_map, append-nil, Option, None, Some, option_map, slice_get, add-one, arith, refl}
-use Rattle.std.proofs.lemmas.Grind.{flat_map-append}
-use Rattle.std.proofs.lemmas.List.{take_all}
+use Rattle.std.proofs.Common.{◌≡◌, ◌↔◌, ◌∙◌, sym, ap, subst, IfSome, IsSome, ℕ, zero, suc, ◌+◌, ◌<◌, ◌≤◌, true, false, [], ◌∷◌, ◌++◌, length, take, drop, drop-cons, flat_map, append_assoc, append-nil, Option, None, Some, option_map, slice_get, add-one, arith, refl}
+use Rattle.std.proofs.lemmas.List.{drop_all, take_all}
+use Rattle.std.proofs.lemmas.Option.{get_or_from_slice_get, slice_get_within}
 use Rattle.std.proofs.Math.Seq.{take-add}
+use Rattle.pv_image_write.specs.Encoding.{name_before, slot_of}
 use Rattle.pv_image_write.specs.OfDirs.Trees.{stored_bytes_of, kind_of_node}
 use Rattle.pv_model.specs.declared.kind.Kind.{Kind}
 use Rattle.pv_model.specs.declared.kind.Kind.TheVariants.{Directory, File, Executable, Symlink}
-use Rattle.pv_model.specs.Machine.{Numbers, bytes_numbers, Bytes, next_name, size_of, Entries, Node, directory_node, file_node, link_node, Tree, node_at, entries_of, entries_at, find_entry, is_directory, is_directory_at, IsWellFormed}
+use Rattle.pv_model.specs.declared.limits.TheConstants.{NAME_V2}
+use Rattle.pv_model.specs.declared.version.Version.{Version}
+use Rattle.pv_model.specs.declared.version.Version.TheVariants.{V1, V2}
+use Rattle.pv_model.specs.Machine.{Numbers, bytes_numbers, Bytes, greatest_name, size_of, Entries, Node, directory_node, file_node, link_node, Tree, node_at, entries_of, entries_at, is_directory, is_directory_at, IsWellFormed}
 use Rattle.pv_model.specs.Answers.Numbers.{name_numbers, node_numbers}
-use Rattle.pv_image_write.proofs.EntryLists.{find-at, get-some, name_before, next-at, size_entries, sorted-at, take-get}
-use Rattle.pv_state_encoding.specs.Packed.{IsAdded}
+use Rattle.pv_image_write.proofs.EntryLists.{IsMet, met, size_entries}
+use Rattle.pv_state_encoding.specs.Packed.{IsAdded, packed_all}
 use Rattle.pv_state_encoding.specs.Parts.{if_there}
-use Rattle.pv_state_encoding.proofs.AppendedNumbers.{added_both, added_none, added_then}
+use Rattle.pv_state_encoding.proofs.AppendedNumbers.{added_both, added_then, packed-append}
 
 -- ---- the entries of a directory
 
--- the first i entries are appended, and this is the name of the last one
-pub record IsEncoded (es : Entries) (i : ℕ) (old now : Bytes) (last : Option Bytes) : Type 0 where
-  pub added : IsAdded (flat_map name_numbers (take i es)) old now
+-- the entries from a number on are left to append, and this is the name of the entry before them
+pub record LeavesEntries (es : Entries) (from i : ℕ) (old now : Bytes) (last : Option Bytes) : Type 0 where
+  pub is : now ++ packed_all (flat_map name_numbers (drop i es)) ≡ old ++ packed_all (flat_map name_numbers (drop from es))
   pub last_name : last ≡ name_before es i
 
-pub encoded-start : (es : Entries) (old : Bytes) → IsEncoded es 0 old old None
-encoded-start es old = record { added = added_none old; last_name = refl }
+pub entries-start : (es : Entries) (from : ℕ) (old : Bytes) (last : Option Bytes) → last ≡ name_before es from → LeavesEntries es from from old old last
+entries-start es from old last is = record { is = refl; last_name = is }
 
-pub encoded-step : (es : Entries) (i : ℕ) (old now new : Bytes) (last : Option Bytes) (e : Bytes × ℕ) → IsEncoded es i old now last → slice_get es i ≡ Some e → IsAdded (name_numbers e) now new
-    → IsEncoded es (i + 1) old new (Some e.0)
-encoded-step es i old now new last e so_far is added =
-    subst (λ k. IsEncoded es k old new (Some e.0)) (sym (add-one i))
+pub entries-step : (es : Entries) (from i : ℕ) (old now new : Bytes) (last : Option Bytes) (e : Bytes × ℕ) → LeavesEntries es from i old now last → slice_get es i ≡ Some e → IsAdded (name_numbers e) now new
+    → LeavesEntries es from (i + 1) old new (Some e.0)
+entries-step es from i old now new last e left is added =
+    let rest : Numbers = flat_map name_numbers (drop (suc i) es) in
+    subst (λ k. LeavesEntries es from k old new (Some e.0)) (sym (add-one i))
     (record {
-      added =
-          subst (λ (ms : Numbers). IsAdded ms old new)
-          (sym (ap (flat_map name_numbers) (take-get es i e is) ∙ flat_map-append name_numbers (take i es) (e ∷ []) ∙ ap (λ ms. flat_map name_numbers (take i es) ++ ms) (append-nil (name_numbers e))))
-          (added_both so_far.added added);
+      is =
+          ap (λ bs. bs ++ packed_all rest) added.is
+          ∙ append_assoc now (packed_all (name_numbers e)) (packed_all rest)
+          ∙ ap (λ bs. now ++ bs) (sym (packed-append (name_numbers e) rest))
+          ∙ ap (λ (ds : Entries). now ++ packed_all (flat_map name_numbers ds)) (sym (drop-get es i e is))
+          ∙ left.is;
       last_name = sym (ap (option_map (λ (h : Bytes × ℕ). h.0)) is);
     })
+  where
+    drop-get : (ds : Entries) (k : ℕ) (d : Bytes × ℕ) → slice_get ds k ≡ Some d → drop k ds ≡ d ∷ drop (suc k) ds
+    drop-get ds k d there = drop-cons ds k d (slice_get_within ds k d there) ∙ ap (λ (x : Bytes × ℕ). x ∷ drop (suc k) ds) (get_or_from_slice_get ds k d d there)
+
+-- the others were appended
+pub entries-rest : (es : Entries) (i : ℕ) (old now new : Bytes) (last : Option Bytes) → LeavesEntries es 0 i old now last → IsAdded (flat_map name_numbers (drop i es)) now new → IsAdded (flat_map name_numbers es) old new
+entries-rest es i old now new last left added = record { is = added.is ∙ left.is }
+
+pub entries-end : (es : Entries) (from i : ℕ) (old now : Bytes) (last : Option Bytes) → LeavesEntries es from i old now last → length es ≤ i → IsAdded (flat_map name_numbers (drop from es)) old now
+entries-end es from i old now last left past = record {
+  is = sym (append-nil now) ∙ ap (λ (ds : Entries). now ++ packed_all (flat_map name_numbers ds)) (sym (drop_all i es past)) ∙ left.is;
+}
 
 module _ (t : Tree) (d : ℕ) (w : IsWellFormed t) where
   -- the next entry in the loop
-  pub record IsMet (i : ℕ) (last : Option Bytes) (e : Bytes × ℕ) : Type 0 where
-    pub there : slice_get (entries_at t d) i ≡ Some e
-    pub next : next_name last (entries_at t d) ≡ Some e.0
-    pub found : find_entry t d e.0 ≡ Some e.1
+  pub next-entry : (from i n : ℕ) (old now : Bytes) (last : Option Bytes) → is_directory_at t d ≡ true → option_map size_of (node_at t d) ≡ Some n → i < n
+      → LeavesEntries (entries_at t d) from i old now last → (e : Bytes × ℕ) × IsMet t d w i last e
+  next-entry from i n old now last is size below left =
+      met t d w t.version i n [] (flat_map (slot_of t.version) (take i (entries_at t d))) last is size below (record { encoded = refl; last_name = left.last_name })
 
-  pub met : (i n : ℕ) (old now : Bytes) (last : Option Bytes) → is_directory_at t d ≡ true → option_map size_of (node_at t d) ≡ Some n → i < n
-      → IsEncoded (entries_at t d) i old now last → (e : Bytes × ℕ) × IsMet i last e
-  met i n old now last is size below so_far =
-      let many = size_entries (node_at t d) n is size in
-      let there = get-some (entries_at t d) i (omega arith) in (
-        there.0,
-        record {
-          there = there.1;
-          next = ap (λ o. next_name o (entries_at t d)) so_far.last_name ∙ next-at (entries_at t d) (sorted-at t d w) i there.0 there.1;
-          found = find-at (entries_at t d) (sorted-at t d w) i there.0 there.1;
-        },
-      )
+  -- a name of the directory is not too long
+  pub last-short : (i n : ℕ) (name : Bytes) → is_directory_at t d ≡ true → option_map size_of (node_at t d) ≡ Some n → name_before (entries_at t d) i ≡ Some name → length name ≤ NAME_V2
+  last-short zero n name is size last = cc
+  last-short (suc i) n name is size last = by (slice_get (entries_at t d) i) refl last
+    where
+      within : (v : Version) (k : ℕ) → k ≤ greatest_name v → k ≤ NAME_V2
+      within V1 k short = omega (arith, short)
+      within V2 k short = short
 
-  pub all-met : (i n : ℕ) (old now : Bytes) (last : Option Bytes) → is_directory_at t d ≡ true → option_map size_of (node_at t d) ≡ Some n → n ≤ i
-      → IsEncoded (entries_at t d) i old now last → IsAdded (flat_map name_numbers (entries_at t d)) old now
-  all-met i n old now last is size all so_far =
-      let many = size_entries (node_at t d) n is size in
-      subst (λ (xs : Entries). IsAdded (flat_map name_numbers xs) old now) (take_all i (entries_at t d) (omega arith)) so_far.added
+      by : (o : Option (Bytes × ℕ)) → slice_get (entries_at t d) i ≡ o → option_map (λ e. e.0) o ≡ Some name → length name ≤ NAME_V2
+      by None there same = cc
+      by (Some e) there same =
+          let many = size_entries (node_at t d) n is size in
+          let below = slice_get_within (entries_at t d) i e there in
+          let next = met t d w t.version i n [] (flat_map (slot_of t.version) (take i (entries_at t d))) (name_before (entries_at t d) i) is size (omega (arith, many, below)) (record { encoded = refl; last_name = refl }) in
+          let name_is : next.0.0 ≡ name = let found : Some next.0 ≡ Some e = sym next.1.there ∙ there in let first : e.0 ≡ name = cc in let both : next.0 ≡ e = cc in ap (λ (x : Bytes × ℕ). x.0) both ∙ first in
+          subst (λ (b : Bytes). length b ≤ NAME_V2) name_is (within t.version (length next.0.0) next.1.short)
+
+-- the name that is made of bytes that are not too long
+pub name-made : (bytes : Bytes) (made : Option Bytes) → IsSome made ↔ (length bytes ≤ NAME_V2) → IfSome made (λ name. name ≡ bytes) → length bytes ≤ NAME_V2 → made ≡ Some bytes
+name-made bytes None fits value short = let no = fits.1 short in cc
+name-made bytes (Some name) fits value short = ap Some value
 
 -- ---- bytes, run by run
 

@@ -1,11 +1,8 @@
 -- A state as groups, and for each live process its outside view, the part on which the steps of other processes depend.
 use Rattle.std.specs.Prelude.{ℕ, false, if◌then◌else◌, ◌==◌, List, [], ◌∷◌, ◌++◌, length, map, Option, None, Some}
-use Rattle.pv_model.specs.Machine.{Numbers, descriptor_numbers, entry_numbers, list_numbers, option_numbers, Bytes, Process, ProcessRecord, live, ended_record, State}
+use Rattle.pv_model.specs.Machine.{Numbers, descriptor_numbers, entry_numbers, list_numbers, option_numbers, Bytes, Process, ProcessRecord, live, ended_record, State, Tree}
 use Rattle.pv_answers.specs.OfProcs.declared.record.ProcessRecord.{ProcessRecord as Owned}
-use Rattle.pv_state_encoding.specs.declared.encoded.EncodedGroup.{EncodedGroup}
-use Rattle.pv_state_encoding.specs.declared.encoded.EncodedGroup.TheVariants.{Plain, Live}
-use Rattle.pv_state_encoding.specs.Groups.{counts_part, ended_parts, files_part, node_parts, parts_of, process_parts, tree_part}
-use Rattle.pv_state_encoding.specs.Packed.{packed_all}
+use Rattle.pv_state_encoding.specs.Groups.{counts_part, ended_parts, files_part, node_parts, process_parts, tree_part}
 
 -- ---- the part of the state on which the steps of other processes depend
 
@@ -55,8 +52,14 @@ encoded_record (pid, ended_record parent status) = plain (ended_parts pid parent
 abbrev pub counts_group : State → List Bytes
 counts_group s = counts_part s.last_process (length s.processes) ∷ []
 
+abbrev pub files_group : State → List Bytes
+files_group s = files_part s.files ∷ []
+
+abbrev pub tree_group : Tree → List Bytes
+tree_group t = tree_part t ∷ node_parts [] t.nodes
+
 abbrev pub tree_groups : State → List (List Bytes)
-tree_groups s = (files_part s.files ∷ tree_part s.tree ∷ []) ∷ node_parts [] s.tree.nodes ∷ []
+tree_groups s = files_group s ∷ tree_group s.tree ∷ []
 
 -- the groups of a state
 unfoldable pub encoded : State → List OwnedGroup
@@ -75,14 +78,6 @@ bare_numbers pid parent directory = pid ∷ 0 ∷ 0 ∷ 0 ∷ parent ∷ directo
 abbrev pub outside_numbers : ℕ → Owned → ℕ → Numbers
 outside_numbers pid r parent = bare_numbers pid parent r.directory ++ list_numbers (option_numbers descriptor_numbers) r.descriptors ++ option_numbers (list_numbers entry_numbers) r.unveiled.table
 
-abbrev pub outside_parts : ℕ → Owned → ℕ → List Bytes
-outside_parts pid r parent = packed_all (outside_numbers pid r parent) ∷ packed_all (0 ∷ []) ∷ packed_all (0 ∷ []) ∷ []
-
--- the outside view of a live process, if there is one
-abbrev pub live_outside : ℕ → Option Process → List Bytes
-live_outside pid None = []
-live_outside pid (Some p) = process_parts pid (outside p)
-
 abbrev pub live_encoded : ℕ → Option Process → OwnedGroup
 live_encoded pid None = plain []
 live_encoded pid (Some p) = encoded_record (pid, live p)
@@ -91,11 +86,3 @@ live_encoded pid (Some p) = encoded_record (pid, live p)
 abbrev pub numbered_encoded : ℕ → Option ProcessRecord → OwnedGroup
 numbered_encoded pid None = plain []
 numbered_encoded pid (Some r) = encoded_record (pid, r)
-
--- the group of the code as a group of the definitions
-abbrev pub encoded_of : EncodedGroup → OwnedGroup
-encoded_of (Plain g) = plain (parts_of g)
-encoded_of (Live pid g o) = record { group = parts_of g; owner = pid; outside = parts_of o }
-
-abbrev pub encoded_all : List EncodedGroup → List OwnedGroup
-encoded_all gs = map encoded_of gs

@@ -1,20 +1,12 @@
 -- A state as groups of parts, each a byte string. A part that many states share is a part of its own. The concatenation
 -- of all parts is the encoding of the state.
 use Rattle.std.specs.Prelude.{ℕ, List, [], ◌∷◌, ◌++◌, length, map, flat_map, Option, None, Some}
-use Rattle.std.specs.Global.{Vec}
 use Rattle.pv_model.specs.Machine.{bytes_numbers, file_numbers, instruction_numbers, list_numbers, number_numbers, option_numbers, Bytes, OpenFile, Process, Program, ProcessRecord as Record, live, ended_record, State, Node, Tree}
 use Rattle.pv_model.specs.Answers.Numbers.{node_numbers, version_numbers}
 use Rattle.pv_answers.specs.OfProcs.Parts.{record_of}
 use Rattle.pv_answers.specs.OfProcs.declared.record.ProcessRecord.{ProcessRecord}
 use Rattle.pv_state_encoding.specs.Packed.{packed_all}
 use Rattle.pv_state_encoding.specs.Parts.{held_numbers}
-
--- the groups of the code as groups of the definitions
-abbrev pub parts_of : Vec (Vec ℕ) → List Bytes
-parts_of group = map (λ p. p.items) group.items
-
-abbrev pub groups_of : List (Vec (Vec ℕ)) → List (List Bytes)
-groups_of groups = map parts_of groups
 
 -- the concatenation of groups
 abbrev pub concatenated_groups : List (List Bytes) → Bytes
@@ -36,16 +28,6 @@ ended_parts pid parent status = packed_all (number_numbers pid ++ 1 ∷ number_n
 abbrev pub record_parts : ℕ × Record → List Bytes
 record_parts (pid, live p) = process_parts pid p
 record_parts (pid, ended_record parent status) = ended_parts pid parent status
-
--- the parts of the process with a number, if it has a record
-abbrev pub numbered_parts : ℕ → Option Record → List Bytes
-numbered_parts pid None = []
-numbered_parts pid (Some r) = record_parts (pid, r)
-
--- the parts of a live process, if there is one
-abbrev pub live_parts : ℕ → Option Process → List Bytes
-live_parts pid None = []
-live_parts pid (Some p) = process_parts pid p
 
 -- ---- the tree
 
@@ -73,4 +55,4 @@ counts_part last count = packed_all (last ∷ count ∷ [])
 unfoldable pub state_groups : State → List (List Bytes)
 state_groups s =
     (counts_part s.last_process (length s.processes) ∷ [])
-    ∷ (map record_parts s.processes ++ (files_part s.files ∷ tree_part s.tree ∷ []) ∷ node_parts [] s.tree.nodes ∷ [])
+    ∷ (map record_parts s.processes ++ (files_part s.files ∷ []) ∷ (tree_part s.tree ∷ node_parts [] s.tree.nodes) ∷ [])

@@ -1,8 +1,7 @@
 //! Open files.
-ghost use Rattle.std.specs.Prelude.{◌≡◌, ◌<◌, ◌++◌, flat_map, IsSome, Some, IfOk, OnOk};
+ghost use Rattle.std.specs.Prelude.{◌≤◌, ◌++◌, flat_map, replicate, IsSome, OnOk};
 ghost use Rattle.pv_model.specs.declared.limits.TheConstants.{OPEN_FILES};
 ghost use Rattle.pv_model.specs.Machine.{bytes_numbers, file_numbers, list_numbers, option_numbers, at_number};
-ghost use Rattle.pv_state_encoding.specs.Groups.{files_part};
 ghost use Rattle.pv_state_encoding.specs.Packed.{IsAdded};
 ghost use Rattle.pv_state_encoding.specs.Parts.{if_there};
 ghost use Rattle.std.specs.Option.{option_copied};
@@ -11,7 +10,7 @@ use crate::numbers::{push_bool, push_bytes, push_mode, push_number};
 use pv_answers::files::OpenFiles;
 use pv_model::Name;
 use pv_model::limits::OPEN_FILES;
-use std::alloc::{AllocError, Global};
+use std::alloc::AllocError;
 
 // Appends an optional name.
 #[tactic(auto, using(crate::proofs::AppendedNumbers::added_then))]
@@ -55,38 +54,39 @@ pub fn push_file(key: &mut Vec<u8>, files: &OpenFiles, file: usize) -> Result<()
     push_opened(key, files, file)
 }
 
+// Appends zeros, at most as many as there are numbers of open files.
+fn push_zeros(key: &mut Vec<u8>, count: usize) -> Result<(), AllocError>
+    requires { count ≤ OPEN_FILES }
+    ensures { OnOk result (IsAdded (replicate count 0) key.old.items key.new.items) }
+{
+    let zeros: [u8; OPEN_FILES] = [0; OPEN_FILES];
+    key.extend_from_slice(&zeros[..count])?;
+    Ok(())
+}
+
 // Appends open files, by their numbers.
 #[tactic(auto, using(crate::proofs::MapNumbers::added_at, crate::proofs::AppendedNumbers::added_none, crate::proofs::AppendedNumbers::added_list))]
 fn push_each_file(key: &mut Vec<u8>, files: &OpenFiles) -> Result<(), AllocError>
     ensures { OnOk result (IsAdded (flat_map (option_numbers file_numbers) files.now.files) key.old.items key.new.items) }
 {
     files.invariant();
-    for file in 0..OPEN_FILES {
+    let bound = files.bound();
+    for file in 0..bound {
         push_file(key, files, file)?;
     }
-    Ok(())
+    push_zeros(key, OPEN_FILES - bound)
 }
 
-// Appends all open files.
+/// Appends all open files.
+///
+/// # Errors
+///
+/// `AllocError`, if there is no memory.
 #[tactic(auto, using(crate::proofs::AppendedNumbers::added_then))]
-fn push_files(key: &mut Vec<u8>, files: &OpenFiles) -> Result<(), AllocError>
+pub fn push_files(key: &mut Vec<u8>, files: &OpenFiles) -> Result<(), AllocError>
     ensures { OnOk result (IsAdded (list_numbers (option_numbers file_numbers) files.now.files) key.old.items key.new.items) }
 {
     files.invariant();
     push_number(key, OPEN_FILES as u64)?;
     push_each_file(key, files)
-}
-
-/// Returns the part of all open files.
-///
-/// # Errors
-///
-/// `AllocError`, if there is no memory.
-#[tactic(auto, using(crate::proofs::StateGroups::added_whole))]
-pub(crate) fn part_of_files(alloc: Global, files: &OpenFiles) -> Result<Vec<u8>, AllocError>
-    ensures { IfOk result (λ part. part.items ≡ files_part files.now.files) }
-{
-    let mut part = Vec::new(alloc);
-    push_files(&mut part, files)?;
-    Ok(part)
 }

@@ -1,19 +1,14 @@
 //! Processes.
-ghost use Rattle.std.specs.Prelude.{◌≡◌, ◌<◌, ◌∷◌, ◌++◌, [], map, flat_map, length, slice_get, IsSome, Some, IfOk, OnOk};
-ghost use Rattle.std.specs.FinMap.Entries.{find};
-ghost use Rattle.std.specs.Ordering.{nat_cmp};
+ghost use Rattle.std.specs.Prelude.{◌≡◌, ◌<◌, ◌∷◌, ◌++◌, flat_map, length, slice_get, OnOk};
 ghost use Rattle.pv_model.specs.declared.limits.TheConstants.{DESCRIPTORS};
-ghost use Rattle.pv_model.specs.Machine.{bytes_numbers, descriptor_numbers, entry_numbers, instruction_numbers, integer_numbers, list_numbers, number_numbers, option_numbers, entries_of_table, at_number};
+ghost use Rattle.pv_model.specs.Machine.{descriptor_numbers, entry_numbers, instruction_numbers, integer_numbers, list_numbers, number_numbers, option_numbers, entries_of_table, at_number};
 ghost use Rattle.pv_model.specs.Answers.Numbers.{target_numbers};
-ghost use Rattle.pv_answers.specs.OfProcs.ProcessTable.{process_in};
 ghost use Rattle.pv_answers.specs.OfPromises.Pledge.{bits_of};
-ghost use Rattle.pv_state_encoding.specs.Groups.{ended_parts, groups_of, live_parts, numbered_parts, owned_parts, parts_of, record_parts};
-ghost use Rattle.pv_state_encoding.specs.Packed.{IsAdded, packed_all};
+ghost use Rattle.pv_state_encoding.specs.Packed.{IsAdded};
 ghost use Rattle.pv_state_encoding.specs.Parts.{if_there, held_numbers, promised_numbers, location_numbers};
 
 use crate::instructions::push_instruction;
 use crate::numbers::{push_bool, push_bytes, push_integer, push_number, push_permissions};
-use crate::parts::{push_group, push_part};
 use bitflags::Flags;
 use pv_answers::files::Descriptors;
 use pv_answers::procs::{ProcessRecord, Processes};
@@ -21,7 +16,7 @@ use pv_answers::script::Program;
 use pv_answers::unveil::Table;
 use pv_model::limits::DESCRIPTORS;
 use pv_model::{Promises, Target};
-use std::alloc::{AllocError, Global};
+use std::alloc::AllocError;
 
 // Appends registers in order.
 fn push_each_register(key: &mut Vec<u8>, registers: &[i32]) -> Result<(), AllocError>
@@ -178,9 +173,13 @@ fn push_each_line(key: &mut Vec<u8>, program: &Program) -> Result<(), AllocError
     Ok(())
 }
 
-// Appends a program.
+/// Appends a program.
+///
+/// # Errors
+///
+/// `AllocError`, if there is no memory.
 #[tactic(auto, using(crate::proofs::AppendedNumbers::added_then))]
-fn push_program(key: &mut Vec<u8>, program: &Program) -> Result<(), AllocError>
+pub fn push_program(key: &mut Vec<u8>, program: &Program) -> Result<(), AllocError>
     ensures { OnOk result (IsAdded (list_numbers instruction_numbers program.now) key.old.items key.new.items) }
 {
     push_number(key, program.len() as u64)?;
@@ -221,9 +220,13 @@ fn push_held(key: &mut Vec<u8>, owned: &ProcessRecord, parent: u32) -> Result<()
     push_table(key, &owned.unveiled)
 }
 
-// Appends a process that has ended.
+/// Appends a process that has ended.
+///
+/// # Errors
+///
+/// `AllocError`, if there is no memory.
 #[tactic(auto, using(crate::proofs::AppendedNumbers::added_then, crate::proofs::AppendedNumbers::added_both))]
-fn push_ended(key: &mut Vec<u8>, pid: u32, parent: u32, status: u32) -> Result<(), AllocError>
+pub fn push_ended(key: &mut Vec<u8>, pid: u32, parent: u32, status: u32) -> Result<(), AllocError>
     ensures { OnOk result (IsAdded (number_numbers pid ++ 1 ∷ number_numbers parent ++ number_numbers status) key.old.items key.new.items) }
 {
     push_number(key, u64::from(pid))?;
@@ -232,157 +235,28 @@ fn push_ended(key: &mut Vec<u8>, pid: u32, parent: u32, status: u32) -> Result<(
     push_number(key, u64::from(status))
 }
 
-// ---- groups
-
-// Returns the part of a live process that has neither its program nor its buffer.
-#[tactic(auto, using(crate::proofs::AppendedNumbers::added_then, crate::proofs::StateGroups::added_whole))]
-fn part_held(
-    alloc: Global,
-    pid: u32,
-    owned: &ProcessRecord,
-    parent: u32,
-) -> Result<Vec<u8>, AllocError>
-    ensures { IfOk result (λ part. part.items ≡ packed_all (pid ∷ 0 ∷ held_numbers owned.now parent)) }
-{
-    let mut part = Vec::new(alloc);
-    push_number(&mut part, u64::from(pid))?;
-    push_number(&mut part, 0)?;
-    push_held(&mut part, owned, parent)?;
-    Ok(part)
-}
-
-/// Returns the part of a program.
+/// Appends a live process without its program and its buffer.
 ///
 /// # Errors
 ///
 /// `AllocError`, if there is no memory.
-#[tactic(auto, using(crate::proofs::StateGroups::added_whole))]
-pub fn part_of_program(alloc: Global, program: &Program) -> Result<Vec<u8>, AllocError>
-    ensures { IfOk result (λ part. part.items ≡ packed_all (list_numbers instruction_numbers program.now)) }
-{
-    let mut part = Vec::new(alloc);
-    push_program(&mut part, program)?;
-    Ok(part)
-}
-
-// Returns the part of a buffer.
-#[tactic(auto, using(crate::proofs::StateGroups::added_whole))]
-fn part_of_buffer(alloc: Global, buffer: &[u8]) -> Result<Vec<u8>, AllocError>
-    ensures { IfOk result (λ part. part.items ≡ packed_all (bytes_numbers buffer.now)) }
-{
-    let mut part = Vec::new(alloc);
-    push_bytes(&mut part, buffer)?;
-    Ok(part)
-}
-
-// Returns the group of a live process, given its record and its parent.
-fn group_owned(
-    alloc: Global,
+#[tactic(auto, using(crate::proofs::AppendedNumbers::added_then))]
+pub fn push_live(
+    key: &mut Vec<u8>,
     pid: u32,
     owned: &ProcessRecord,
     parent: u32,
-    program: &Program,
-) -> Result<Vec<Vec<u8>>, AllocError>
-    ensures { IfOk result (λ group. parts_of group ≡ owned_parts pid owned.now parent program.now owned.now.context.buffer) }
+) -> Result<(), AllocError>
+    ensures { OnOk result (IsAdded (pid ∷ 0 ∷ held_numbers owned.now parent) key.old.items key.new.items) }
 {
-    let mut group = Vec::new(alloc);
-    push_part(&mut group, part_held(alloc, pid, owned, parent)?)?;
-    push_part(&mut group, part_of_program(alloc, program)?)?;
-    push_part(&mut group, part_of_buffer(alloc, owned.context.buffer())?)?;
-    Ok(group)
-}
-
-// Returns the group of a live process.
-pub(crate) fn group_live(
-    alloc: Global,
-    processes: &Processes,
-    pid: u32,
-) -> Result<Vec<Vec<u8>>, AllocError>
-    requires { IsSome (process_in processes.now pid) }
-    ensures { IfOk result (λ group. parts_of group ≡ live_parts pid (process_in processes.now pid)) }
-{
-    let Some(parent) = processes.parent_of(pid) else {
-        unreachable!()
-    };
-    group_owned(
-        alloc,
-        pid,
-        processes.record(pid),
-        parent,
-        processes.program(pid),
-    )
-}
-
-/// Returns the group of a process that has ended.
-///
-/// # Errors
-///
-/// `AllocError`, if there is no memory.
-#[tactic(auto, using(crate::proofs::StateGroups::added_whole))]
-pub fn group_ended(
-    alloc: Global,
-    pid: u32,
-    parent: u32,
-    status: u32,
-) -> Result<Vec<Vec<u8>>, AllocError>
-    ensures { IfOk result (λ group. parts_of group ≡ ended_parts pid parent status) }
-{
-    let mut part = Vec::new(alloc);
-    push_ended(&mut part, pid, parent, status)?;
-    let mut group = Vec::new(alloc);
-    push_part(&mut group, part)?;
-    Ok(group)
-}
-
-// Returns the group of a process. It is empty if there is no such process.
-#[tactic(auto, using(crate::proofs::ProcessNumbers::group_of_live, crate::proofs::ProcessNumbers::group_of_ended, crate::proofs::ProcessNumbers::group_of_nobody))]
-pub(crate) fn group_of_process(
-    alloc: Global,
-    processes: &Processes,
-    pid: u32,
-) -> Result<Vec<Vec<u8>>, AllocError>
-    ensures { IfOk result (λ group. parts_of group ≡ numbered_parts pid (find nat_cmp pid processes.now.processes)) }
-{
-    if processes.live(pid) {
-        return group_live(alloc, processes, pid);
-    }
-    match processes.ended(pid) {
-        Some((parent, status)) => group_ended(alloc, pid, parent, status),
-        None => Ok(Vec::new(alloc)),
-    }
+    push_number(key, u64::from(pid))?;
+    push_number(key, 0)?;
+    push_held(key, owned, parent)
 }
 
 /// Returns the number of processes, including those that have ended and are not yet waited for.
 pub fn count(processes: &Processes) -> u64
     ensures { result ≡ length processes.now.processes }
 {
-    processes.invariant();
-    let mut count = 0;
-    let mut last = 0;
-    while let Some(pid) = processes.next_number(last) {
-        count += 1;
-        last = pid;
-    }
-    count
-}
-
-/// Appends the groups of all processes, by process number.
-///
-/// # Errors
-///
-/// `AllocError`, if there is no memory.
-pub(crate) fn push_process_groups(
-    alloc: Global,
-    groups: &mut Vec<Vec<Vec<u8>>>,
-    processes: &Processes,
-) -> Result<(), AllocError>
-    ensures { OnOk result (groups_of groups.new.items ≡ groups_of groups.old.items ++ map record_parts processes.now.processes) }
-{
-    processes.invariant();
-    let mut last = 0;
-    while let Some(pid) = processes.next_number(last) {
-        push_group(groups, group_of_process(alloc, processes, pid)?)?;
-        last = pid;
-    }
-    Ok(())
+    processes.count() as u64
 }

@@ -1,17 +1,20 @@
 //! Trees.
-ghost use Rattle.std.specs.Prelude.{◌≡◌, ◌∷◌, ◌++◌, [], false, flat_map, length, option_map, IsSome, IsTrue, IfSome, IfOk, Some, OnOk};
+ghost use Rattle.std.specs.Option.{option_copied};
+ghost use Rattle.std.specs.Prelude.{◌≡◌, ◌∷◌, ◌++◌, [], false, drop, flat_map, length, option_map, IsSome, IsTrue, IfSome, Some, OnOk};
+ghost use Rattle.pv_image_write.specs.Encoding.{name_before};
 ghost use Rattle.pv_image_write.specs.OfDirs.Trees.{node_bytes_at};
-ghost use Rattle.pv_model.specs.Machine.{bytes_numbers, list_numbers, number_numbers, option_numbers, tree_numbers, next_name, node_at, entries_at, find_entry, is_directory_at};
+ghost use Rattle.pv_model.specs.Machine.{bytes_numbers, number_numbers, option_numbers, next_name, node_at, entries_at, find_entry, is_directory_at};
 ghost use Rattle.pv_model.specs.Answers.Numbers.{name_numbers, node_numbers, version_numbers};
-ghost use Rattle.pv_state_encoding.specs.Groups.{node_parts, parts_of, tree_part};
 ghost use Rattle.pv_state_encoding.specs.Packed.{IsAdded};
 ghost use Rattle.pv_state_encoding.specs.Parts.{if_there};
 
 use crate::numbers::{push_bool, push_bytes, push_items, push_number};
-use crate::parts::push_part;
 use pv_image_write::tree::Tree;
 use pv_model::{Kind, Name, Version};
-use std::alloc::{AllocError, Global};
+use std::alloc::AllocError;
+
+// The number of entries up to which each name is found by comparing all.
+const FEW: u32 = 32;
 
 // Returns the name of a directory that follows the last one, with its node. `before` is a guess of the number of names
 // before it.
@@ -28,25 +31,57 @@ fn next(tree: &Tree, directory: u16, last: &Option<Name>, before: u32) -> Option
 
 // Appends a name with its node.
 #[tactic(auto, using(crate::proofs::AppendedNumbers::added_both))]
-fn push_entry(key: &mut Vec<u8>, name: &Name, node: u16) -> Result<(), AllocError>
+fn push_entry(key: &mut Vec<u8>, name: &[u8], node: u16) -> Result<(), AllocError>
     ensures { OnOk result (IsAdded (name_numbers (name.now, node)) key.old.items key.new.items) }
 {
-    push_bytes(key, name.as_slice())?;
+    push_bytes(key, name)?;
     push_number(key, u64::from(node))
 }
 
-// Appends the entries of a directory, in the order of their names.
+// Appends the entries of a directory from a number on, in the order of their names. `last` is the name before them, if
+// there is one.
+fn push_entries_from(
+    key: &mut Vec<u8>,
+    tree: &Tree,
+    directory: u16,
+    from: u32,
+    last: Option<&[u8]>,
+) -> Result<(), AllocError>
+    requires directory { IsTrue (is_directory_at tree.now.tree directory) }
+    requires last { option_copied last ≡ name_before (entries_at tree.now.tree directory) from }
+    ensures { OnOk result (IsAdded (flat_map name_numbers (drop from (entries_at tree.now.tree directory))) key.old.items key.new.items) }
+{
+    tree.invariant();
+    let mut last = match last {
+        Some(name) => Name::new(name),
+        None => None,
+    };
+    for entry in from..tree.size(directory) {
+        let Some((name, node)) = next(tree, directory, &last, entry) else {
+            unreachable!()
+        };
+        push_entry(key, name.as_slice(), node)?;
+        last = Some(name);
+    }
+    Ok(())
+}
+
+// Appends the entries of a directory, in the order of their names. In a small directory, names are read in place.
 fn push_each_entry(key: &mut Vec<u8>, tree: &Tree, directory: u16) -> Result<(), AllocError>
     requires { IsTrue (is_directory_at tree.now.tree directory) }
     ensures { OnOk result (IsAdded (flat_map name_numbers (entries_at tree.now.tree directory)) key.old.items key.new.items) }
 {
     tree.invariant();
-    let mut last: Option<Name> = None;
-    for entry in 0..tree.size(directory) {
-        let Some((name, node)) = next(tree, directory, &last, entry) else {
-            unreachable!()
+    let size = tree.size(directory);
+    if size > FEW {
+        return push_entries_from(key, tree, directory, 0, None);
+    }
+    let mut last: Option<&[u8]> = None;
+    for entry in 0..size {
+        let Some((name, node)) = tree.lent_after(directory, last) else {
+            return push_entries_from(key, tree, directory, entry, last);
         };
-        push_entry(key, &name, node)?;
+        push_entry(key, name, node)?;
         last = Some(name);
     }
     Ok(())
@@ -108,35 +143,18 @@ fn push_node(key: &mut Vec<u8>, tree: &Tree, node: u16) -> Result<(), AllocError
     }
 }
 
-// Appends the node of a number that is in use.
+/// Appends the node of a number that is in use.
+///
+/// # Errors
+///
+/// `AllocError`, if there is no memory.
 #[tactic(auto, using(crate::proofs::MapNumbers::added_there))]
-fn push_used(key: &mut Vec<u8>, tree: &Tree, node: u16) -> Result<(), AllocError>
+pub fn push_used(key: &mut Vec<u8>, tree: &Tree, node: u16) -> Result<(), AllocError>
     requires { IsSome (node_at tree.now.tree node) }
     ensures { OnOk result (IsAdded (option_numbers node_numbers (node_at tree.now.tree node)) key.old.items key.new.items) }
 {
     push_number(key, 1)?;
     push_node(key, tree, node)
-}
-
-// Appends the node of a number, if there is one.
-fn push_numbered(key: &mut Vec<u8>, tree: &Tree, node: u16) -> Result<(), AllocError>
-    ensures { OnOk result (IsAdded (option_numbers node_numbers (node_at tree.now.tree node)) key.old.items key.new.items) }
-{
-    if !tree.is_used(node) {
-        return push_number(key, 0);
-    }
-    push_used(key, tree, node)
-}
-
-// Appends nodes, by their numbers.
-fn push_each_node(key: &mut Vec<u8>, tree: &Tree) -> Result<(), AllocError>
-    ensures { OnOk result (IsAdded (flat_map (option_numbers node_numbers) tree.now.tree.nodes) key.old.items key.new.items) }
-{
-    let sizes = tree.sizes();
-    for node in 0..sizes.inodes + 1 {
-        push_numbered(key, tree, node)?;
-    }
-    Ok(())
 }
 
 // Appends the version of an image.
@@ -149,9 +167,13 @@ fn push_version(key: &mut Vec<u8>, version: Version) -> Result<(), AllocError>
     }
 }
 
-// Appends the sizes of a tree: all of the tree except its nodes.
+/// Appends the sizes of a tree: all of the tree except its nodes.
+///
+/// # Errors
+///
+/// `AllocError`, if there is no memory.
 #[tactic(auto, using(crate::proofs::AppendedNumbers::added_then, crate::proofs::AppendedNumbers::added_both))]
-fn push_sizes(key: &mut Vec<u8>, tree: &Tree) -> Result<(), AllocError>
+pub fn push_sizes(key: &mut Vec<u8>, tree: &Tree) -> Result<(), AllocError>
     ensures { OnOk result (IsAdded (version_numbers tree.now.tree.version ++ number_numbers tree.now.tree.blocks ++ number_numbers tree.now.tree.inodes ++ length tree.now.tree.nodes ∷ []) key.old.items key.new.items) }
 {
     let sizes = tree.sizes();
@@ -159,57 +181,4 @@ fn push_sizes(key: &mut Vec<u8>, tree: &Tree) -> Result<(), AllocError>
     push_number(key, u64::from(sizes.blocks))?;
     push_number(key, u64::from(sizes.inodes))?;
     push_number(key, u64::from(sizes.inodes) + 1)
-}
-
-/// Appends a tree.
-///
-/// # Errors
-///
-/// As for `push_number`.
-#[tactic(auto, using(crate::proofs::AppendedNumbers::added_then, crate::proofs::AppendedNumbers::added_both), unfolding(pv_model::specs::Answers::Numbers::tree_numbers))]
-pub fn push_tree(key: &mut Vec<u8>, tree: &Tree) -> Result<(), AllocError>
-    ensures { OnOk result (IsAdded (tree_numbers tree.now.tree) key.old.items key.new.items) }
-{
-    push_sizes(key, tree)?;
-    push_each_node(key, tree)
-}
-
-// ---- parts
-
-/// Returns the part of a tree's sizes.
-///
-/// # Errors
-///
-/// `AllocError`, if there is no memory.
-#[tactic(auto, using(crate::proofs::StateGroups::added_whole))]
-pub fn part_of_sizes(alloc: Global, tree: &Tree) -> Result<Vec<u8>, AllocError>
-    ensures { IfOk result (λ part. part.items ≡ tree_part tree.now.tree) }
-{
-    let mut part = Vec::new(alloc);
-    push_sizes(&mut part, tree)?;
-    Ok(part)
-}
-
-/// Returns the group of a tree's nodes. A part ends with a node in use, and the last part with the last node.
-///
-/// # Errors
-///
-/// `AllocError`, if there is no memory.
-pub fn group_of_nodes(alloc: Global, tree: &Tree) -> Result<Vec<Vec<u8>>, AllocError>
-    ensures { IfOk result (λ group. parts_of group ≡ node_parts [] tree.now.tree.nodes) }
-{
-    let sizes = tree.sizes();
-    let mut group = Vec::new(alloc);
-    let mut part = Vec::new(alloc);
-    for node in 0..sizes.inodes + 1 {
-        if tree.is_used(node) {
-            push_used(&mut part, tree, node)?;
-            push_part(&mut group, part)?;
-            part = Vec::new(alloc);
-        } else {
-            push_number(&mut part, 0)?;
-        }
-    }
-    push_part(&mut group, part)?;
-    Ok(group)
 }

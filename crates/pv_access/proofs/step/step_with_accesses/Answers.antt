@@ -1,7 +1,7 @@
 use Rattle.std.proofs.Common.{◌∙◌, ap, sym}
 use Rattle.pv_reduced.specs.OfSession.Running.{stepped}
 use Rattle.pv_named_files.specs.FirstPaths.{files_given, first_tree}
-use Rattle.pv_named_files.specs.OfStepCache.Steps.{texts_in}
+use Rattle.pv_named_files.specs.OfRows.Texts.{texts_in}
 use Rattle.pv_access.proofs.PreparedTexts.{no-texts}
 use Rattle.pv_access.proofs.step.step_with_accesses.Goals as goal
 

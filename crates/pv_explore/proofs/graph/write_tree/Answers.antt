@@ -1,8 +1,8 @@
 use Rattle.std.proofs.Common.{◌≡◌, ◌∙◌, [], true, ap, arith, refl}
 use Rattle.pv_streams.proofs.WriterContracts.{or_ok, writes_as, writes_both, writes_longer}
 use Rattle.pv_streams.proofs.StoppedWriters.{no_memory, unwritten}
+use Rattle.pv_engine.proofs.Booting.{gathered}
 use Rattle.pv_explore.specs.Vertices.{listed_bytes}
-use Rattle.pv_explore.proofs.RebuiltMachines.{gathered}
 use Rattle.pv_explore.proofs.GraphLines.{tree-reported}
 use Rattle.pv_model.specs.Machine.{lines_of, listing}
 use Rattle.pv_explore.proofs.graph.write_tree.Goals as goal

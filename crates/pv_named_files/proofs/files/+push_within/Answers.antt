@@ -1,7 +1,7 @@
 use Rattle.std.proofs.Common.{ℕ, ◌-◌, List, [], ◌∷◌, ◌++◌, ◌∙◌, append_assoc, append-nil, length, Option, None, Some, ap, refl, sym, arith}
-use Rattle.pv_step_cache.proofs.OfAnswers.ListedLines.{next-is, upcoming}
-use Rattle.pv_step_cache.proofs.OfListing.DirectoryNames.{past-none}
-use Rattle.pv_step_cache.proofs.OfListing.EntryLines.{no-entries}
+use Rattle.pv_rows.proofs.OfAnswers.ListedLines.{next-is, upcoming}
+use Rattle.pv_rows.proofs.OfListing.DirectoryNames.{past-none}
+use Rattle.pv_rows.proofs.OfListing.EntryLines.{no-entries}
 use Rattle.pv_model.specs.Machine.{Bytes, next_name, Entries, entries_at}
 use Rattle.pv_named_files.specs.Listed.{nodes_within}
 use Rattle.pv_named_files.proofs.ListedFiles.{nodes-are, nodes_under}

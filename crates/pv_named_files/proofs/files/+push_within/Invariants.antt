@@ -1,5 +1,5 @@
 use Rattle.std.proofs.Common.{◌≡◌, ◌-◌, ◌++◌, length}
-use Rattle.pv_step_cache.proofs.OfAnswers.ListedLines.{upcoming}
+use Rattle.pv_rows.proofs.OfAnswers.ListedLines.{upcoming}
 use Rattle.pv_model.specs.Machine.{entries_at}
 use Rattle.pv_named_files.specs.Listed.{nodes_within}
 use Rattle.pv_named_files.proofs.ListedFiles.{nodes_under}

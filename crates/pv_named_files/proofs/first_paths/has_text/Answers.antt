@@ -3,7 +3,7 @@ use Rattle.std.specs.Global.{Vec}
 use Rattle.std.proofs.lemmas.List.{drop_all, drop_more}
 use Rattle.pv_model_questions.specs.AboutFiles.{is_given_path}
 use Rattle.pv_named_files.proofs.first_paths.has_text.Goals as goal
-use Rattle.pv_step_cache.specs.Steps.{texts_in}
+use Rattle.pv_rows.specs.Texts.{texts_in}
 
 pub returns-then-eq : goal.returns-then-eq
 returns-then-eq c =

@@ -2,7 +2,7 @@ use Rattle.std.proofs.Common.{◌≡◌, ◌∙◌, ◌<◌, Option, Some, lengt
 use Rattle.pv_model.specs.Machine.{Bytes, names_of}
 use Rattle.pv_model.specs.Answers.Nodes.{name_words}
 use Rattle.pv_model_questions.specs.AboutFiles.{is_given_path}
-use Rattle.pv_step_cache.specs.OfStateEncoding.OfCallsState.OfTree.NodeNames.{names_after, names_from}
+use Rattle.pv_rows.specs.OfStateEncoding.OfCallsState.OfTree.NodeNames.{names_after, names_from}
 use Rattle.pv_named_files.specs.FirstPaths.{files_given}
 use Rattle.pv_named_files.proofs.GivenFiles.{AreLeft, Named, left-first, left-more}
 use Rattle.pv_named_files.proofs.first_paths.FirstPaths.is_any_given.Goals as goal

@@ -1,6 +1,6 @@
 use Rattle.std.proofs.Common.{length}
 use Rattle.pv_model.specs.Machine.{names_of}
-use Rattle.pv_step_cache.specs.OfStateEncoding.OfCallsState.OfTree.NodeNames.{names_from}
+use Rattle.pv_rows.specs.OfStateEncoding.OfCallsState.OfTree.NodeNames.{names_from}
 use Rattle.pv_named_files.specs.FirstPaths.{files_given}
 use Rattle.pv_named_files.proofs.GivenFiles.{AreLeft}
 use Rattle.pv_named_files.proofs.first_paths.FirstPaths.is_any_given.Given as goal

@@ -1,5 +1,0 @@
-use Rattle.pv_explore.proofs.ScheduleStates.{state-next}
-use Rattle.pv_explore.proofs.position.Position.replay.Goals as goal
-
-pub loop-pid-preserved : goal.loop-pid-preserved
-loop-pid-preserved c = state-next c.args.self.now c.args.schedule.now c.loop-pid.pid-index c.loop-pid.self _ c.loop-pid-test.true c.loop-pid.invariant c.in_ok-step.ensures

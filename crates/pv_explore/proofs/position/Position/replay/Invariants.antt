@@ -1,7 +1,0 @@
-use Rattle.std.proofs.Common.{◌≡◌, take}
-use Rattle.pv_explore.specs.Plan.{state_at}
-use Rattle.pv_model.specs.Machine.{program_of}
-use Rattle.pv_explore.proofs.position.Position.replay.Given as goal
-
-abbrev pub invariant-loop-pid : goal.invariant-loop-pid
-invariant-loop-pid l = l.self ≡ state_at program_of l.fn.self (take l.pid-index l.schedule)

@@ -1,7 +1,0 @@
-use Rattle.std.proofs.Common.{ℕ}
-use Rattle.pv_step_cache.specs.declared.tables.Key.{Key}
-use Rattle.pv_step_cache.proofs.KeyLists.{there-among}
-use Rattle.pv_step_cache.proofs.tables.Keys.contains.Goals as goal
-
-pub returns : goal.returns
-returns c = there-among (λ (k : Key). k.bytes.items) c.args.key.now c.self.inside.set.keys c.args.self.now c.contains.result c.contains.ensures c.self.view_is

@@ -1,7 +1,0 @@
-use Rattle.std.proofs.Common.{ℕ}
-use Rattle.pv_step_cache.specs.declared.tables.Key.{Key}
-use Rattle.pv_step_cache.proofs.KeyLists.{found-among}
-use Rattle.pv_step_cache.proofs.tables.Keys.find.Goals as goal
-
-pub returns : goal.returns
-returns c = found-among (λ (k : Key). k.bytes.items) c.args.key.now c.self.inside.set.keys c.args.self.now c.get_index_of.result c.get_index_of.ensures.index c.self.view_is

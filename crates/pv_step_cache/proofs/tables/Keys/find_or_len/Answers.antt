@@ -1,6 +1,0 @@
-use Rattle.std.proofs.Common.{bytes_eq}
-use Rattle.pv_step_cache.proofs.KeyLists.{number-none}
-use Rattle.pv_step_cache.proofs.tables.Keys.find_or_len.Goals as goal
-
-pub returns-in-None : goal.returns-in-None
-returns-in-None c = number-none (bytes_eq c.args.key.now) c.args.self.now c.len.result c.in-None.ensures c.len.ensures
